@@ -9,11 +9,12 @@ use Rattle.mk_index.specs.Chains.{Mention, AreChainsOf, AreMentioned, Stored}
 use Rattle.mk_index.specs.Keys.{hashes_of}
 use Rattle.mk_index.specs.declared.blocks.Block.{Block}
 use Rattle.mk_index.specs.declared.blocks.Group.{Group}
+use Rattle.mk_index.specs.declared.keys.Scope.{Scope}
 
--- the keys of some lines are mentioned, with the block of this number
-abbrev pub AreLinesMentioned : List Mention → (block : ℕ) → List LocatedLine → Type 0
-AreLinesMentioned ms n [] = Unit {0}
-AreLinesMentioned ms n (l ∷ ls) = AreMentioned ms n (hashes_of l) × AreLinesMentioned ms n ls
+-- the keys of some lines that an index lists are mentioned, with the block of this number
+abbrev pub AreLinesMentioned : Scope → List Mention → (block : ℕ) → List LocatedLine → Type 0
+AreLinesMentioned s ms n [] = Unit {0}
+AreLinesMentioned s ms n (l ∷ ls) = AreMentioned ms n (hashes_of s l) × AreLinesMentioned s ms n ls
 
 -- a context is the one that is expected, if one is
 abbrev pub IsExpected : Option Context → Context → Type 0
@@ -29,25 +30,26 @@ expected_after b ls = if b.is_stale then None else Some (context_after_located_l
 -- expected. The keys of its first and of its last lines are mentioned, as many as the block says; if it
 -- is not stale, these are all its lines. `next` says what holds of the lines after the block, and of
 -- the context that is expected there.
-pub record IsBlock (mentions : List Mention) (number : ℕ) (expected : Option Context)
-    (ls : List LocatedLine) (b : Block) (next : Option Context → List LocatedLine → Type 0)
+pub record IsBlock (scope : Scope) (mentions : List Mention) (number : ℕ)
+    (expected : Option Context) (ls : List LocatedLine) (b : Block) (next : Option Context → List LocatedLine → Type 0)
     : Type 0 where
   pub inside : List LocatedLine
   pub after : List LocatedLine
   pub lines_are : ls ≡ inside ++ after
   pub count_is : b.count ≡ length inside
   pub context_is : IsExpected expected b.context
-  pub front_is : AreLinesMentioned mentions number (take b.front inside)
-  pub back_is : AreLinesMentioned mentions number (drop (length inside - b.back) inside)
+  pub front_is : AreLinesMentioned scope mentions number (take b.front inside)
+  pub back_is : AreLinesMentioned scope mentions number (drop (length inside - b.back) inside)
   pub whole : b.is_stale ≡ false → b.count ≤ b.front + b.back
   pub next_is : next (expected_after b inside) after
 
 -- The blocks of some lines, with the context after the last line. The first block has this number,
 -- and this context is expected before it.
-abbrev pub AreBlocks : List Mention → (number : ℕ) → (expected : Option Context) → List LocatedLine
-    → List Block → (end : Context) → Type 0
-AreBlocks ms n o ls [] end = (ls ≡ []) × IsExpected o end
-AreBlocks ms n o ls (b ∷ bs) end = IsBlock ms n o ls b (λ p after. AreBlocks ms (n + 1) p after bs end)
+abbrev pub AreBlocks : Scope → List Mention → (number : ℕ) → (expected : Option Context)
+    → List LocatedLine → List Block → (end : Context) → Type 0
+AreBlocks s ms n o ls [] end = (ls ≡ []) × IsExpected o end
+AreBlocks s ms n o ls (b ∷ bs) end =
+    IsBlock s ms n o ls b (λ p after. AreBlocks s ms (n + 1) p after bs end)
 
 -- The context before a block is this one: it is carried there from the block above; or none is
 -- carried, since it is the one that is expected.
@@ -57,17 +59,18 @@ IsCarried (Some d) o c = d ≡ c
 
 -- Chains that had some mentions, and got more: the keys of some lines are mentioned now, with this
 -- block.
-pub record HaveListedLines (ls : List LocatedLine) (block : ℕ) (before : List Mention)
+pub record HaveListedLines (scope : Scope) (ls : List LocatedLine) (block : ℕ) (before : List Mention)
     (chains : Stored)
     : Type 0 where
   pub added : List Mention
   pub chains_are : AreChainsOf (added ++ before) chains
-  pub mentioned : AreLinesMentioned (added ++ before) block ls
+  pub mentioned : AreLinesMentioned scope (added ++ before) block ls
 
 -- a test that passes no line whose keys are mentioned with a block that has no mark
-abbrev pub PassesInMarked : (test : LocatedLine → Bool) → List Mention → (marks : List Bool) → Type 0
-PassesInMarked p ms marks = (n : ℕ) (ls : List LocatedLine) → n < length marks
-    → get_or marks n false ≡ false → AreEachClassed ls → AreLinesMentioned ms n ls
+abbrev pub PassesInMarked : Scope → (test : LocatedLine → Bool) → List Mention → (marks : List Bool)
+    → Type 0
+PassesInMarked s p ms marks = (n : ℕ) (ls : List LocatedLine) → n < length marks
+    → get_or marks n false ≡ false → AreEachClassed ls → AreLinesMentioned s ms n ls
     → NonePasses p ls
 
 -- a block of some lines, of which no key is listed

@@ -9,9 +9,12 @@ use Rattle.mk_index.specs.Chains as chains
 use Rattle.mk_index.specs.Chains.{AreChainsOf, IsMentioned, Mention}
 use Rattle.mk_index.specs.Keys.{IsOneOf, hashes_of}
 use Rattle.mk_index.specs.declared.blocks.Block.{Block}
+use Rattle.mk_index.specs.declared.keys.Scope.{Scope}
 
--- what an index stores: chains of mentions, the blocks, and the context after the last line
+-- what an index stores: which words it lists, chains of mentions, the blocks, and the context after the
+-- last line
 pub record Stored : Type 0 where
+  pub scope : Scope
   pub chains : chains.Stored
   pub blocks : List Block
   pub end : Context
@@ -20,7 +23,7 @@ pub record Stored : Type 0 where
 pub record IsIndexOf (ls : List LocatedLine) (index : Stored) : Type 0 where
   pub mentions : List Mention
   pub chains_are : AreChainsOf mentions index.chains
-  pub blocks_are : AreBlocks mentions 0 (Some start) ls index.blocks index.end
+  pub blocks_are : AreBlocks index.scope mentions 0 (Some start) ls index.blocks index.end
 
 -- an index of some lines in which no block is stale
 pub record IsFreshIndexOf (ls : List LocatedLine) (index : Stored) : Type 0 where
@@ -28,8 +31,9 @@ pub record IsFreshIndexOf (ls : List LocatedLine) (index : Stored) : Type 0 wher
   pub fresh : AreFresh index.blocks
 
 -- a test that passes only lines which have a key of one of these hashes
-abbrev pub PassesByKeys : (test : LocatedLine → Bool) → (hashes : List ℕ) → Type 0
-PassesByKeys p hs = (l : LocatedLine) → IsClassed l → ((h : ℕ) → IsOneOf h hs → IsOneOf h (hashes_of l) → ⊥) → p l ≡ false
+abbrev pub PassesByKeys : Scope → (test : LocatedLine → Bool) → (hashes : List ℕ) → Type 0
+PassesByKeys s p hs = (l : LocatedLine) → IsClassed l
+    → ((h : ℕ) → IsOneOf h hs → IsOneOf h (hashes_of s l) → ⊥) → p l ≡ false
 
 -- each block with which one of some hashes is mentioned is marked
 abbrev pub AreMarked : chains.Stored → (hashes : List ℕ) → (marks : List Bool) → Type 0

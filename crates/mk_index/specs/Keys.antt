@@ -11,29 +11,32 @@ use Rattle.mk_edit_parts.specs.LocatedParts.{is_unread_located}
 use Rattle.mk_edit_parts.specs.RenamedRanges.{word_parts}
 use Rattle.mk_edit_parts.specs.declared.word_parts.WordParts.{WordParts}
 use Rattle.mk_index.specs.Chains.{hash_of}
+use Rattle.mk_index.specs.declared.keys.Scope.{Scope}
+use Rattle.mk_index.specs.declared.keys.Scope.TheVariants.{Names, Words}
 
--- the words of some parts of a text
-abbrev pub words_of_parts : (text : List ℕ) → WordParts → List (List ℕ)
-words_of_parts t p =
+-- the words of some parts of a text that an index lists: the targets, or prerequisites too
+abbrev pub words_of_parts : Scope → (text : List ℕ) → WordParts → List (List ℕ)
+words_of_parts Names t p = words_in (text_at t p.targets)
+words_of_parts Words t p =
     words_in (text_at t p.targets) ++ (words_in (text_at t p.normal) ++ words_in (text_at t p.order_only))
 
--- the words of a line of this joined text and class: the name that it assigns; or its targets and
--- prerequisites
-abbrev pub keys_in : (text : List ℕ) → class.Class → List (List ℕ)
-keys_in t (variants.Assign a p) = text_at t a.name ∷ []
-keys_in t k = words_of_parts t (word_parts k)
+-- the words of a line of this joined text and class that an index lists: the name that it assigns; or
+-- its targets, and its prerequisites too
+abbrev pub keys_in : Scope → (text : List ℕ) → class.Class → List (List ℕ)
+keys_in s t (variants.Assign a p) = text_at t a.name ∷ []
+keys_in s t k = words_of_parts s t (word_parts k)
 
 -- the empty word, by which a line is found that sets the recipe prefix in a way that is not read
 abbrev pub unread_key : (is_unread : Bool) → List (List ℕ)
 unread_key true = [] ∷ []
 unread_key false = []
 
-abbrev pub keys_of : LocatedLine → List (List ℕ)
-keys_of l = unread_key (is_unread_located l) ++ keys_in (text_of_line l) l.class
+abbrev pub keys_of : Scope → LocatedLine → List (List ℕ)
+keys_of s l = unread_key (is_unread_located l) ++ keys_in s (text_of_line l) l.class
 
 -- the hashes of a line's keys
-abbrev pub hashes_of : LocatedLine → List ℕ
-hashes_of l = map hash_of (keys_of l)
+abbrev pub hashes_of : Scope → LocatedLine → List ℕ
+hashes_of s l = map hash_of (keys_of s l)
 
 -- a number is one of some numbers
 abbrev pub IsOneOf : ℕ → List ℕ → Type 0

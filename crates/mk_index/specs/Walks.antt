@@ -12,6 +12,7 @@ use Rattle.mk_index.specs.Blocks.{AreBlocks, AreFresh, IsCarried}
 use Rattle.mk_index.specs.Chains.{AreChainsOf, Mention}
 use Rattle.mk_index.specs.Indexes.{Stored}
 use Rattle.mk_index.specs.declared.blocks.Block.{Block}
+use Rattle.mk_index.specs.declared.keys.Scope.{Scope}
 
 -- An index of some lines, of which the blocks above a number are fresh. This many lines stand above
 -- that block, and this context is carried to it.
@@ -27,14 +28,14 @@ pub record IsRefreshed (ls : List LocatedLine) (index : Stored) (carried : Optio
   pub chains_are : AreChainsOf mentions index.chains
   pub context_is : context ≡ context_after_located_lines start done
   pub fresh : AreFresh (take number index.blocks)
-  pub above : AreBlocks mentions 0 (Some start) done (take number index.blocks) context
-  pub below : AreBlocks mentions number expected rest (drop number index.blocks) index.end
+  pub above : AreBlocks index.scope mentions 0 (Some start) done (take number index.blocks) context
+  pub below : AreBlocks index.scope mentions number expected rest (drop number index.blocks) index.end
   pub carried_is : IsCarried carried expected context
 
 -- Windows of the lines of the fresh blocks above a number. This many lines stand above that block.
 -- None of the lines between the last window and the block passes the test.
-pub record HasWindows (test : LocatedLine → Bool) (ls : List LocatedLine) (mentions : List Mention)
-    (blocks : List Block) (end : Context) (number at : ℕ) (windows : List Window)
+pub record HasWindows (scope : Scope) (test : LocatedLine → Bool) (ls : List LocatedLine)
+    (mentions : List Mention) (blocks : List Block) (end : Context) (number at : ℕ) (windows : List Window)
     : Type 0 where
   pub done : List LocatedLine
   pub rest : List LocatedLine
@@ -44,7 +45,7 @@ pub record HasWindows (test : LocatedLine → Bool) (ls : List LocatedLine) (men
   pub lines_are : ls ≡ done ++ rest
   pub at_is : length done ≡ at
   pub classed : AreEachClassed rest
-  pub below : AreBlocks mentions number (Some context) rest (drop number blocks) end
+  pub below : AreBlocks scope mentions number (Some context) rest (drop number blocks) end
   pub fresh : AreFresh (drop number blocks)
   pub none_passes : NonePasses test gap
   pub place_is : record { at = at; context = context } ≡ below_all last gap

@@ -120,7 +120,7 @@ impl<A: Allocator + Copy> Blocks<A> {
         self.groups[number]
     }
 
-    /// The number of the first block of a group.
+    /// The number of the first block of a group; both count from 0.
     pub fn first_of(&self, group: usize) -> usize
         requires { group ≤ length self.now / 128 }
         ensures { result ≡ group * 128 }
@@ -130,35 +130,36 @@ impl<A: Allocator + Copy> Blocks<A> {
         group * GROUP
     }
 
-    /// The number after that of the last block of a group.
+    /// The number after that of the last block of a group; both count from 0.
     pub fn end_of(&self, group: usize) -> usize
         requires { group ≤ length self.now / 128 }
         ensures { result ≡ min (length self.now) (group * 128 + 128) }
     {
-        self.items.len().min(self.first_of(group) + GROUP)
+        let count = self.items.len();
+        count.min(self.first_of(group) + GROUP)
     }
 
-    /// Puts a block in the place of another.
-    pub fn change(&mut self, number: usize, block: Block)
-        requires { number < length self.old }
-        ensures { self.new ≡ set self.old number block }
+    /// Puts a block in the place of another, whose number, from 0, is given.
+    pub fn change(&mut self, at: usize, block: Block)
+        requires { at < length self.old }
+        ensures { self.new ≡ set self.old at block }
     {
-        self.items[number] = block;
-        let group = number / GROUP;
+        self.items[at] = block;
+        let group = at / GROUP;
         self.groups[group] = group_of(&self.items, group);
     }
 
-    /// Puts a fresh block in the place of one that has as many lines.
-    pub fn renew(&mut self, number: usize, block: Block)
-        requires in_range { number < length self.old }
-        requires fresh { block.is_stale ≡ false }
-        requires count { block.count ≡ (get_or self.old number block).count }
-        ensures { self.new ≡ set self.old number block }
+    /// Puts a fresh block in the place of one that has as many lines, whose number, from 0, is given.
+    pub fn renew(&mut self, at: usize, fresh: Block)
+        requires in_range { at < length self.old }
+        requires fresh { fresh.is_stale ≡ false }
+        requires count { fresh.count ≡ (get_or self.old at fresh).count }
+        ensures { self.new ≡ set self.old at fresh }
     {
-        self.items[number] = block;
+        self.items[at] = fresh;
     }
 
-    /// Notes that no block of a group is stale.
+    /// Notes that no block of the group of a number, from 0, is stale.
     pub fn note_fresh(&mut self, group: usize)
         requires in_range { group ≤ length self.old / 128 }
         requires fresh { AreFresh (blocks_of group self.old) }

@@ -62,6 +62,14 @@ impl<A: Allocator + Copy> IndexedDoc<A> {
         self.finder.expect_edits();
     }
 
+    /// Lets the next index serve renames too, as [`Finder::expect_renames`] does. Walks over nothing and
+    /// takes no memory.
+    pub fn expect_renames(&mut self)
+        ensures { self.new ≡ self.old }
+    {
+        self.finder.expect_renames();
+    }
+
     /// What is known before an edit is planned, as [`Finder::known`] tells it. The index may be made or
     /// brought up to date first. That takes memory; a growth that is refused is no refusal of the edit.
     pub fn known(&mut self, alloc: A, edit: &Edit<A>) -> Known<A>

@@ -14,6 +14,7 @@ ghost use Rattle.mk_patch.specs.Moves.{FitMoves, after_moves};
 ghost use Rattle.mk_index.specs.Effects.{IsBehind, IsKnownFor};
 
 use crate::index::Index;
+use crate::keys::Scope;
 use mk_edit_language::Edit;
 use mk_edit_parts::address::{Address, address_of};
 use mk_edit_parts::seek::{Found, Sought, seek};
@@ -37,6 +38,8 @@ pub struct Finder<A: Allocator = Global> {
     // Whether the next edit with an address, or the next rename, makes the index: the last one made do
     // with a walk, or more edits are expected.
     is_due: bool,
+    // Which words the index lists, and the next one.
+    scope: Scope,
 }
 
 impl<A: Allocator> Model for Finder<A> {
@@ -59,6 +62,7 @@ impl<A: Allocator + Copy> Finder<A> {
             index: None,
             end: Some(end),
             is_due: false,
+            scope: Scope::Names,
         }
     }
 
@@ -74,6 +78,7 @@ impl<A: Allocator + Copy> Finder<A> {
         ensures right { IsKnownFor doc.now self.new }
     {
         if let Edit::RenameTarget { from, to } = edit {
+            self.expect_renames();
             self.make_due(alloc, doc);
             return windows_known(self.for_rename(alloc, doc, from, to));
         }
@@ -92,6 +97,19 @@ impl<A: Allocator + Copy> Finder<A> {
         ensures { self.new ≡ self.old }
     {
         self.is_due = true;
+    }
+
+    /// Lets the next index list prerequisites too, since renames are to come. An index that does not is
+    /// dropped. This call walks over nothing and takes no memory.
+    pub fn expect_renames(&mut self)
+        ensures end { self.new.end ≡ self.old.end }
+        ensures right { (lines : List LocatedLine) → IsKnownFor lines self.old
+            → IsKnownFor lines self.new }
+    {
+        if let Scope::Names = self.scope {
+            self.scope = Scope::Words;
+            self.index = None;
+        }
     }
 
     // Finds where the document ends, by the index or by a walk over all lines, unless that is known.
@@ -140,7 +158,7 @@ impl<A: Allocator + Copy> Finder<A> {
             return;
         }
         if self.is_due {
-            self.index = Index::new(alloc, doc).ok();
+            self.index = Index::new(alloc, doc, self.scope).ok();
         } else {
             self.is_due = true;
         }

@@ -6,6 +6,7 @@ ghost use Rattle.mk_patch.specs.Moves.{FitMoves, FitsMove, after_move, after_mov
 ghost use Rattle.mk_patch.specs.StepMoves.{move_of};
 ghost use Rattle.mk_index.specs.Blocks.{AreBlocks, lines_in};
 ghost use Rattle.mk_index.specs.Chains.{Mention};
+ghost use Rattle.mk_index.specs.declared.keys.Scope.{Scope};
 
 use crate::blocks::{Block, Blocks};
 use mk_patch::{Patch, Step};
@@ -17,11 +18,12 @@ const MOST_LINES: u16 = 2_048;
 /// Follows the steps of a patch. Whether it could; if not, the blocks are of no use any more. Takes no
 /// memory.
 pub(crate) fn follow_all<A: Allocator + Copy>(blocks: &mut Blocks<A>, patch: &Patch<A>) -> bool
-    ensures { (mentions : List Mention) (number : ℕ) (expected : Option contexts.Context)
+    ensures { (scope : Scope) (mentions : List Mention) (number : ℕ)
+        (expected : Option contexts.Context)
         (lines : List LocatedLine) (end : contexts.Context)
-        → AreBlocks mentions number expected lines blocks.old end → FitMoves patch.now lines
+        → AreBlocks scope mentions number expected lines blocks.old end → FitMoves patch.now lines
         → IsTrue result
-        → AreBlocks mentions number expected (after_moves patch.now lines) blocks.new end }
+        → AreBlocks scope mentions number expected (after_moves patch.now lines) blocks.new end }
 {
     'steps: for at in 0..patch.step_count() {
         let Some(step) = patch.step(at) else {
@@ -36,11 +38,12 @@ pub(crate) fn follow_all<A: Allocator + Copy>(blocks: &mut Blocks<A>, patch: &Pa
 
 // Follows a step of a patch. Whether it could; if not, the blocks are of no use any more.
 fn follow<A: Allocator + Copy>(blocks: &mut Blocks<A>, step: &Step<A>) -> bool
-    ensures { (mentions : List Mention) (number : ℕ) (expected : Option contexts.Context)
+    ensures { (scope : Scope) (mentions : List Mention) (number : ℕ)
+        (expected : Option contexts.Context)
         (lines : List LocatedLine) (end : contexts.Context)
-        → AreBlocks mentions number expected lines blocks.old end
+        → AreBlocks scope mentions number expected lines blocks.old end
         → FitsMove (move_of step.now) lines → IsTrue result
-        → AreBlocks mentions number expected (after_move (move_of step.now) lines) blocks.new end }
+        → AreBlocks scope mentions number expected (after_move (move_of step.now) lines) blocks.new end }
 {
     match step {
         Step::PutIn(at, _) => splice(blocks, *at, 0, 1),
@@ -58,10 +61,11 @@ fn follow<A: Allocator + Copy>(blocks: &mut Blocks<A>, step: &Step<A>) -> bool
 // lines already.
 fn splice<A: Allocator + Copy>(blocks: &mut Blocks<A>, at: usize, takes: u16, puts: u16) -> bool
     requires { puts ≤ 1 }
-    ensures { (mentions : List Mention) (number : ℕ) (expected : Option contexts.Context)
+    ensures { (scope : Scope) (mentions : List Mention) (number : ℕ)
+        (expected : Option contexts.Context)
         (lines put_in : List LocatedLine) (end : contexts.Context)
-        → AreBlocks mentions number expected lines blocks.old end → length put_in ≡ puts
-        → IsTrue result → AreBlocks mentions number expected
+        → AreBlocks scope mentions number expected lines blocks.old end → length put_in ≡ puts
+        → IsTrue result → AreBlocks scope mentions number expected
         (take at lines ++ (put_in ++ drop (at + takes) lines)) blocks.new end }
 {
     let mut above = 0;
@@ -93,10 +97,11 @@ fn splice_below<A: Allocator + Copy>(
     requires one { puts ≤ 1 }
     requires above { above ≡ lines_in (take first blocks.old) }
     requires in_range { above ≤ at }
-    ensures { (mentions : List Mention) (number : ℕ) (expected : Option contexts.Context)
+    ensures { (scope : Scope) (mentions : List Mention) (number : ℕ)
+        (expected : Option contexts.Context)
         (lines put_in : List LocatedLine) (end : contexts.Context)
-        → AreBlocks mentions number expected lines blocks.old end → length put_in ≡ puts
-        → IsTrue result → AreBlocks mentions number expected
+        → AreBlocks scope mentions number expected lines blocks.old end → length put_in ≡ puts
+        → IsTrue result → AreBlocks scope mentions number expected
         (take at lines ++ (put_in ++ drop (at + takes) lines)) blocks.new end }
 {
     let mut above = above;
@@ -128,9 +133,10 @@ fn splice_below<A: Allocator + Copy>(
 
 // The index of the last line, from 0, if the blocks have a line.
 fn last_line<A: Allocator + Copy>(blocks: &Blocks<A>) -> Option<usize>
-    ensures { (mentions : List Mention) (number : ℕ) (expected : Option contexts.Context)
+    ensures { (scope : Scope) (mentions : List Mention) (number : ℕ)
+        (expected : Option contexts.Context)
         (lines : List LocatedLine) (end : contexts.Context)
-        → AreBlocks mentions number expected lines blocks.now end
+        → AreBlocks scope mentions number expected lines blocks.now end
         → IfSome result (λ last. last + 1 ≡ length lines) }
 {
     let mut lines = 0usize;

@@ -14,13 +14,14 @@ ghost use Rattle.mk_index.specs.Blocks.{AreBlocks, AreLinesMentioned, HaveListed
 ghost use Rattle.mk_index.specs.Walks.{HasWindows, IsRefreshed};
 ghost use Rattle.mk_index.specs.Chains.{AreChainsOf, Mention};
 ghost use Rattle.mk_index.specs.Keys.{IsKeyOf};
+ghost use Rattle.mk_index.specs.declared.keys.Scope as scopes;
 ghost use Rattle.mk_index.specs.Indexes.{AreMarked, IsFreshIndexOf, IsIndexOf, PassesByKeys};
 
 use crate::blocks::{Block, Blocks, Group};
 use crate::bucket::hash_of;
 use crate::chains::{Chains, MOST_STEPS};
 use crate::follow::follow_all;
-use crate::keys::list_keys;
+use crate::keys::{Scope, list_keys};
 use crate::marks::Marks;
 use mk_class::Context;
 use mk_edit_parts::address::Address;
@@ -42,6 +43,8 @@ const UNREAD: u32 = 0;
 /// lines.
 #[derive(Drop)]
 pub struct Index<A: Allocator = Global> {
+    // Which words are listed.
+    scope: Scope,
     chains: Chains<A>,
     blocks: Blocks<A>,
     // The context after the last line.
@@ -55,17 +58,18 @@ impl<A: Allocator> Model for Index<A> {
 
     ghost Value = { Stored };
 
-    ghost view = { λ i. record { chains = i.chains; blocks = i.blocks; end = i.end } };
+    ghost view = { λ i. record { scope = i.scope; chains = i.chains; blocks = i.blocks; end = i.end } };
 }
 
 impl<A: Allocator + Copy> Index<A> {
-    /// An index of a document in which each block is stale. [`AllocError`] if a growth was refused.
-    pub fn new(alloc: A, doc: &Doc<A>) -> Result<Index<A>, AllocError>
-        ensures { IfOk result (λ index. IsIndexOf doc.now index) }
+    /// An index of a document that lists these words, in which each block is stale. [`AllocError`] if a growth was refused.
+    pub fn new(alloc: A, doc: &Doc<A>, scope: Scope) -> Result<Index<A>, AllocError>
+        ensures { IfOk result (λ index. IsIndexOf doc.now index × (index.scope ≡ scope)) }
     {
         let blocks = Blocks::new(alloc, doc.len())?;
         let chains = Chains::new(alloc, doc.len() / 4 + 1)?;
         Ok(Index {
+            scope,
             chains,
             blocks,
             end: Context::start(),
@@ -144,7 +148,7 @@ impl<A: Allocator + Copy> Index<A> {
                 let Ok(named) = u32::try_from(number) else {
                     return Err(AllocError);
                 };
-                let after = list_lines(&mut self.chains, doc, place, &block, named)?;
+                let after = list_lines(&mut self.chains, self.scope, doc, place, &block, named)?;
                 let fresh = Block {
                     front: block.count,
                     back: block.count,
@@ -174,7 +178,7 @@ impl<A: Allocator + Copy> Index<A> {
     pub fn windows(&self, alloc: A, doc: &Doc<A>, hashes: &[u32]) -> Option<Vec<Window, A>>
         requires faithful { IsFaithful doc.now }
         requires index { IsFreshIndexOf doc.now self.now }
-        ensures { (test : LocatedLine → Bool) → PassesByKeys test hashes.now
+        ensures { (test : LocatedLine → Bool) → PassesByKeys self.now.scope test hashes.now
             → IfSome result (λ windows. AreWindows test first_place doc.now windows.items) }
     {
         let mut marks = Marks::new(alloc, self.blocks.len()).ok()?;
@@ -196,7 +200,7 @@ impl<A: Allocator + Copy> Index<A> {
     }
 
     /// Windows of the document, outside of which no line concerns the rename of a word to another.
-    /// `None` if these are unknown.
+    /// `None` if these are unknown, as where the index lists no prerequisites.
     pub fn for_rename(
         &self,
         alloc: A,
@@ -209,7 +213,10 @@ impl<A: Allocator + Copy> Index<A> {
         ensures { IfSome result (λ windows.
             AreWindows (concerns_rename old.now new.now) first_place doc.now windows.items) }
     {
-        self.windows(alloc, doc, &[UNREAD, hash_of(old), hash_of(new)])
+        match self.scope {
+            Scope::Names => None,
+            Scope::Words => self.windows(alloc, doc, &[UNREAD, hash_of(old), hash_of(new)]),
+        }
     }
 
     // The blocks that are marked, as windows of the document, and its end.
@@ -223,8 +230,8 @@ impl<A: Allocator + Copy> Index<A> {
         requires index { IsFreshIndexOf doc.now self.now }
         requires marks { length marks.now ≡ length self.now.blocks }
         ensures { (test : LocatedLine → Bool) (mentions : List Mention)
-            → AreBlocks mentions 0 (Some start) doc.now self.now.blocks self.now.end
-            → PassesInMarked test mentions marks.now
+            → AreBlocks self.now.scope mentions 0 (Some start) doc.now self.now.blocks self.now.end
+            → PassesInMarked self.now.scope test mentions marks.now
             → IfOk result (λ windows. AreWindows test first_place doc.now windows.items) }
     {
         let mut windows = Vec::new(alloc);
@@ -257,10 +264,11 @@ fn add_windows<A: Allocator + Copy>(
     requires in_range { group ≤ length blocks.now / 128 }
     requires marks { length marks.now ≡ length blocks.now }
     requires few { above + lines_in (blocks_of group blocks.now) ≤ max_text }
-    ensures { (test : LocatedLine → Bool) (lines : List LocatedLine) (mentions : List Mention)
-        (end : contexts.Context) → PassesInMarked test mentions marks.now
-        → HasWindows test lines mentions blocks.now end (group * 128) above windows.old.items
-        → IfOk result (λ _. HasWindows test lines mentions blocks.now end (group * 128 + 128)
+    ensures { (scope : scopes.Scope) (test : LocatedLine → Bool) (lines : List LocatedLine)
+        (mentions : List Mention) (end : contexts.Context)
+        → PassesInMarked scope test mentions marks.now
+        → HasWindows scope test lines mentions blocks.now end (group * 128) above windows.old.items
+        → IfOk result (λ _. HasWindows scope test lines mentions blocks.now end (group * 128 + 128)
         (above + lines_in (blocks_of group blocks.now)) windows.new.items) }
 {
     let mut at = above;
@@ -292,11 +300,7 @@ fn key_of(address: Option<Address>) -> u32
 
 // Marks each block in which a key of one of some hashes stands. Whether it could: it gives up where
 // too many do.
-fn mark_all<A: Allocator + Copy>(
-    chains: &Chains<A>,
-    hashes: &[u32],
-    marks: &mut Marks<A>,
-) -> bool
+fn mark_all<A: Allocator + Copy>(chains: &Chains<A>, hashes: &[u32], marks: &mut Marks<A>) -> bool
     ensures length { length marks.new ≡ length marks.old }
     ensures marked { IsTrue result → AreMarked chains.now hashes.now marks.new }
 {
@@ -342,6 +346,7 @@ fn is_same(left: Context, right: Context) -> bool
 // line stands at this place of the document, and the block has this number. The context after the lines.
 fn list_lines<A: Allocator + Copy>(
     chains: &mut Chains<A>,
+    scope: Scope,
     doc: &Doc<A>,
     place: Found,
     block: &Block,
@@ -352,10 +357,10 @@ fn list_lines<A: Allocator + Copy>(
         ≡ context_after_located_lines start (take place.at doc.now) }
     requires in_range { place.at + block.now.count ≤ length doc.now }
     ensures { (mentions : List Mention) → AreChainsOf mentions chains.old
-        → AreLinesMentioned mentions number (take block.now.front (lines_between place.at block.now.count doc.now))
-        → AreLinesMentioned mentions number
+        → AreLinesMentioned scope mentions number (take block.now.front (lines_between place.at block.now.count doc.now))
+        → AreLinesMentioned scope mentions number
         (drop (block.now.count - block.now.back) (lines_between place.at block.now.count doc.now))
-        → IfOk result (λ after. HaveListedLines (lines_between place.at block.now.count doc.now) number mentions
+        → IfOk result (λ after. HaveListedLines scope (lines_between place.at block.now.count doc.now) number mentions
         chains.new × (after
         ≡ context_after_located_lines place.context (lines_between place.at block.now.count doc.now))) }
 {
@@ -370,7 +375,7 @@ fn list_lines<A: Allocator + Copy>(
         };
         let class = line.class();
         if block.front <= passed && passed < listed_from {
-            list_keys(chains, line, &class, number)?;
+            list_keys(chains, scope, line, &class, number)?;
         }
         context = context.step(&class);
     }

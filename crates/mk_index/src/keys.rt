@@ -19,12 +19,22 @@ use mk_tree::end::sets_prefix_unread;
 use mk_tree::part::{part, text_of_line};
 use std::alloc::{AllocError, Allocator};
 
+/// Which words an index lists.
+#[derive(Clone, Copy)]
+pub enum Scope {
+    /// The names that lines assign, and targets: by these an edit with an address finds its line.
+    Names,
+    /// Prerequisites too, which a rename asks for.
+    Words,
+}
+
 /// Lists the keys of a line with the block in which it stands: the name that it assigns, or its
-/// targets and prerequisites; and the empty word, if it sets the recipe prefix in a way that is not
+/// targets, and its prerequisites if they are to be listed; and the empty word, if it sets the recipe prefix in a way that is not
 /// read. The caller has the class of the line at hand. [`AllocError`] if a growth was refused, or if
 /// the chains are full.
 pub fn list_keys<A: Allocator + Copy>(
     chains: &mut Chains<A>,
+    scope: Scope,
     line: &Line<A>,
     class: &Class,
     block: u32,
@@ -32,7 +42,7 @@ pub fn list_keys<A: Allocator + Copy>(
     requires classed { IsClassed (line_view line.now) }
     requires class { class.now ≡ (line_view line.now).class }
     ensures { (ms : List Mention) → AreChainsOf ms chains.old → OnOk result
-        (HaveListed (hashes_of (line_view line.now)) block ms chains.new) }
+        (HaveListed (hashes_of scope (line_view line.now)) block ms chains.new) }
 {
     list_unread(chains, line, class, block)?;
     match class {
@@ -40,7 +50,7 @@ pub fn list_keys<A: Allocator + Copy>(
             let name = part(text_of_line(line), assignment.name);
             chains.list(hash_of(name), block)
         }
-        _ => list_parts(chains, line, class, block),
+        _ => list_parts(chains, scope, line, class, block),
     }
 }
 
@@ -63,9 +73,10 @@ fn list_unread<A: Allocator + Copy>(
     chains.list(hash_of(b""), block)
 }
 
-// Lists the targets and prerequisites of a line.
+// Lists the targets of a line, and its prerequisites if they are to be listed.
 fn list_parts<A: Allocator + Copy>(
     chains: &mut Chains<A>,
+    scope: Scope,
     line: &Line<A>,
     class: &Class,
     block: u32,
@@ -73,7 +84,7 @@ fn list_parts<A: Allocator + Copy>(
     requires classed { IsClassed (line_view line.now) }
     requires class { class.now ≡ (line_view line.now).class }
     ensures { (ms : List Mention) → AreChainsOf ms chains.old → OnOk result
-        (HaveListed (map hash_of (words_of_parts (text_of_line (line_view line.now))
+        (HaveListed (map hash_of (words_of_parts scope (text_of_line (line_view line.now))
         (word_parts class.now))) block ms chains.new) }
 {
     if !has_parts(class) {
@@ -82,8 +93,13 @@ fn list_parts<A: Allocator + Copy>(
     let text = text_of_line(line);
     let parts = parts_of(line, class);
     list_words(chains, part(text, parts.targets), block)?;
-    list_words(chains, part(text, parts.normal), block)?;
-    list_words(chains, part(text, parts.order_only), block)
+    match scope {
+        Scope::Names => Ok(()),
+        Scope::Words => {
+            list_words(chains, part(text, parts.normal), block)?;
+            list_words(chains, part(text, parts.order_only), block)
+        }
+    }
 }
 
 // Lists the words of a text.

@@ -29,3 +29,4 @@ pub use change::IndexedPatch;
 pub use document::IndexedDoc;
 pub use finder::Finder;
 pub use index::Index;
+pub use keys::Scope;

@@ -47,11 +47,11 @@ impl<A: Allocator + Copy> Marks<A> {
     }
 
     /// Whether the block of a number, from 0, is marked.
-    pub fn is_marked(&self, block: usize) -> bool
-        requires { block < length self.now }
-        ensures { result ≡ get_or self.now block false }
+    pub fn is_marked(&self, number: usize) -> bool
+        requires { number < length self.now }
+        ensures { result ≡ get_or self.now number false }
     {
-        self.blocks[block]
+        self.blocks[number]
     }
 
     /// Whether a block of the group of a number, from 0, may be marked.

@@ -13,7 +13,7 @@ use mk_history::history::is_bad_depth;
 use mk_lines::source::{BUFFER, MAX_TEXT, read_all};
 use mk_lines::{ByteSink, ByteSource, Fault};
 use mk_script::{NumberedCommand, ScriptFault, parse_script};
-use mk_session::{Refusal, Session};
+use mk_session::{Command, Edit, Refusal, Session};
 use std::alloc::Allocator;
 
 // The commands of a script. The script is read to its end.
@@ -90,6 +90,9 @@ fn obey_all<A: Allocator + Copy, P: ByteSink>(
 {
     if commands.len() >= MANY_COMMANDS {
         session.expect_edits();
+        if have_rename(commands) {
+            session.expect_renames();
+        }
     }
     let mut refused = 0u64;
     for numbered in commands {
@@ -108,6 +111,16 @@ fn obey_all<A: Allocator + Copy, P: ByteSink>(
         }
     }
     Ok(refused)
+}
+
+// Whether one of some commands is a rename.
+fn have_rename<A: Allocator>(commands: &[NumberedCommand<A>]) -> bool {
+    for numbered in commands {
+        if let Command::Apply(Edit::RenameTarget { .. }) = &numbered.command {
+            return true;
+        }
+    }
+    false
 }
 
 // Ends a group that is still open, writes the text out, and flushes it once.

@@ -145,6 +145,16 @@ impl<A: Allocator + Copy> Session<A> {
         self.doc.expect_edits();
     }
 
+    /// Tells the session that a rename is to come. Nothing that is shown changes. An index that is made
+    /// from then on also has all prerequisites, which a rename asks for; one that has not is dropped.
+    /// The call reads no line and takes no memory.
+    pub fn expect_renames(&mut self)
+        ensures same { self.new.shown ≡ self.old.shown }
+        ensures none_read { self.new.rereads ≡ self.old.rereads }
+    {
+        self.doc.expect_renames();
+    }
+
     /// Makes an edit. It can be undone next: alone, or, if a group is open, together with the
     /// group's other edits. Nothing can be redone any more. The edit reads exactly as many lines as
     /// it costs.

@@ -1,5 +1,5 @@
 -- Groups of blocks.
-use Rattle.std.proofs.Common.{◌≡◌, refl, sym, ap, ◌∙◌, subst, arith, ℕ, zero, suc, ◌+◌, ◌-◌, ◌*◌, ◌/◌, ◌≤◌, ◌<◌, min, ◌⊎◌, inl, inr, List, [], ◌∷◌, ◌++◌, Bool, false, length, length-append, take, drop, get_or, set}
+use Rattle.std.proofs.Common.{◌≡◌, refl, sym, ap, ◌∙◌, subst, arith, ℕ, zero, suc, ◌+◌, ◌-◌, ◌*◌, ◌/◌, ◌≤◌, ◌<◌, min, ◌⊎◌, inl, inr, List, [], ◌∷◌, ◌++◌, false, length, length-append, take, drop, get_or, set}
 use Rattle.std.proofs.lemmas.List.{drop-set-lt, drop-set-add, drop-take, get_or_append_left, get_or-drop, get_or-set_other, get_or-set_same, length-drop, length-set, take_all, take-set-le}
 use Rattle.std.proofs.Math.Seq.{get_or-append_seam}
 use Rattle.std.proofs.lemmas.Bool.{cases_eq, cases_lt}
@@ -96,7 +96,7 @@ same-here xs ys n d e =
 -- ---- another block in the place of one
 
 -- a block that has as many lines
-pub count-kept : (bs : List Block) (from many n : ℕ) (new : Block) → n < length bs → new.count ≡ (get_or bs n new).count → lines_in (take many (drop from (set bs n new))) ≡ lines_in (take many (drop from bs))
+count-kept : (bs : List Block) (from many n : ℕ) (new : Block) → n < length bs → new.count ≡ (get_or bs n new).count → lines_in (take many (drop from (set bs n new))) ≡ lines_in (take many (drop from bs))
 count-kept [] from many n new few e = absurd (omega (arith, few))
 count-kept (b ∷ bs) (suc from) many zero new few e = refl
 count-kept (b ∷ bs) (suc from) many (suc n) new few e = count-kept bs from many n new (omega (arith, few)) e
@@ -105,7 +105,7 @@ count-kept (b ∷ bs) zero (suc many) zero new few e = ap (λ (k : ℕ). k + lin
 count-kept (b ∷ bs) zero (suc many) (suc n) new few e = ap (λ (k : ℕ). b.count + k) (count-kept bs zero many n new (omega (arith, few)) e)
 
 -- a fresh one
-pub fresh-kept : (bs : List Block) (from many n : ℕ) (new : Block) → new.is_stale ≡ false → AreFresh (take many (drop from bs)) → AreFresh (take many (drop from (set bs n new)))
+fresh-kept : (bs : List Block) (from many n : ℕ) (new : Block) → new.is_stale ≡ false → AreFresh (take many (drop from bs)) → AreFresh (take many (drop from (set bs n new)))
 fresh-kept [] from many n new e h = h
 fresh-kept (b ∷ bs) (suc from) many zero new e h = h
 fresh-kept (b ∷ bs) (suc from) many (suc n) new e h = fresh-kept bs from many n new e h
@@ -114,7 +114,7 @@ fresh-kept (b ∷ bs) zero (suc many) zero new e h = (e, h.1)
 fresh-kept (b ∷ bs) zero (suc many) (suc n) new e h = (h.0, fresh-kept bs zero many n new e h.1)
 
 -- the blocks of another group
-pub other-group : (bs : List Block) (k n : ℕ) (new : Block) → (n / 128 ≡ k → ⊥) → blocks_of k (set bs n new) ≡ blocks_of k bs
+other-group : (bs : List Block) (k n : ℕ) (new : Block) → (n / 128 ≡ k → ⊥) → blocks_of k (set bs n new) ≡ blocks_of k bs
 other-group bs k n new other = elim (cases_lt n (k * 128)) [
   | inl above ↦ ap (take 128) (drop-set-lt (k * 128) bs n new above)
   | inr below ↦ elim (cases_lt n (k * 128 + 128)) [
@@ -167,18 +167,4 @@ groups-kept bs gs n new few fresh count h = record {
         lines_are = g.lines_are ∙ sym (count-kept bs (k * 128) 128 n new few count);
         are_fresh = λ e. fresh-kept bs (k * 128) 128 n new fresh (g.are_fresh e);
       };
-}
-
--- the groups where one is told anew
-pub groups-noted : (bs : List Block) (gs : List Group) (k : ℕ) (g : Group) → k < length gs → AreGroupsOf bs gs → IsGroupOf (blocks_of k bs) g → AreGroupsOf bs (set gs k g)
-groups-noted bs gs k g few h here = record {
-  count_is = length-set gs k g ∙ h.count_is;
-  each = λ j x within is. elim (cases_eq k j) [
-    | inl same ↦
-        let e : x ≡ g = is ∙ (ap (λ (m : ℕ). get_or (set gs k g) m x) (sym same) ∙ get_or-set_same gs k g x few) in
-        rw (e, sym same) here
-    | inr other ↦
-        let e : x ≡ get_or gs j x = is ∙ get_or-set_other gs k j g x (λ f. other (sym f)) in
-        h.each j x (subst (λ (m : ℕ). j < m) (length-set gs k g) within) e
-  ];
 }

@@ -15,25 +15,26 @@ use Rattle.mk_index.specs.Chains.{AreChainsOf, AreMentioned, HaveListed, Mention
 use Rattle.mk_index.specs.Keys.{hashes_of}
 use Rattle.mk_index.proofs.on_blocks.PartLemmas.{back-here, front-here}
 use Rattle.mk_index.proofs.on_chains.KeyLemmas.{mentioned-more}
+use Rattle.mk_index.specs.declared.keys.Scope.{Scope}
 
-pub lines-mentioned-more : (added ms : List Mention) (b : ℕ) (ls : List LocatedLine) → AreLinesMentioned ms b ls → AreLinesMentioned (added ++ ms) b ls
-lines-mentioned-more added ms b [] h = tt
-lines-mentioned-more added ms b (l ∷ ls) h = (mentioned-more added ms b (hashes_of l) h.0, lines-mentioned-more added ms b ls h.1)
+pub lines-mentioned-more : (s : Scope) (added ms : List Mention) (b : ℕ) (ls : List LocatedLine) → AreLinesMentioned s ms b ls → AreLinesMentioned s (added ++ ms) b ls
+lines-mentioned-more s added ms b [] h = tt
+lines-mentioned-more s added ms b (l ∷ ls) h = (mentioned-more added ms b (hashes_of s l) h.0, lines-mentioned-more s added ms b ls h.1)
 
-lines-mentioned-last : (ms : List Mention) (b : ℕ) (ls : List LocatedLine) (l : LocatedLine) → AreLinesMentioned ms b ls → AreMentioned ms b (hashes_of l) → AreLinesMentioned ms b (ls ++ l ∷ [])
-lines-mentioned-last ms b [] l h k = (k, tt)
-lines-mentioned-last ms b (x ∷ ls) l h k = (h.0, lines-mentioned-last ms b ls l h.1 k)
+lines-mentioned-last : (s : Scope) (ms : List Mention) (b : ℕ) (ls : List LocatedLine) (l : LocatedLine) → AreLinesMentioned s ms b ls → AreMentioned ms b (hashes_of s l) → AreLinesMentioned s ms b (ls ++ l ∷ [])
+lines-mentioned-last s ms b [] l h k = (k, tt)
+lines-mentioned-last s ms b (x ∷ ls) l h k = (h.0, lines-mentioned-last s ms b ls l h.1 k)
 
 -- one line more is listed
-listed-more : (ms : List Mention) (b : ℕ) (ls : List LocatedLine) (l : LocatedLine) (c d : Stored) → HaveListedLines ls b ms c → ((all : List Mention) → AreChainsOf all c → HaveListed (hashes_of l) b all d) → HaveListedLines (ls ++ l ∷ []) b ms d
-listed-more ms b ls l c d h more =
+listed-more : (s : Scope) (ms : List Mention) (b : ℕ) (ls : List LocatedLine) (l : LocatedLine) (c d : Stored) → HaveListedLines s ls b ms c → ((all : List Mention) → AreChainsOf all c → HaveListed (hashes_of s l) b all d) → HaveListedLines s (ls ++ l ∷ []) b ms d
+listed-more s ms b ls l c d h more =
     let new = more (h.added ++ ms) h.chains_are in
     let joined : (new.added ++ h.added) ++ ms ≡ new.added ++ (h.added ++ ms) = append_assoc new.added h.added ms in
     record {
       added = new.added ++ h.added;
       chains_are = subst (λ (xs : List Mention). AreChainsOf xs d) (sym joined) new.chains_are;
-      mentioned = subst (λ (xs : List Mention). AreLinesMentioned xs b (ls ++ l ∷ [])) (sym joined)
-          (lines-mentioned-last (new.added ++ (h.added ++ ms)) b ls l (lines-mentioned-more new.added (h.added ++ ms) b ls h.mentioned) new.mentioned);
+      mentioned = subst (λ (xs : List Mention). AreLinesMentioned s xs b (ls ++ l ∷ [])) (sym joined)
+          (lines-mentioned-last s (new.added ++ (h.added ++ ms)) b ls l (lines-mentioned-more s new.added (h.added ++ ms) b ls h.mentioned) new.mentioned);
     }
 
 pub context-last : (c : Context) (ls : List LocatedLine) (l : LocatedLine) → context_after_located_lines c (ls ++ l ∷ []) ≡ context_after_located (context_after_located_lines c ls) l.class
@@ -41,28 +42,28 @@ context-last c [] l = refl
 context-last c (x ∷ ls) l = context-last (context_after_located c x.class) ls l
 
 -- a line that is listed already
-listed-kept : (ms : List Mention) (b : ℕ) (ls : List LocatedLine) (l : LocatedLine) (c : Stored) → HaveListedLines ls b ms c → AreMentioned ms b (hashes_of l) → HaveListedLines (ls ++ l ∷ []) b ms c
-listed-kept ms b ls l c h k = record {
+listed-kept : (s : Scope) (ms : List Mention) (b : ℕ) (ls : List LocatedLine) (l : LocatedLine) (c : Stored) → HaveListedLines s ls b ms c → AreMentioned ms b (hashes_of s l) → HaveListedLines s (ls ++ l ∷ []) b ms c
+listed-kept s ms b ls l c h k = record {
   added = h.added;
   chains_are = h.chains_are;
-  mentioned = lines-mentioned-last (h.added ++ ms) b ls l h.mentioned (mentioned-more h.added ms b (hashes_of l) k);
+  mentioned = lines-mentioned-last s (h.added ++ ms) b ls l h.mentioned (mentioned-more h.added ms b (hashes_of s l) k);
 }
 
 -- The lines passed, and those ahead. The lines passed are listed, if the first and the last of the
 -- block's lines were.
-pub record Listing (before after : Stored) (b front from total : ℕ) (first : Context) (ls : List LocatedLine) (count : ℕ) (context : Context) (ahead : List LocatedLine) : Type 0 where
+pub record Listing (s : Scope) (before after : Stored) (b front from total : ℕ) (first : Context) (ls : List LocatedLine) (count : ℕ) (context : Context) (ahead : List LocatedLine) : Type 0 where
   pub done : List LocatedLine
   pub lines_are : ls ≡ done ++ ahead
   pub count_is : length done ≡ count
   pub context_is : context ≡ context_after_located_lines first done
   pub admitted : AreAdmitted context ahead
   pub classed : AreEachClassed ahead
-  pub listed : (ms : List Mention) → AreChainsOf ms before → AreLinesMentioned ms b (take front (take total ls)) → AreLinesMentioned ms b (drop from (take total ls)) → HaveListedLines done b ms after
+  pub listed : (ms : List Mention) → AreChainsOf ms before → AreLinesMentioned s ms b (take front (take total ls)) → AreLinesMentioned s ms b (drop from (take total ls)) → HaveListedLines s done b ms after
 
 -- the walk at its start
-pub listing-from : (doc : List LocatedLine) (chains : Stored) (b at front from total : ℕ) (first : Context) (ahead : List LocatedLine) → IsFaithful doc → AreAdmitted start doc → first ≡ context_after_located_lines start (take at doc) → ahead ≡ drop at doc
-    → Listing chains chains b front from total first (drop at doc) 0 first ahead
-listing-from doc chains b at front from total first ahead faithful admitted context_is ahead_is = rw ahead_is (record {
+pub listing-from : (s : Scope) (doc : List LocatedLine) (chains : Stored) (b at front from total : ℕ) (first : Context) (ahead : List LocatedLine) → IsFaithful doc → AreAdmitted start doc → first ≡ context_after_located_lines start (take at doc) → ahead ≡ drop at doc
+    → Listing s chains chains b front from total first (drop at doc) 0 first ahead
+listing-from s doc chains b at front from total first ahead faithful admitted context_is ahead_is = rw ahead_is (record {
   done = [];
   lines_are = refl;
   count_is = refl;
@@ -73,9 +74,9 @@ listing-from doc chains b at front from total first ahead faithful admitted cont
 })
 
 -- the walk one line on: the line is listed now, or was listed before
-pub listing-next : (before c d : Stored) (b front from total : ℕ) (first : Context) (ls : List LocatedLine) (count : ℕ) (context next : Context) (l : LocatedLine) (ahead : List LocatedLine) → Listing before c b front from total first ls count context (l ∷ ahead) → count < total
-    → next ≡ context_after_located context l.class → (((all : List Mention) → AreChainsOf all c → HaveListed (hashes_of l) b all d) ⊎ ((d ≡ c) × ((count < front) ⊎ (from ≤ count)))) → Listing before d b front from total first ls (count + 1) next ahead
-listing-next before c d b front from total first ls count context next l ahead w within e more = record {
+pub listing-next : (s : Scope) (before c d : Stored) (b front from total : ℕ) (first : Context) (ls : List LocatedLine) (count : ℕ) (context next : Context) (l : LocatedLine) (ahead : List LocatedLine) → Listing s before c b front from total first ls count context (l ∷ ahead) → count < total
+    → next ≡ context_after_located context l.class → (((all : List Mention) → AreChainsOf all c → HaveListed (hashes_of s l) b all d) ⊎ ((d ≡ c) × ((count < front) ⊎ (from ≤ count)))) → Listing s before d b front from total first ls (count + 1) next ahead
+listing-next s before c d b front from total first ls count context next l ahead w within e more = record {
   done = w.done ++ l ∷ [];
   lines_are = w.lines_are ∙ sym (append_assoc w.done (l ∷ []) ahead);
   count_is = omega (arith, length-append w.done (l ∷ []), w.count_is);
@@ -83,10 +84,10 @@ listing-next before c d b front from total first ls count context next l ahead w
   admitted = subst (λ (k : Context). AreAdmitted k ahead) (sym e) w.admitted.1;
   classed = w.classed.1;
   listed = λ ms h f k. elim more [
-    | inl new ↦ listed-more ms b w.done l c d (w.listed ms h f k) new
-    | inr kept ↦ subst (λ (x : Stored). HaveListedLines (w.done ++ l ∷ []) b ms x) (sym kept.0) (listed-kept ms b w.done l c (w.listed ms h f k) (elim kept.1 [
-      | inl above ↦ front-here ms b (take total ls) w.done l (take (total - count - 1) ahead) front part (omega (arith, above, w.count_is)) f
-      | inr below ↦ back-here ms b (take total ls) w.done l (take (total - count - 1) ahead) from part (omega (arith, below, w.count_is)) k
+    | inl new ↦ listed-more s ms b w.done l c d (w.listed ms h f k) new
+    | inr kept ↦ subst (λ (x : Stored). HaveListedLines s (w.done ++ l ∷ []) b ms x) (sym kept.0) (listed-kept s ms b w.done l c (w.listed ms h f k) (elim kept.1 [
+      | inl above ↦ front-here s ms b (take total ls) w.done l (take (total - count - 1) ahead) front part (omega (arith, above, w.count_is)) f
+      | inr below ↦ back-here s ms b (take total ls) w.done l (take (total - count - 1) ahead) from part (omega (arith, below, w.count_is)) k
     ]))
   ];
 }

@@ -7,31 +7,32 @@ use Rattle.mk_tree.specs.LocatedLines.{LocatedLine, with_last_bytes, context_aft
 use Rattle.mk_index.specs.Blocks.{AreBlocks, AreLinesMentioned, IsExpected, expected_after, lines_in}
 use Rattle.mk_index.specs.Chains.{Mention}
 use Rattle.mk_index.specs.declared.blocks.Block.{Block}
+use Rattle.mk_index.specs.declared.keys.Scope.{Scope}
 
 -- nothing is expected after a stale block
 after-stale : (b : Block) (ls : List LocatedLine) → b.is_stale ≡ true → None ≡ expected_after b ls
 after-stale b ls h = ap (λ (t : Bool). if t then None else Some (context_after_located_lines b.context ls)) (sym h)
 
 -- none of the lines is mentioned, as far as it is known
-no-front : (ms : List Mention) (n : ℕ) (ls : List LocatedLine) (front : ℕ) → front ≡ 0 → AreLinesMentioned ms n (take front ls)
-no-front ms n ls front e = rw e tt
+no-front : (s : Scope) (ms : List Mention) (n : ℕ) (ls : List LocatedLine) (front : ℕ) → front ≡ 0 → AreLinesMentioned s ms n (take front ls)
+no-front s ms n ls front e = rw e tt
 
-no-back : (ms : List Mention) (n : ℕ) (ls : List LocatedLine) (back : ℕ) → back ≡ 0 → AreLinesMentioned ms n (drop (length ls - back) ls)
-no-back ms n ls back e =
+no-back : (s : Scope) (ms : List Mention) (n : ℕ) (ls : List LocatedLine) (back : ℕ) → back ≡ 0 → AreLinesMentioned s ms n (drop (length ls - back) ls)
+no-back s ms n ls back e =
     let none : drop (length ls - back) ls ≡ [] = drop_all (length ls - back) ls (omega (arith, e)) in
-    subst (AreLinesMentioned ms n) (sym none) tt
+    subst (AreLinesMentioned s ms n) (sym none) tt
 
 -- stale blocks of one length, and one more
-pub stale-run : (ms : List Mention) (n : ℕ) (o : Option Context) (ls : List LocatedLine) (k : ℕ) (b last : Block) (end : Context) → IsExpected o b.context → IsExpected o last.context → b.is_stale ≡ true → last.is_stale ≡ true → b.front ≡ 0 → b.back ≡ 0 → last.front ≡ 0 → last.back ≡ 0
-    → k * b.count + last.count ≡ length ls → AreBlocks ms n o ls (replicate k b ++ last ∷ []) end
-stale-run ms n o ls zero b last end eb el sb sl fb bb fl bl sum = record {
+pub stale-run : (s : Scope) (ms : List Mention) (n : ℕ) (o : Option Context) (ls : List LocatedLine) (k : ℕ) (b last : Block) (end : Context) → IsExpected o b.context → IsExpected o last.context → b.is_stale ≡ true → last.is_stale ≡ true → b.front ≡ 0 → b.back ≡ 0 → last.front ≡ 0 → last.back ≡ 0
+    → k * b.count + last.count ≡ length ls → AreBlocks s ms n o ls (replicate k b ++ last ∷ []) end
+stale-run s ms n o ls zero b last end eb el sb sl fb bb fl bl sum = record {
   inside = ls;
   after = [];
   lines_are = let e = take-append-drop (length ls) ls in append-none ls;
   count_is = omega (arith, sum);
   context_is = el;
-  front_is = no-front ms n ls last.front fl;
-  back_is = no-back ms n ls last.back bl;
+  front_is = no-front s ms n ls last.front fl;
+  back_is = no-back s ms n ls last.back bl;
   whole = λ f. absurd (cc);
   next_is = (refl, subst (λ (p : Option Context). IsExpected p end) (after-stale last ls sl) tt);
 }
@@ -39,7 +40,7 @@ stale-run ms n o ls zero b last end eb el sb sl fb bb fl bl sum = record {
     append-none : (xs : List LocatedLine) → xs ≡ xs ++ []
     append-none [] = refl
     append-none (x ∷ xs) = ap (λ (ys : List LocatedLine). x ∷ ys) (append-none xs)
-stale-run ms n o ls (suc k) b last end eb el sb sl fb bb fl bl sum =
+stale-run s ms n o ls (suc k) b last end eb el sb sl fb bb fl bl sum =
     let few : b.count ≤ length ls = grind (arith, sum) in
     let left = length-drop b.count ls in
     record {
@@ -48,18 +49,18 @@ stale-run ms n o ls (suc k) b last end eb el sb sl fb bb fl bl sum =
       lines_are = sym (take-append-drop b.count ls);
       count_is = sym (length-take-le b.count ls few);
       context_is = eb;
-      front_is = no-front ms n (take b.count ls) b.front fb;
-      back_is = no-back ms n (take b.count ls) b.back bb;
+      front_is = no-front s ms n (take b.count ls) b.front fb;
+      back_is = no-back s ms n (take b.count ls) b.back bb;
       whole = λ f. absurd (cc);
-      next_is = subst (λ (p : Option Context). AreBlocks ms (n + 1) p (drop b.count ls) (replicate k b ++ last ∷ []) end) (after-stale b (take b.count ls) sb)
-          (stale-run ms (n + 1) None (drop b.count ls) k b last end tt tt sb sl fb bb fl bl (grind (arith, sum, left)));
+      next_is = subst (λ (p : Option Context). AreBlocks s ms (n + 1) p (drop b.count ls) (replicate k b ++ last ∷ []) end) (after-stale b (take b.count ls) sb)
+          (stale-run s ms (n + 1) None (drop b.count ls) k b last end tt tt sb sl fb bb fl bl (grind (arith, sum, left)));
     }
 
 -- how many lines there are
-pub lines-counted : (ms : List Mention) (n : ℕ) (o : Option Context) (ls : List LocatedLine) (bs : List Block) (end : Context) → AreBlocks ms n o ls bs end → lines_in bs ≡ length ls
-lines-counted ms n o ls [] end h = sym (ap length h.0)
-lines-counted ms n o ls (b ∷ bs) end h =
-    let below = lines-counted ms (n + 1) _ h.after bs end h.next_is in
+pub lines-counted : (s : Scope) (ms : List Mention) (n : ℕ) (o : Option Context) (ls : List LocatedLine) (bs : List Block) (end : Context) → AreBlocks s ms n o ls bs end → lines_in bs ≡ length ls
+lines-counted s ms n o ls [] end h = sym (ap length h.0)
+lines-counted s ms n o ls (b ∷ bs) end h =
+    let below = lines-counted s ms (n + 1) _ h.after bs end h.next_is in
     let e = ap length h.lines_are in
     let m = length-append h.inside h.after in
     omega (arith, below, e, m, h.count_is)

@@ -10,6 +10,7 @@ use Rattle.mk_index.specs.Chains.{AreChainsOf, IsMentioned, Mention, Stored}
 use Rattle.mk_index.specs.Indexes.{AreMarked, PassesByKeys}
 use Rattle.mk_index.specs.Keys.{IsOneOf, hashes_of}
 use Rattle.mk_index.proofs.on_chains.KeyLemmas.{mentioned-one}
+use Rattle.mk_index.specs.declared.keys.Scope.{Scope}
 
 one-of-joined : (h : ℕ) (hs : List ℕ) (k : ℕ) → IsOneOf h (hs ++ k ∷ []) → IsOneOf h hs ⊎ (k ≡ h)
 one-of-joined h [] k is = elim is [ inl e ↦ inr e | inr none ↦ absurd none ]
@@ -31,10 +32,10 @@ marked-more c hs i n k marks new e few is same old kept marked = λ ms chains h 
     ]
 
 -- a test by keys passes no line of a block that is not marked
-pub marked-passes : (test : LocatedLine → Bool) (c : Stored) (hs : List ℕ) (ms : List Mention) (marks : List Bool) → PassesByKeys test hs → AreMarked c hs marks → AreChainsOf ms c → PassesInMarked test ms marks
-marked-passes test c hs ms marks by marked chains = λ b ls within unmarked classed mentioned. go b ls within unmarked classed mentioned
+pub marked-passes : (s : Scope) (test : LocatedLine → Bool) (c : Stored) (hs : List ℕ) (ms : List Mention) (marks : List Bool) → PassesByKeys s test hs → AreMarked c hs marks → AreChainsOf ms c → PassesInMarked s test ms marks
+marked-passes s test c hs ms marks by marked chains = λ b ls within unmarked classed mentioned. go b ls within unmarked classed mentioned
   where
-    go : (b : ℕ) (ls : List LocatedLine) → b < length marks → get_or marks b false ≡ false → AreEachClassed ls → AreLinesMentioned ms b ls → NonePasses test ls
+    go : (b : ℕ) (ls : List LocatedLine) → b < length marks → get_or marks b false ≡ false → AreEachClassed ls → AreLinesMentioned s ms b ls → NonePasses test ls
     go b [] within unmarked classed mentioned = tt
     go b (l ∷ ls) within unmarked classed mentioned =
-        (by l classed.0 (λ h one key. absurd (let is = marked ms chains h one b (mentioned-one ms b h (hashes_of l) mentioned.0 key) within in cc)), go b ls within unmarked classed.1 mentioned.1)
+        (by l classed.0 (λ h one key. absurd (let is = marked ms chains h one b (mentioned-one ms b h (hashes_of s l) mentioned.0 key) within in cc)), go b ls within unmarked classed.1 mentioned.1)

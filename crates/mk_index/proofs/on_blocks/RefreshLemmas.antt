@@ -15,33 +15,34 @@ use Rattle.mk_index.proofs.on_blocks.GroupLemmas.{fresh-split, lines_in-below}
 use Rattle.mk_index.proofs.on_blocks.ListedLemmas.{lines-mentioned-more}
 use Rattle.mk_index.proofs.on_blocks.PartLemmas.{drop-drop, fewer-front, further}
 use Rattle.mk_index.proofs.on_blocks.SpliceLemmas.{unexpected}
+use Rattle.mk_index.specs.declared.keys.Scope.{Scope}
 
 -- more mentions leave blocks as they are
-blocks-more : (added ms : List Mention) (n : ℕ) (o : Option Context) (ls : List LocatedLine) (bs : List Block) (end : Context) → AreBlocks ms n o ls bs end → AreBlocks (added ++ ms) n o ls bs end
-blocks-more added ms n o ls [] end h = h
-blocks-more added ms n o ls (b ∷ bs) end h = record {
+blocks-more : (s : Scope) (added ms : List Mention) (n : ℕ) (o : Option Context) (ls : List LocatedLine) (bs : List Block) (end : Context) → AreBlocks s ms n o ls bs end → AreBlocks s (added ++ ms) n o ls bs end
+blocks-more s added ms n o ls [] end h = h
+blocks-more s added ms n o ls (b ∷ bs) end h = record {
   inside = h.inside;
   after = h.after;
   lines_are = h.lines_are;
   count_is = h.count_is;
   context_is = h.context_is;
-  front_is = lines-mentioned-more added ms n (take b.front h.inside) h.front_is;
-  back_is = lines-mentioned-more added ms n (drop (length h.inside - b.back) h.inside) h.back_is;
+  front_is = lines-mentioned-more s added ms n (take b.front h.inside) h.front_is;
+  back_is = lines-mentioned-more s added ms n (drop (length h.inside - b.back) h.inside) h.back_is;
   whole = h.whole;
-  next_is = blocks-more added ms (n + 1) _ h.after bs end h.next_is;
+  next_is = blocks-more s added ms (n + 1) _ h.after bs end h.next_is;
 }
 
-expected-here : (ms : List Mention) (n : ℕ) (o : Option Context) (c : Context) (ls : List LocatedLine) (bs : List Block) (end : Context) → IsExpected o c → AreBlocks ms n (Some c) ls bs end → AreBlocks ms n o ls bs end
-expected-here ms n None c ls bs end e h = unexpected ms n (Some c) ls bs end h
-expected-here ms n (Some d) c ls bs end e h = subst (λ (x : Context). AreBlocks ms n (Some x) ls bs end) e h
+expected-here : (s : Scope) (ms : List Mention) (n : ℕ) (o : Option Context) (c : Context) (ls : List LocatedLine) (bs : List Block) (end : Context) → IsExpected o c → AreBlocks s ms n (Some c) ls bs end → AreBlocks s ms n o ls bs end
+expected-here s ms n None c ls bs end e h = unexpected s ms n (Some c) ls bs end h
+expected-here s ms n (Some d) c ls bs end e h = subst (λ (x : Context). AreBlocks s ms n (Some x) ls bs end) e h
 
 -- blocks, and blocks below them
-blocks-joined : (ms : List Mention) (n m : ℕ) (o : Option Context) (ls ks : List LocatedLine) (bs cs : List Block) (c end : Context) → n + length bs ≡ m → AreBlocks ms n o ls bs c → AreBlocks ms m (Some c) ks cs end → AreBlocks ms n o (ls ++ ks) (bs ++ cs) end
-blocks-joined ms n m o ls ks [] cs c end count above below =
+blocks-joined : (s : Scope) (ms : List Mention) (n m : ℕ) (o : Option Context) (ls ks : List LocatedLine) (bs cs : List Block) (c end : Context) → n + length bs ≡ m → AreBlocks s ms n o ls bs c → AreBlocks s ms m (Some c) ks cs end → AreBlocks s ms n o (ls ++ ks) (bs ++ cs) end
+blocks-joined s ms n m o ls ks [] cs c end count above below =
     let here : m ≡ n = omega (arith, count) in
-    let h : AreBlocks ms n o ks cs end = expected-here ms n o c ks cs end above.1 (subst (λ (k : ℕ). AreBlocks ms k (Some c) ks cs end) here below) in
-    subst (λ (xs : List LocatedLine). AreBlocks ms n o (xs ++ ks) cs end) (sym above.0) h
-blocks-joined ms n m o ls ks (b ∷ bs) cs c end count above below = record {
+    let h : AreBlocks s ms n o ks cs end = expected-here s ms n o c ks cs end above.1 (subst (λ (k : ℕ). AreBlocks s ms k (Some c) ks cs end) here below) in
+    subst (λ (xs : List LocatedLine). AreBlocks s ms n o (xs ++ ks) cs end) (sym above.0) h
+blocks-joined s ms n m o ls ks (b ∷ bs) cs c end count above below = record {
   inside = above.inside;
   after = above.after ++ ks;
   lines_are = ap (λ (xs : List LocatedLine). xs ++ ks) above.lines_are ∙ append_assoc above.inside above.after ks;
@@ -50,15 +51,15 @@ blocks-joined ms n m o ls ks (b ∷ bs) cs c end count above below = record {
   front_is = above.front_is;
   back_is = above.back_is;
   whole = above.whole;
-  next_is = blocks-joined ms (n + 1) m _ above.after ks bs cs c end (omega (arith, count)) above.next_is below;
+  next_is = blocks-joined s ms (n + 1) m _ above.after ks bs cs c end (omega (arith, count)) above.next_is below;
 }
 
 pub expected-fresh : (b : Block) (ls : List LocatedLine) (c : Context) → b.is_stale ≡ false → b.context ≡ c → expected_after b ls ≡ Some (context_after_located_lines c ls)
 expected-fresh b ls c h e = ap (λ (t : Bool). if t then None else Some (context_after_located_lines b.context ls)) h ∙ ap (λ (x : Context). Some (context_after_located_lines x ls)) e
 
 -- one fresh block
-one-block : (ms : List Mention) (n : ℕ) (c : Context) (ls : List LocatedLine) (b : Block) → b.count ≡ length ls → b.context ≡ c → b.is_stale ≡ false → AreLinesMentioned ms n (take b.front ls) → AreLinesMentioned ms n (drop (length ls - b.back) ls) → b.count ≤ b.front + b.back → AreBlocks ms n (Some c) ls (b ∷ []) (context_after_located_lines c ls)
-one-block ms n c ls b count context fresh front back whole = record {
+one-block : (s : Scope) (ms : List Mention) (n : ℕ) (c : Context) (ls : List LocatedLine) (b : Block) → b.count ≡ length ls → b.context ≡ c → b.is_stale ≡ false → AreLinesMentioned s ms n (take b.front ls) → AreLinesMentioned s ms n (drop (length ls - b.back) ls) → b.count ≤ b.front + b.back → AreBlocks s ms n (Some c) ls (b ∷ []) (context_after_located_lines c ls)
+one-block s ms n c ls b count context fresh front back whole = record {
   inside = ls;
   after = [];
   lines_are = sym (append-nil ls);
@@ -77,8 +78,8 @@ fresh-more (c ∷ bs) b h k = (h.0, fresh-more bs b h.1 k)
 -- ---- the walk
 
 -- the walk over an index that stores this
-abbrev pub Refreshing : (doc : List LocatedLine) (c : chains.Stored) (blocks : List Block) (end : Context) (carried : Option Context) (number at : ℕ) → Type 0
-Refreshing doc c blocks end carried number at = IsRefreshed doc (record { chains = c; blocks = blocks; end = end }) carried number at
+abbrev pub Refreshing : (s : Scope) (doc : List LocatedLine) (c : chains.Stored) (blocks : List Block) (end : Context) (carried : Option Context) (number at : ℕ) → Type 0
+Refreshing s doc c blocks end carried number at = IsRefreshed doc (record { scope = s; chains = c; blocks = blocks; end = end }) carried number at
 
 pub refreshing-from : (doc : List LocatedLine) (i : Stored) → IsIndexOf doc i → IsRefreshed doc i None 0 0
 refreshing-from doc i h = record {
@@ -98,19 +99,19 @@ refreshing-from doc i h = record {
 }
 
 -- the block at the number
-pub record BlockHere (doc : List LocatedLine) (c : chains.Stored) (blocks : List Block) (end : Context) (carried : Option Context) (number at : ℕ) (b : Block) (w : Refreshing doc c blocks end carried number at) : Type 0 where
-  pub block : IsBlock w.mentions number w.expected w.rest b (λ p after. AreBlocks w.mentions (number + 1) p after (drop (number + 1) blocks) end)
+pub record BlockHere (s : Scope) (doc : List LocatedLine) (c : chains.Stored) (blocks : List Block) (end : Context) (carried : Option Context) (number at : ℕ) (b : Block) (w : Refreshing s doc c blocks end carried number at) : Type 0 where
+  pub block : IsBlock s w.mentions number w.expected w.rest b (λ p after. AreBlocks s w.mentions (number + 1) p after (drop (number + 1) blocks) end)
   pub within : at + b.count ≤ length doc
   pub lines_are : take b.count (drop at doc) ≡ block.inside
   pub above_is : take at doc ≡ w.done
 
-pub block-here : (doc : List LocatedLine) (c : chains.Stored) (blocks : List Block) (end : Context) (carried : Option Context) (number at : ℕ) (b : Block) (w : Refreshing doc c blocks end carried number at) → suc number ≤ length blocks → b ≡ get_or blocks number b
-    → BlockHere doc c blocks end carried number at b w
-block-here doc c blocks end carried number at b w few is =
+pub block-here : (s : Scope) (doc : List LocatedLine) (c : chains.Stored) (blocks : List Block) (end : Context) (carried : Option Context) (number at : ℕ) (b : Block) (w : Refreshing s doc c blocks end carried number at) → suc number ≤ length blocks → b ≡ get_or blocks number b
+    → BlockHere s doc c blocks end carried number at b w
+block-here s doc c blocks end carried number at b w few is =
     let step : suc number ≡ number + 1 = omega arith in
     let split : drop number blocks ≡ b ∷ drop (number + 1) blocks = drop-cons blocks number b few ∙ (ap (λ (x : Block). x ∷ drop (suc number) blocks) (sym is) ∙ ap (λ (n : ℕ). b ∷ drop n blocks) step) in
-    let k : IsBlock w.mentions number w.expected w.rest b (λ p after. AreBlocks w.mentions (number + 1) p after (drop (number + 1) blocks) end)
-    = subst (λ (bs : List Block). AreBlocks w.mentions number w.expected w.rest bs end) split w.below in
+    let k : IsBlock s w.mentions number w.expected w.rest b (λ p after. AreBlocks s w.mentions (number + 1) p after (drop (number + 1) blocks) end)
+    = subst (λ (bs : List Block). AreBlocks s w.mentions number w.expected w.rest bs end) split w.below in
     let whole : doc ≡ w.done ++ (k.inside ++ k.after) = w.lines_are ∙ ap (λ (xs : List LocatedLine). w.done ++ xs) k.lines_are in
     record {
       block = k;
@@ -134,8 +135,8 @@ head-of (x ∷ blocks) zero b bs e = cc
 head-of (x ∷ blocks) (suc n) b bs e = head-of blocks n b bs e
 
 -- the walk below all blocks
-pub refreshing-over : (doc : List LocatedLine) (c : chains.Stored) (blocks : List Block) (end : Context) (carried : Option Context) (number at m : ℕ) → Refreshing doc c blocks end carried number at → drop number blocks ≡ [] → number ≤ m → Refreshing doc c blocks end carried m at
-refreshing-over doc c blocks end carried number at m w none more =
+refreshing-over : (s : Scope) (doc : List LocatedLine) (c : chains.Stored) (blocks : List Block) (end : Context) (carried : Option Context) (number at m : ℕ) → Refreshing s doc c blocks end carried number at → drop number blocks ≡ [] → number ≤ m → Refreshing s doc c blocks end carried m at
+refreshing-over s doc c blocks end carried number at m w none more =
     let past : length blocks ≤ number = let l = ap length none in let k = length-drop number blocks in omega (arith, l, k) in
     let same : take number blocks ≡ take m blocks = take_all number blocks past ∙ sym (take_all m blocks (omega (arith, past, more))) in
     let end_too : drop m blocks ≡ [] = drop_all m blocks (omega (arith, past, more)) in
@@ -150,16 +151,16 @@ refreshing-over doc c blocks end carried number at m w none more =
       chains_are = w.chains_are;
       context_is = w.context_is;
       fresh = subst AreFresh same w.fresh;
-      above = subst (λ (bs : List Block). AreBlocks w.mentions 0 (Some start) w.done bs w.context) same w.above;
-      below = subst (λ (bs : List Block). AreBlocks w.mentions m w.expected w.rest bs end) (sym end_too)
-          (subst (λ (bs : List Block). AreBlocks w.mentions number w.expected w.rest bs end) none w.below);
+      above = subst (λ (bs : List Block). AreBlocks s w.mentions 0 (Some start) w.done bs w.context) same w.above;
+      below = subst (λ (bs : List Block). AreBlocks s w.mentions m w.expected w.rest bs end) (sym end_too)
+          (subst (λ (bs : List Block). AreBlocks s w.mentions number w.expected w.rest bs end) none w.below);
       carried_is = w.carried_is;
     }
 
 -- the walk at the end of a group
-pub refreshing-to : (doc : List LocatedLine) (c : chains.Stored) (blocks : List Block) (end : Context) (carried : Option Context) (number at m : ℕ) → Refreshing doc c blocks end carried number at → (number ≡ m) ⊎ (length blocks ≤ number) → number ≤ m → Refreshing doc c blocks end carried m at
-refreshing-to doc c blocks end carried number at m w (inl e) more = subst (λ (n : ℕ). Refreshing doc c blocks end carried n at) e w
-refreshing-to doc c blocks end carried number at m w (inr past) more = refreshing-over doc c blocks end carried number at m w (drop_all number blocks past) more
+pub refreshing-to : (s : Scope) (doc : List LocatedLine) (c : chains.Stored) (blocks : List Block) (end : Context) (carried : Option Context) (number at m : ℕ) → Refreshing s doc c blocks end carried number at → (number ≡ m) ⊎ (length blocks ≤ number) → number ≤ m → Refreshing s doc c blocks end carried m at
+refreshing-to s doc c blocks end carried number at m w (inl e) more = subst (λ (n : ℕ). Refreshing s doc c blocks end carried n at) e w
+refreshing-to s doc c blocks end carried number at m w (inr past) more = refreshing-over s doc c blocks end carried number at m w (drop_all number blocks past) more
 
 -- the lines above are lines of the document
 pub refreshed-within : (doc : List LocatedLine) (i : Stored) (carried : Option Context) (number at : ℕ) → IsRefreshed doc i carried number at → at ≤ length doc
@@ -169,10 +170,10 @@ refreshed-within doc i carried number at w =
     omega (arith, e, m, w.at_is)
 
 -- a block that stays as it is
-pub block-stays : (doc : List LocatedLine) (c : chains.Stored) (blocks : List Block) (end : Context) (carried : Option Context) (number at : ℕ) (b : Block) (w : Refreshing doc c blocks end carried number at) → suc number ≤ length blocks → b ≡ get_or blocks number b
-    → b.is_stale ≡ false → b.context ≡ w.context → Refreshing doc c blocks end None (number + 1) (at + b.count)
-block-stays doc c blocks end carried number at b w few is fresh context =
-    let h = block-here doc c blocks end carried number at b w few is in
+pub block-stays : (s : Scope) (doc : List LocatedLine) (c : chains.Stored) (blocks : List Block) (end : Context) (carried : Option Context) (number at : ℕ) (b : Block) (w : Refreshing s doc c blocks end carried number at) → suc number ≤ length blocks → b ≡ get_or blocks number b
+    → b.is_stale ≡ false → b.context ≡ w.context → Refreshing s doc c blocks end None (number + 1) (at + b.count)
+block-stays s doc c blocks end carried number at b w few is fresh context =
+    let h = block-here s doc c blocks end carried number at b w few is in
     let k = h.block in
     let taken : take (number + 1) blocks ≡ take number blocks ++ b ∷ [] = take_more blocks number b few ∙ ap (λ (x : Block). take number blocks ++ x ∷ []) (sym is) in
     record {
@@ -186,26 +187,26 @@ block-stays doc c blocks end carried number at b w few is fresh context =
       chains_are = w.chains_are;
       context_is = ap (λ (x : Context). context_after_located_lines x k.inside) w.context_is ∙ sym (context_after-append start w.done k.inside);
       fresh = subst AreFresh (sym taken) (fresh-more (take number blocks) b w.fresh fresh);
-      above = subst (λ (bs : List Block). AreBlocks w.mentions 0 (Some start) (w.done ++ k.inside) bs (context_after_located_lines w.context k.inside)) (sym taken)
-          (blocks-joined w.mentions 0 number (Some start) w.done k.inside (take number blocks) (b ∷ []) w.context _ (taken-count blocks number few) w.above
-          (one-block w.mentions number w.context k.inside b k.count_is context fresh k.front_is k.back_is (k.whole fresh)));
+      above = subst (λ (bs : List Block). AreBlocks s w.mentions 0 (Some start) (w.done ++ k.inside) bs (context_after_located_lines w.context k.inside)) (sym taken)
+          (blocks-joined s w.mentions 0 number (Some start) w.done k.inside (take number blocks) (b ∷ []) w.context _ (taken-count blocks number few) w.above
+          (one-block s w.mentions number w.context k.inside b k.count_is context fresh k.front_is k.back_is (k.whole fresh)));
       below = k.next_is;
       carried_is = expected-fresh b k.inside w.context fresh context;
     }
 
 -- a block whose lines are listed anew
-pub block-listed : (doc : List LocatedLine) (c d : chains.Stored) (blocks : List Block) (end : Context) (carried : Option Context) (number at front back : ℕ) (b new : Block) (after : Context) (w : Refreshing doc c blocks end carried number at) → suc number ≤ length blocks → b ≡ get_or blocks number b
+pub block-listed : (s : Scope) (doc : List LocatedLine) (c d : chains.Stored) (blocks : List Block) (end : Context) (carried : Option Context) (number at front back : ℕ) (b new : Block) (after : Context) (w : Refreshing s doc c blocks end carried number at) → suc number ≤ length blocks → b ≡ get_or blocks number b
     → new.count ≡ b.count → new.is_stale ≡ false → new.context ≡ w.context → new.front ≡ new.count → front ≡ b.front → back ≡ b.back
-    → ((ms : List Mention) → AreChainsOf ms c → AreLinesMentioned ms number (take front (take new.count (drop at doc))) → AreLinesMentioned ms number (drop (new.count - back) (take new.count (drop at doc))) → HaveListedLines (take new.count (drop at doc)) number ms d × (after ≡ context_after_located_lines new.context (take new.count (drop at doc))))
-    → Refreshing doc d (set blocks number new) end (Some after) (number + 1) (at + new.count)
-block-listed doc c d blocks end carried number at front back b new after w few is count fresh context all_front front_is back_is made =
-    let h = block-here doc c blocks end carried number at b w few is in
+    → ((ms : List Mention) → AreChainsOf ms c → AreLinesMentioned s ms number (take front (take new.count (drop at doc))) → AreLinesMentioned s ms number (drop (new.count - back) (take new.count (drop at doc))) → HaveListedLines s (take new.count (drop at doc)) number ms d × (after ≡ context_after_located_lines new.context (take new.count (drop at doc))))
+    → Refreshing s doc d (set blocks number new) end (Some after) (number + 1) (at + new.count)
+block-listed s doc c d blocks end carried number at front back b new after w few is count fresh context all_front front_is back_is made =
+    let h = block-here s doc c blocks end carried number at b w few is in
     let k = h.block in
     let lines : take new.count (drop at doc) ≡ k.inside = ap (λ (n : ℕ). take n (drop at doc)) count ∙ h.lines_are in
     let from : length k.inside - b.back ≡ new.count - back = omega (arith, count, k.count_is, back_is) in
     let m = made w.mentions w.chains_are
     (rw (lines, front_is) k.front_is)
-    (rw lines (subst (λ (n : ℕ). AreLinesMentioned w.mentions number (drop n k.inside)) from k.back_is)) in
+    (rw lines (subst (λ (n : ℕ). AreLinesMentioned s w.mentions number (drop n k.inside)) from k.back_is)) in
     let taken : take (number + 1) (set blocks number new) ≡ take number blocks ++ new ∷ [] = take_more_set blocks number new few in
     let all = m.0.added ++ w.mentions in
     record {
@@ -219,70 +220,66 @@ block-listed doc c d blocks end carried number at front back b new after w few i
       chains_are = m.0.chains_are;
       context_is = ap (λ (x : Context). context_after_located_lines x k.inside) w.context_is ∙ sym (context_after-append start w.done k.inside);
       fresh = subst AreFresh (sym taken) (fresh-more (take number blocks) new w.fresh fresh);
-      above = subst (λ (bs : List Block). AreBlocks all 0 (Some start) (w.done ++ k.inside) bs (context_after_located_lines w.context k.inside)) (sym taken)
-          (blocks-joined all 0 number (Some start) w.done k.inside (take number blocks) (new ∷ []) w.context _ (taken-count blocks number few) (blocks-more m.0.added w.mentions 0 (Some start) w.done (take number blocks) w.context w.above)
-          (one-block all number w.context k.inside new (count ∙ k.count_is) context fresh
-          (fewer-front all number k.inside (length k.inside) new.front (omega (arith, all_front, count, k.count_is)) (subst (AreLinesMentioned all number) (sym (take_all (length k.inside) k.inside (omega arith))) (subst (AreLinesMentioned all number) lines m.0.mentioned)))
-          (further all number k.inside 0 (length k.inside - new.back) (omega arith) (subst (AreLinesMentioned all number) lines m.0.mentioned))
+      above = subst (λ (bs : List Block). AreBlocks s all 0 (Some start) (w.done ++ k.inside) bs (context_after_located_lines w.context k.inside)) (sym taken)
+          (blocks-joined s all 0 number (Some start) w.done k.inside (take number blocks) (new ∷ []) w.context _ (taken-count blocks number few) (blocks-more s m.0.added w.mentions 0 (Some start) w.done (take number blocks) w.context w.above)
+          (one-block s all number w.context k.inside new (count ∙ k.count_is) context fresh
+          (fewer-front s all number k.inside (length k.inside) new.front (omega (arith, all_front, count, k.count_is)) (subst (AreLinesMentioned s all number) (sym (take_all (length k.inside) k.inside (omega arith))) (subst (AreLinesMentioned s all number) lines m.0.mentioned)))
+          (further s all number k.inside 0 (length k.inside - new.back) (omega arith) (subst (AreLinesMentioned s all number) lines m.0.mentioned))
           (omega (arith, all_front))));
-      below = subst (λ (bs : List Block). AreBlocks all (number + 1) (expected_after b k.inside) k.after bs end) (sym (drop-set-lt (number + 1) blocks number new (omega arith)))
-          (blocks-more m.0.added w.mentions (number + 1) _ k.after (drop (number + 1) blocks) end k.next_is);
+      below = subst (λ (bs : List Block). AreBlocks s all (number + 1) (expected_after b k.inside) k.after bs end) (sym (drop-set-lt (number + 1) blocks number new (omega arith)))
+          (blocks-more s m.0.added w.mentions (number + 1) _ k.after (drop (number + 1) blocks) end k.next_is);
       carried_is = m.1 ∙ (ap (λ (x : Context). context_after_located_lines x (take new.count (drop at doc))) context ∙ ap (context_after_located_lines w.context) lines);
     }
 
-fresh-both : (xs ys : List Block) → AreFresh xs → AreFresh ys → AreFresh (xs ++ ys)
-fresh-both [] ys h k = k
-fresh-both (b ∷ xs) ys h k = (h.0, fresh-both xs ys h.1 k)
-
 -- the walk over one fresh block, if there is one more
-refreshing-one : (doc : List LocatedLine) (c : chains.Stored) (blocks : List Block) (end : Context) (number at : ℕ) → Refreshing doc c blocks end None number at → AreFresh (take 1 (drop number blocks)) → Refreshing doc c blocks end None (number + 1) (at + lines_in (take 1 (drop number blocks)))
-refreshing-one doc c blocks end number at w fresh = go (drop number blocks) refl
+refreshing-one : (s : Scope) (doc : List LocatedLine) (c : chains.Stored) (blocks : List Block) (end : Context) (number at : ℕ) → Refreshing s doc c blocks end None number at → AreFresh (take 1 (drop number blocks)) → Refreshing s doc c blocks end None (number + 1) (at + lines_in (take 1 (drop number blocks)))
+refreshing-one s doc c blocks end number at w fresh = go (drop number blocks) refl
   where
-    go : (bs : List Block) → drop number blocks ≡ bs → Refreshing doc c blocks end None (number + 1) (at + lines_in (take 1 (drop number blocks)))
-    go [] e = let a : at ≡ at + 0 = omega arith in rw e (subst (λ (x : ℕ). Refreshing doc c blocks end None (number + 1) x) a (refreshing-over doc c blocks end None number at (number + 1) w e (omega arith)))
+    go : (bs : List Block) → drop number blocks ≡ bs → Refreshing s doc c blocks end None (number + 1) (at + lines_in (take 1 (drop number blocks)))
+    go [] e = let a : at ≡ at + 0 = omega arith in rw e (subst (λ (x : ℕ). Refreshing s doc c blocks end None (number + 1) x) a (refreshing-over s doc c blocks end None number at (number + 1) w e (omega arith)))
     go (b ∷ bs) e =
         let few : suc number ≤ length blocks = let l = ap length e in let k = length-drop number blocks in omega (arith, l, k) in
         let is : b ≡ get_or blocks number b = head-of blocks number b bs e in
-        let h = block-here doc c blocks end None number at b w few is in
+        let h = block-here s doc c blocks end None number at b w few is in
         let context : b.context ≡ w.context = subst (λ (o : Option Context). IsExpected o b.context) w.carried_is h.block.context_is in
         let parts : AreFresh (b ∷ []) = subst (λ (xs : List Block). AreFresh (take 1 xs)) e fresh in
-        let next = block-stays doc c blocks end None number at b w few is parts.0 context in
+        let next = block-stays s doc c blocks end None number at b w few is parts.0 context in
         let k : lines_in (take 1 (drop number blocks)) ≡ b.count + 0 = ap (λ (xs : List Block). lines_in (take 1 xs)) e in
         let a : at + b.count ≡ at + lines_in (take 1 (drop number blocks)) = omega (arith, k) in
-        subst (λ (x : ℕ). Refreshing doc c blocks end None (number + 1) x) a next
+        subst (λ (x : ℕ). Refreshing s doc c blocks end None (number + 1) x) a next
 
 -- the walk over some fresh blocks
-pub refreshing-past : (doc : List LocatedLine) (c : chains.Stored) (blocks : List Block) (end : Context) (number at m : ℕ) → Refreshing doc c blocks end None number at → AreFresh (take m (drop number blocks)) → Refreshing doc c blocks end None (number + m) (at + lines_in (take m (drop number blocks)))
-refreshing-past doc c blocks end number at zero w fresh =
+pub refreshing-past : (s : Scope) (doc : List LocatedLine) (c : chains.Stored) (blocks : List Block) (end : Context) (number at m : ℕ) → Refreshing s doc c blocks end None number at → AreFresh (take m (drop number blocks)) → Refreshing s doc c blocks end None (number + m) (at + lines_in (take m (drop number blocks)))
+refreshing-past s doc c blocks end number at zero w fresh =
     let n : number ≡ number + 0 = omega arith in
     let a : at ≡ at + 0 = omega arith in
-    subst (λ (x : ℕ). Refreshing doc c blocks end None x (at + 0)) n (subst (λ (x : ℕ). Refreshing doc c blocks end None number x) a w)
-refreshing-past doc c blocks end number at (suc m) w fresh =
+    subst (λ (x : ℕ). Refreshing s doc c blocks end None x (at + 0)) n (subst (λ (x : ℕ). Refreshing s doc c blocks end None number x) a w)
+refreshing-past s doc c blocks end number at (suc m) w fresh =
     let parts = fresh-split (drop number blocks) m fresh in
-    let one = refreshing-one doc c blocks end number at w parts.0 in
+    let one = refreshing-one s doc c blocks end number at w parts.0 in
     let below : drop 1 (drop number blocks) ≡ drop (number + 1) blocks = drop-drop blocks 1 number in
-    let rest = refreshing-past doc c blocks end (number + 1) (at + lines_in (take 1 (drop number blocks))) m one (subst (λ (xs : List Block). AreFresh (take m xs)) below parts.1) in
+    let rest = refreshing-past s doc c blocks end (number + 1) (at + lines_in (take 1 (drop number blocks))) m one (subst (λ (xs : List Block). AreFresh (take m xs)) below parts.1) in
     let n : number + 1 + m ≡ number + suc m = omega arith in
     let l : lines_in (take m (drop (number + 1) blocks)) ≡ lines_in (take m (drop 1 (drop number blocks))) = ap (λ (xs : List Block). lines_in (take m xs)) (sym below) in
     let one_more : 1 + m ≡ suc m = omega arith in
     let k = lines_in-below (drop number blocks) 1 m in
     let k2 : lines_in (take (1 + m) (drop number blocks)) ≡ lines_in (take (suc m) (drop number blocks)) = ap (λ (i : ℕ). lines_in (take i (drop number blocks))) one_more in
     let a : at + lines_in (take 1 (drop number blocks)) + lines_in (take m (drop (number + 1) blocks)) ≡ at + lines_in (take (suc m) (drop number blocks)) = omega (arith, l, k, k2) in
-    subst (λ (x : ℕ). Refreshing doc c blocks end None x (at + lines_in (take (suc m) (drop number blocks)))) n (subst (λ (x : ℕ). Refreshing doc c blocks end None (number + 1 + m) x) a rest)
+    subst (λ (x : ℕ). Refreshing s doc c blocks end None x (at + lines_in (take (suc m) (drop number blocks)))) n (subst (λ (x : ℕ). Refreshing s doc c blocks end None (number + 1 + m) x) a rest)
 
 -- the walk at its end
-pub refreshing-enough : (doc : List LocatedLine) (c : chains.Stored) (blocks : List Block) (end : Context) (carried : Option Context) (number at : ℕ) (w : Refreshing doc c blocks end carried number at) (last : Context) → length blocks ≤ number
-    → (carried ≡ None → last ≡ end) → ((x : Context) → carried ≡ Some x → last ≡ x) → IsFreshIndexOf doc (record { chains = c; blocks = blocks; end = last })
-refreshing-enough doc c blocks end carried number at w last past none some =
+pub refreshing-enough : (s : Scope) (doc : List LocatedLine) (c : chains.Stored) (blocks : List Block) (end : Context) (carried : Option Context) (number at : ℕ) (w : Refreshing s doc c blocks end carried number at) (last : Context) → length blocks ≤ number
+    → (carried ≡ None → last ≡ end) → ((x : Context) → carried ≡ Some x → last ≡ x) → IsFreshIndexOf doc (record { scope = s; chains = c; blocks = blocks; end = last })
+refreshing-enough s doc c blocks end carried number at w last past none some =
     let all : take number blocks ≡ blocks = take_more_than blocks number past in
-    let over : AreBlocks w.mentions number w.expected w.rest [] end = subst (λ (bs : List Block). AreBlocks w.mentions number w.expected w.rest bs end) (drop_all number blocks past) w.below in
+    let over : AreBlocks s w.mentions number w.expected w.rest [] end = subst (λ (bs : List Block). AreBlocks s w.mentions number w.expected w.rest bs end) (drop_all number blocks past) w.below in
     let whole : doc ≡ w.done = w.lines_are ∙ (ap (λ (xs : List LocatedLine). w.done ++ xs) over.0 ∙ append-nil w.done) in
     let is : last ≡ w.context = last_is carried w.carried_is none some over.1 in
     record {
       index_is = record {
         mentions = w.mentions;
         chains_are = w.chains_are;
-        blocks_are = rw (whole, is) (subst (λ (bs : List Block). AreBlocks w.mentions 0 (Some start) w.done bs w.context) all w.above);
+        blocks_are = rw (whole, is) (subst (λ (bs : List Block). AreBlocks s w.mentions 0 (Some start) w.done bs w.context) all w.above);
       };
       fresh = subst AreFresh all w.fresh;
     }

@@ -16,6 +16,7 @@ use Rattle.mk_index.proofs.on_blocks.GroupLemmas.{lines_in-below}
 use Rattle.mk_index.proofs.on_blocks.MadeLemmas.{lines-counted}
 use Rattle.mk_index.proofs.on_blocks.PartLemmas.{drop-drop, whole-mentioned}
 use Rattle.mk_index.proofs.on_blocks.RefreshLemmas.{expected-fresh, head-of}
+use Rattle.mk_index.specs.declared.keys.Scope.{Scope}
 
 none-joined : (p : LocatedLine → Bool) (xs ys : List LocatedLine) → NonePasses p xs → NonePasses p ys → NonePasses p (xs ++ ys)
 none-joined p [] ys h k = k
@@ -32,8 +33,8 @@ below-is at n c (l ∷ ls) e =
     let same : at + 1 + length ls ≡ at + n = omega (arith, e) in
     below-is (at + 1) (length ls) (context_after_located c l.class) ls refl ∙ ap (λ (m : ℕ). record { at = m; context = context_after_located_lines c (l ∷ ls) }) same
 
-pub collected-from : (test : LocatedLine → Bool) (doc : List LocatedLine) (ms : List Mention) (blocks : List Block) (end : Context) → AreBlocks ms 0 (Some start) doc blocks end → AreFresh blocks → AreEachClassed doc → HasWindows test doc ms blocks end 0 0 []
-collected-from test doc ms blocks end h fresh classed = record {
+pub collected-from : (s : Scope) (test : LocatedLine → Bool) (doc : List LocatedLine) (ms : List Mention) (blocks : List Block) (end : Context) → AreBlocks s ms 0 (Some start) doc blocks end → AreFresh blocks → AreEachClassed doc → HasWindows s test doc ms blocks end 0 0 []
+collected-from s test doc ms blocks end h fresh classed = record {
   done = [];
   rest = doc;
   context = start;
@@ -54,7 +55,7 @@ each-split [] ys h = (tt, h)
 each-split (x ∷ xs) ys h = let k = each-split xs ys h.1 in ((h.0, k.0), k.1)
 
 -- the block at the number
-pub record FreshHere (test : LocatedLine → Bool) (doc : List LocatedLine) (ms : List Mention) (blocks : List Block) (end : Context) (number at : ℕ) (windows : List Window) (b : Block) (w : HasWindows test doc ms blocks end number at windows) : Type 0 where
+pub record FreshHere (s : Scope) (test : LocatedLine → Bool) (doc : List LocatedLine) (ms : List Mention) (blocks : List Block) (end : Context) (number at : ℕ) (windows : List Window) (b : Block) (w : HasWindows s test doc ms blocks end number at windows) : Type 0 where
   pub inside : List LocatedLine
   pub after : List LocatedLine
   pub rest_is : w.rest ≡ inside ++ after
@@ -63,18 +64,18 @@ pub record FreshHere (test : LocatedLine → Bool) (doc : List LocatedLine) (ms 
   pub context_is : b.context ≡ w.context
   pub is_fresh : b.is_stale ≡ false
   pub fresh : AreFresh (drop (number + 1) blocks)
-  pub mentioned : AreLinesMentioned ms number inside
-  pub below : AreBlocks ms (number + 1) (Some (context_after_located_lines w.context inside)) after (drop (number + 1) blocks) end
+  pub mentioned : AreLinesMentioned s ms number inside
+  pub below : AreBlocks s ms (number + 1) (Some (context_after_located_lines w.context inside)) after (drop (number + 1) blocks) end
   pub within : at + b.count ≤ length doc
 
-pub fresh-here : (test : LocatedLine → Bool) (doc : List LocatedLine) (ms : List Mention) (blocks : List Block) (end : Context) (number at : ℕ) (windows : List Window) (b : Block) (w : HasWindows test doc ms blocks end number at windows) → suc number ≤ length blocks → b ≡ get_or blocks number b
-    → FreshHere test doc ms blocks end number at windows b w
-fresh-here test doc ms blocks end number at windows b w few is =
+pub fresh-here : (s : Scope) (test : LocatedLine → Bool) (doc : List LocatedLine) (ms : List Mention) (blocks : List Block) (end : Context) (number at : ℕ) (windows : List Window) (b : Block) (w : HasWindows s test doc ms blocks end number at windows) → suc number ≤ length blocks → b ≡ get_or blocks number b
+    → FreshHere s test doc ms blocks end number at windows b w
+fresh-here s test doc ms blocks end number at windows b w few is =
     let step : suc number ≡ number + 1 = omega arith in
     let split : drop number blocks ≡ b ∷ drop (number + 1) blocks = drop-cons blocks number b few ∙ (ap (λ (x : Block). x ∷ drop (suc number) blocks) (sym is) ∙ ap (λ (n : ℕ). b ∷ drop n blocks) step) in
     let fresh : AreFresh (b ∷ drop (number + 1) blocks) = subst AreFresh split w.fresh in
-    let k : IsBlock ms number (Some w.context) w.rest b (λ p rest. AreBlocks ms (number + 1) p rest (drop (number + 1) blocks) end)
-    = subst (λ (bs : List Block). AreBlocks ms number (Some w.context) w.rest bs end) split w.below in
+    let k : IsBlock s ms number (Some w.context) w.rest b (λ p rest. AreBlocks s ms (number + 1) p rest (drop (number + 1) blocks) end)
+    = subst (λ (bs : List Block). AreBlocks s ms number (Some w.context) w.rest bs end) split w.below in
     record {
       inside = k.inside;
       after = k.after;
@@ -84,8 +85,8 @@ fresh-here test doc ms blocks end number at windows b w few is =
       context_is = k.context_is;
       is_fresh = fresh.0;
       fresh = fresh.1;
-      mentioned = whole-mentioned ms number k.inside b.front b.back k.front_is k.back_is (let all = k.whole fresh.0 in omega (arith, all, k.count_is));
-      below = subst (λ (o : Option Context). AreBlocks ms (number + 1) o k.after (drop (number + 1) blocks) end) (expected-fresh b k.inside w.context fresh.0 k.context_is) k.next_is;
+      mentioned = whole-mentioned s ms number k.inside b.front b.back k.front_is k.back_is (let all = k.whole fresh.0 in omega (arith, all, k.count_is));
+      below = subst (λ (o : Option Context). AreBlocks s ms (number + 1) o k.after (drop (number + 1) blocks) end) (expected-fresh b k.inside w.context fresh.0 k.context_is) k.next_is;
       within =
           let e = ap length w.lines_are in
           let m = length-append w.done w.rest in
@@ -98,9 +99,9 @@ doc-joined : (doc done rest inside after : List LocatedLine) → doc ≡ done ++
 doc-joined doc done rest inside after e f = e ∙ (ap (λ (xs : List LocatedLine). done ++ xs) f ∙ sym (append_assoc done inside after))
 
 -- a block that is not marked
-pub collected-past : (test : LocatedLine → Bool) (doc : List LocatedLine) (ms : List Mention) (blocks : List Block) (end : Context) (number at : ℕ) (windows : List Window) (b : Block) (w : HasWindows test doc ms blocks end number at windows)
-    → (h : FreshHere test doc ms blocks end number at windows b w) → NonePasses test h.inside → HasWindows test doc ms blocks end (number + 1) (at + b.count) windows
-collected-past test doc ms blocks end number at windows b w h idle = record {
+pub collected-past : (s : Scope) (test : LocatedLine → Bool) (doc : List LocatedLine) (ms : List Mention) (blocks : List Block) (end : Context) (number at : ℕ) (windows : List Window) (b : Block) (w : HasWindows s test doc ms blocks end number at windows)
+    → (h : FreshHere s test doc ms blocks end number at windows b w) → NonePasses test h.inside → HasWindows s test doc ms blocks end (number + 1) (at + b.count) windows
+collected-past s test doc ms blocks end number at windows b w h idle = record {
   done = w.done ++ h.inside;
   rest = h.after;
   context = context_after_located_lines w.context h.inside;
@@ -119,9 +120,9 @@ collected-past test doc ms blocks end number at windows b w h idle = record {
 }
 
 -- a block that is marked
-pub collected-more : (test : LocatedLine → Bool) (doc : List LocatedLine) (ms : List Mention) (blocks : List Block) (end : Context) (number at : ℕ) (windows : List Window) (b : Block) (w : HasWindows test doc ms blocks end number at windows)
-    → (h : FreshHere test doc ms blocks end number at windows b w) → HasWindows test doc ms blocks end (number + 1) (at + b.count) (windows ++ record { place = record { at = at; context = b.context }; count = b.count } ∷ [])
-collected-more test doc ms blocks end number at windows b w h = record {
+pub collected-more : (s : Scope) (test : LocatedLine → Bool) (doc : List LocatedLine) (ms : List Mention) (blocks : List Block) (end : Context) (number at : ℕ) (windows : List Window) (b : Block) (w : HasWindows s test doc ms blocks end number at windows)
+    → (h : FreshHere s test doc ms blocks end number at windows b w) → HasWindows s test doc ms blocks end (number + 1) (at + b.count) (windows ++ record { place = record { at = at; context = b.context }; count = b.count } ∷ [])
+collected-more s test doc ms blocks end number at windows b w h = record {
   done = w.done ++ h.inside;
   rest = h.after;
   context = context_after_located_lines w.context h.inside;
@@ -153,11 +154,11 @@ collected-more test doc ms blocks end number at windows b w h = record {
     window = record { place = record { at = at; context = b.context }; count = b.count }
 
 -- the walk at its end
-pub collected-over : (test : LocatedLine → Bool) (doc : List LocatedLine) (ms : List Mention) (blocks : List Block) (end : Context) (number at : ℕ) (windows : List Window) → HasWindows test doc ms blocks end number at windows → length blocks ≤ number
+pub collected-over : (s : Scope) (test : LocatedLine → Bool) (doc : List LocatedLine) (ms : List Mention) (blocks : List Block) (end : Context) (number at : ℕ) (windows : List Window) → HasWindows s test doc ms blocks end number at windows → length blocks ≤ number
     → AreWindows test first_place doc (windows ++ record { place = record { at = at; context = end }; count = 0 } ∷ [])
-collected-over test doc ms blocks end number at windows w past =
+collected-over s test doc ms blocks end number at windows w past =
     let none : drop number blocks ≡ [] = drop_all number blocks past in
-    let over : AreBlocks ms number (Some w.context) w.rest [] end = subst (λ (bs : List Block). AreBlocks ms number (Some w.context) w.rest bs end) none w.below in
+    let over : AreBlocks s ms number (Some w.context) w.rest [] end = subst (λ (bs : List Block). AreBlocks s ms number (Some w.context) w.rest bs end) none w.below in
     let whole : w.done ++ [] ≡ doc = sym (w.lines_are ∙ ap (λ (xs : List LocatedLine). w.done ++ xs) over.0) in
     subst (λ (xs : List LocatedLine). AreWindows test first_place xs (windows ++ record { place = record { at = at; context = end }; count = 0 } ∷ [])) whole
     (w.close [] (record { place = record { at = at; context = end }; count = 0 } ∷ []) (record {
@@ -178,8 +179,8 @@ none-of-none (l ∷ ls) = (refl, none-of-none ls)
 
 -- ---- groups
 
-pub windows-over : (test : LocatedLine → Bool) (doc : List LocatedLine) (ms : List Mention) (blocks : List Block) (end : Context) (number at m : ℕ) (windows : List Window) → HasWindows test doc ms blocks end number at windows → drop number blocks ≡ [] → number ≤ m → HasWindows test doc ms blocks end m at windows
-windows-over test doc ms blocks end number at m windows w none more =
+windows-over : (s : Scope) (test : LocatedLine → Bool) (doc : List LocatedLine) (ms : List Mention) (blocks : List Block) (end : Context) (number at m : ℕ) (windows : List Window) → HasWindows s test doc ms blocks end number at windows → drop number blocks ≡ [] → number ≤ m → HasWindows s test doc ms blocks end m at windows
+windows-over s test doc ms blocks end number at m windows w none more =
     let past : length blocks ≤ number = let l = ap length none in let k = length-drop number blocks in omega (arith, l, k) in
     let end_too : drop m blocks ≡ [] = drop_all m blocks (omega (arith, past, more)) in
     record {
@@ -191,8 +192,8 @@ windows-over test doc ms blocks end number at m windows w none more =
       lines_are = w.lines_are;
       at_is = w.at_is;
       classed = w.classed;
-      below = subst (λ (bs : List Block). AreBlocks ms m (Some w.context) w.rest bs end) (sym end_too)
-          (subst (λ (bs : List Block). AreBlocks ms number (Some w.context) w.rest bs end) none w.below);
+      below = subst (λ (bs : List Block). AreBlocks s ms m (Some w.context) w.rest bs end) (sym end_too)
+          (subst (λ (bs : List Block). AreBlocks s ms number (Some w.context) w.rest bs end) none w.below);
       fresh = subst AreFresh (sym end_too) tt;
       none_passes = w.none_passes;
       place_is = w.place_is;
@@ -200,45 +201,45 @@ windows-over test doc ms blocks end number at m windows w none more =
     }
 
 -- the walk at the end of a group
-pub windows-to : (test : LocatedLine → Bool) (doc : List LocatedLine) (ms : List Mention) (blocks : List Block) (end : Context) (number at m : ℕ) (windows : List Window) → HasWindows test doc ms blocks end number at windows → (number ≡ m) ⊎ (length blocks ≤ number) → number ≤ m → HasWindows test doc ms blocks end m at windows
-windows-to test doc ms blocks end number at m windows w (inl e) more = subst (λ (n : ℕ). HasWindows test doc ms blocks end n at windows) e w
-windows-to test doc ms blocks end number at m windows w (inr past) more = windows-over test doc ms blocks end number at m windows w (drop_all number blocks past) more
+pub windows-to : (s : Scope) (test : LocatedLine → Bool) (doc : List LocatedLine) (ms : List Mention) (blocks : List Block) (end : Context) (number at m : ℕ) (windows : List Window) → HasWindows s test doc ms blocks end number at windows → (number ≡ m) ⊎ (length blocks ≤ number) → number ≤ m → HasWindows s test doc ms blocks end m at windows
+windows-to s test doc ms blocks end number at m windows w (inl e) more = subst (λ (n : ℕ). HasWindows s test doc ms blocks end n at windows) e w
+windows-to s test doc ms blocks end number at m windows w (inr past) more = windows-over s test doc ms blocks end number at m windows w (drop_all number blocks past) more
 
 -- the lines of the blocks below are lines of the document
-pub windows-within : (test : LocatedLine → Bool) (doc : List LocatedLine) (ms : List Mention) (blocks : List Block) (end : Context) (number at : ℕ) (windows : List Window) → HasWindows test doc ms blocks end number at windows → at + lines_in (drop number blocks) ≡ length doc
-windows-within test doc ms blocks end number at windows w =
+pub windows-within : (s : Scope) (test : LocatedLine → Bool) (doc : List LocatedLine) (ms : List Mention) (blocks : List Block) (end : Context) (number at : ℕ) (windows : List Window) → HasWindows s test doc ms blocks end number at windows → at + lines_in (drop number blocks) ≡ length doc
+windows-within s test doc ms blocks end number at windows w =
     let e = ap length w.lines_are in
     let m = length-append w.done w.rest in
-    let below = lines-counted ms number (Some w.context) w.rest (drop number blocks) end w.below in
+    let below = lines-counted s ms number (Some w.context) w.rest (drop number blocks) end w.below in
     omega (arith, e, m, w.at_is, below)
 
 -- the walk over one block that is not marked, if there is one more
-windows-one : (test : LocatedLine → Bool) (doc : List LocatedLine) (ms : List Mention) (marks : List Bool) (blocks : List Block) (end : Context) (number at : ℕ) (windows : List Window) → PassesInMarked test ms marks → length marks ≡ length blocks
-    → get_or marks number false ≡ false → HasWindows test doc ms blocks end number at windows → HasWindows test doc ms blocks end (number + 1) (at + lines_in (take 1 (drop number blocks))) windows
-windows-one test doc ms marks blocks end number at windows idle count mark w = go (drop number blocks) refl
+windows-one : (s : Scope) (test : LocatedLine → Bool) (doc : List LocatedLine) (ms : List Mention) (marks : List Bool) (blocks : List Block) (end : Context) (number at : ℕ) (windows : List Window) → PassesInMarked s test ms marks → length marks ≡ length blocks
+    → get_or marks number false ≡ false → HasWindows s test doc ms blocks end number at windows → HasWindows s test doc ms blocks end (number + 1) (at + lines_in (take 1 (drop number blocks))) windows
+windows-one s test doc ms marks blocks end number at windows idle count mark w = go (drop number blocks) refl
   where
-    go : (bs : List Block) → drop number blocks ≡ bs → HasWindows test doc ms blocks end (number + 1) (at + lines_in (take 1 (drop number blocks))) windows
-    go [] e = let a : at ≡ at + 0 = omega arith in rw e (subst (λ (x : ℕ). HasWindows test doc ms blocks end (number + 1) x windows) a (windows-over test doc ms blocks end number at (number + 1) windows w e (omega arith)))
+    go : (bs : List Block) → drop number blocks ≡ bs → HasWindows s test doc ms blocks end (number + 1) (at + lines_in (take 1 (drop number blocks))) windows
+    go [] e = let a : at ≡ at + 0 = omega arith in rw e (subst (λ (x : ℕ). HasWindows s test doc ms blocks end (number + 1) x windows) a (windows-over s test doc ms blocks end number at (number + 1) windows w e (omega arith)))
     go (b ∷ bs) e =
         let few : suc number ≤ length blocks = let l = ap length e in let k = length-drop number blocks in omega (arith, l, k) in
         let is : b ≡ get_or blocks number b = head-of blocks number b bs e in
-        let h = fresh-here test doc ms blocks end number at windows b w few is in
-        let next = collected-past test doc ms blocks end number at windows b w h (idle number h.inside (omega (arith, few, count)) mark h.classed.0 h.mentioned) in
+        let h = fresh-here s test doc ms blocks end number at windows b w few is in
+        let next = collected-past s test doc ms blocks end number at windows b w h (idle number h.inside (omega (arith, few, count)) mark h.classed.0 h.mentioned) in
         let k : lines_in (take 1 (drop number blocks)) ≡ b.count + 0 = ap (λ (xs : List Block). lines_in (take 1 xs)) e in
         let a : at + b.count ≡ at + lines_in (take 1 (drop number blocks)) = omega (arith, k) in
-        subst (λ (x : ℕ). HasWindows test doc ms blocks end (number + 1) x windows) a next
+        subst (λ (x : ℕ). HasWindows s test doc ms blocks end (number + 1) x windows) a next
 
 -- the walk over some blocks none of which is marked
-pub windows-past : (test : LocatedLine → Bool) (doc : List LocatedLine) (ms : List Mention) (marks : List Bool) (blocks : List Block) (end : Context) (number at m : ℕ) (windows : List Window) → PassesInMarked test ms marks → length marks ≡ length blocks
-    → ((b : ℕ) → number ≤ b → b < number + m → get_or marks b false ≡ false) → HasWindows test doc ms blocks end number at windows → HasWindows test doc ms blocks end (number + m) (at + lines_in (take m (drop number blocks))) windows
-windows-past test doc ms marks blocks end number at zero windows idle count unmarked w =
+pub windows-past : (s : Scope) (test : LocatedLine → Bool) (doc : List LocatedLine) (ms : List Mention) (marks : List Bool) (blocks : List Block) (end : Context) (number at m : ℕ) (windows : List Window) → PassesInMarked s test ms marks → length marks ≡ length blocks
+    → ((b : ℕ) → number ≤ b → b < number + m → get_or marks b false ≡ false) → HasWindows s test doc ms blocks end number at windows → HasWindows s test doc ms blocks end (number + m) (at + lines_in (take m (drop number blocks))) windows
+windows-past s test doc ms marks blocks end number at zero windows idle count unmarked w =
     let n : number ≡ number + 0 = omega arith in
     let a : at ≡ at + 0 = omega arith in
-    subst (λ (x : ℕ). HasWindows test doc ms blocks end x (at + 0) windows) n (subst (λ (x : ℕ). HasWindows test doc ms blocks end number x windows) a w)
-windows-past test doc ms marks blocks end number at (suc m) windows idle count unmarked w =
+    subst (λ (x : ℕ). HasWindows s test doc ms blocks end x (at + 0) windows) n (subst (λ (x : ℕ). HasWindows s test doc ms blocks end number x windows) a w)
+windows-past s test doc ms marks blocks end number at (suc m) windows idle count unmarked w =
     let mark : get_or marks number false ≡ false = unmarked number (omega arith) (omega arith) in
-    let one = windows-one test doc ms marks blocks end number at windows idle count mark w in
-    let rest = windows-past test doc ms marks blocks end (number + 1) (at + lines_in (take 1 (drop number blocks))) m windows idle count (λ k from to. unmarked k (omega (arith, from)) (omega (arith, to))) one in
+    let one = windows-one s test doc ms marks blocks end number at windows idle count mark w in
+    let rest = windows-past s test doc ms marks blocks end (number + 1) (at + lines_in (take 1 (drop number blocks))) m windows idle count (λ k from to. unmarked k (omega (arith, from)) (omega (arith, to))) one in
     let below : drop 1 (drop number blocks) ≡ drop (number + 1) blocks = drop-drop blocks 1 number in
     let n : number + 1 + m ≡ number + suc m = omega arith in
     let l : lines_in (take m (drop (number + 1) blocks)) ≡ lines_in (take m (drop 1 (drop number blocks))) = ap (λ (xs : List Block). lines_in (take m xs)) (sym below) in
@@ -246,4 +247,4 @@ windows-past test doc ms marks blocks end number at (suc m) windows idle count u
     let k = lines_in-below (drop number blocks) 1 m in
     let k2 : lines_in (take (1 + m) (drop number blocks)) ≡ lines_in (take (suc m) (drop number blocks)) = ap (λ (i : ℕ). lines_in (take i (drop number blocks))) one_more in
     let a : at + lines_in (take 1 (drop number blocks)) + lines_in (take m (drop (number + 1) blocks)) ≡ at + lines_in (take (suc m) (drop number blocks)) = omega (arith, l, k, k2) in
-    subst (λ (x : ℕ). HasWindows test doc ms blocks end x (at + lines_in (take (suc m) (drop number blocks))) windows) n (subst (λ (x : ℕ). HasWindows test doc ms blocks end (number + 1 + m) x windows) a rest)
+    subst (λ (x : ℕ). HasWindows s test doc ms blocks end x (at + lines_in (take (suc m) (drop number blocks))) windows) n (subst (λ (x : ℕ). HasWindows s test doc ms blocks end (number + 1 + m) x windows) a rest)

@@ -16,7 +16,7 @@ use Rattle.mk_class.specs.declared.class.Class.TheVariants as variants
 use Rattle.mk_class.specs.Texts.{is_one_of}
 use Rattle.mk_tree.specs.LocatedLines.{LocatedLine, text_of_line}
 use Rattle.mk_edit_language.specs.Addresses.{Address, Variable, Rule}
-use Rattle.mk_edit_parts.specs.RenamedRanges.{word_parts, ArePartsWithin, part_ranges, parts_ranges, renamed_ranges}
+use Rattle.mk_edit_parts.specs.RenamedRanges.{has_parts, span, word_parts, ArePartsWithin, part_ranges, parts_ranges, renamed_ranges}
 use Rattle.mk_edit_parts.specs.declared.word_parts.WordParts.{WordParts}
 use Rattle.mk_edit_parts.specs.LocatedParts.{IsClassed, assigns_in, is_rule_for_in, is_target_in, is_target_located, is_unread_located}
 use Rattle.mk_edit_parts.specs.Seeking.{may_mean}
@@ -26,6 +26,8 @@ use Rattle.mk_edit_parts.proofs.on_renaming.AbsentWords.{part-lacks}
 use Rattle.mk_edit_parts.proofs.on_renaming.RangeLemmas.{part-within}
 use Rattle.mk_index.specs.Chains.{AreMentioned, IsMentioned, Mention, hash_of}
 use Rattle.mk_index.specs.Keys.{IsOneOf, keys_in, words_of_parts, IsKeyOf, hashes_of, keys_of, unread_key}
+use Rattle.mk_index.specs.declared.keys.Scope.{Scope}
+use Rattle.mk_index.specs.declared.keys.Scope.TheVariants.{Names, Words}
 
 -- ---- mentions
 
@@ -51,22 +53,22 @@ mentioned-both ms b (x ∷ hs) ks h k = (h.0, mentioned-both ms b hs ks h.1 k)
 -- ---- the keys of a line
 
 -- the keys of a line that is no assignment
-pub keys-other : (t : List ℕ) (k : class.Class) → ((a : assignment.Assignment) (p : Option ℕ) → k ≡ variants.Assign a p → ⊥) → keys_in t k ≡ words_of_parts t (word_parts k)
-keys-other t (variants.Assign a p) h = absurd (h a p refl)
-keys-other t variants.Endef h = refl
-keys-other t (variants.Body d) h = refl
-keys-other t variants.Recipe h = refl
-keys-other t variants.Opaque h = refl
-keys-other t variants.Blank h = refl
-keys-other t variants.Comment h = refl
-keys-other t (variants.DefineHead p) h = refl
-keys-other t variants.If h = refl
-keys-other t variants.Else h = refl
-keys-other t variants.Endif h = refl
-keys-other t variants.Directive h = refl
-keys-other t (variants.TargetAssign a) h = refl
-keys-other t variants.Rough h = refl
-keys-other t (variants.Header x) h = refl
+pub keys-other : (s : Scope) (t : List ℕ) (k : class.Class) → ((a : assignment.Assignment) (p : Option ℕ) → k ≡ variants.Assign a p → ⊥) → keys_in s t k ≡ words_of_parts s t (word_parts k)
+keys-other s t (variants.Assign a p) h = absurd (h a p refl)
+keys-other s t variants.Endef h = refl
+keys-other s t (variants.Body d) h = refl
+keys-other s t variants.Recipe h = refl
+keys-other s t variants.Opaque h = refl
+keys-other s t variants.Blank h = refl
+keys-other s t variants.Comment h = refl
+keys-other s t (variants.DefineHead p) h = refl
+keys-other s t variants.If h = refl
+keys-other s t variants.Else h = refl
+keys-other s t variants.Endif h = refl
+keys-other s t variants.Directive h = refl
+keys-other s t (variants.TargetAssign a) h = refl
+keys-other s t variants.Rough h = refl
+keys-other s t (variants.Header x) h = refl
 
 hashes-three : (a b c : List (List ℕ)) → (map hash_of a ++ map hash_of b) ++ map hash_of c ≡ map hash_of (a ++ (b ++ c))
 hashes-three a b c =
@@ -75,13 +77,40 @@ hashes-three a b c =
 
 -- the hashes of the words of three parts
 pub hashes-parts : (t u : List ℕ) (p q : WordParts) (x y z : List ℕ) → t ≡ u → p ≡ q → x ≡ text_at t p.targets → y ≡ text_at t p.normal → z ≡ text_at t p.order_only
-    → (map hash_of (words_in x) ++ map hash_of (words_in y)) ++ map hash_of (words_in z) ≡ map hash_of (words_of_parts u q)
+    → (map hash_of (words_in x) ++ map hash_of (words_in y)) ++ map hash_of (words_in z) ≡ map hash_of (words_of_parts Words u q)
 hashes-parts t u p q x y z h i j k l =
     ap (λ w. (map hash_of (words_in w) ++ map hash_of (words_in y)) ++ map hash_of (words_in z)) j
     ∙ (ap (λ w. (map hash_of (words_in (text_at t p.targets)) ++ map hash_of (words_in w)) ++ map hash_of (words_in z)) k
     ∙ (ap (λ w. (map hash_of (words_in (text_at t p.targets)) ++ map hash_of (words_in (text_at t p.normal))) ++ map hash_of (words_in w)) l
     ∙ (hashes-three (words_in (text_at t p.targets)) (words_in (text_at t p.normal)) (words_in (text_at t p.order_only))
-    ∙ (ap (λ v. map hash_of (words_of_parts v p)) h ∙ ap (λ v. map hash_of (words_of_parts u v)) i))))
+    ∙ (ap (λ v. map hash_of (words_of_parts Words v p)) h ∙ ap (λ v. map hash_of (words_of_parts Words u v)) i))))
+
+-- the hashes of the words of one part
+pub hashes-targets : (t u : List ℕ) (p q : WordParts) (x : List ℕ) → t ≡ u → p ≡ q → x ≡ text_at t p.targets → map hash_of (words_in x) ≡ map hash_of (words_of_parts Names u q)
+hashes-targets t u p q x h i j =
+    ap (λ w. map hash_of (words_in w)) j ∙ (ap (λ v. map hash_of (words_of_parts Names v p)) h ∙ ap (λ v. map hash_of (words_of_parts Names u v)) i)
+
+none-of-none : (s : Scope) (t : List ℕ) → words_of_parts s t (record { targets = span 0 0; normal = span 0 0; order_only = span 0 0 }) ≡ []
+none-of-none Names t = refl
+none-of-none Words t = refl
+
+-- a line of a class without parts has no words there
+pub no-words : (s : Scope) (t : List ℕ) (k : class.Class) → has_parts k ≡ false → words_of_parts s t (word_parts k) ≡ []
+no-words s t (variants.Header x) e = absurd (false≢true (sym e))
+no-words s t (variants.TargetAssign a) e = absurd (false≢true (sym e))
+no-words s t (variants.Assign a p) e = none-of-none s t
+no-words s t variants.Endef e = none-of-none s t
+no-words s t (variants.Body d) e = none-of-none s t
+no-words s t variants.Recipe e = none-of-none s t
+no-words s t variants.Opaque e = none-of-none s t
+no-words s t variants.Blank e = none-of-none s t
+no-words s t variants.Comment e = none-of-none s t
+no-words s t (variants.DefineHead p) e = none-of-none s t
+no-words s t variants.If e = none-of-none s t
+no-words s t variants.Else e = none-of-none s t
+no-words s t variants.Endif e = none-of-none s t
+no-words s t variants.Directive e = none-of-none s t
+no-words s t variants.Rough e = none-of-none s t
 
 -- ---- words and their hashes
 
@@ -116,29 +145,29 @@ not-same v w h = go (bytes_eq v w) refl
 -- ---- a line whose keys lack a word
 
 -- a word that is no key of a line
-no-key : (w : List ℕ) (l : LocatedLine) → (IsOneOf (hash_of w) (hashes_of l) → ⊥) → (is_one_of w (unread_key (is_unread_located l)) ≡ false) × (is_one_of w (keys_in (text_of_line l) l.class) ≡ false)
-no-key w l h = not-both w (unread_key (is_unread_located l)) (keys_in (text_of_line l) l.class) (not-one w (keys_of l) h)
+no-key : (s : Scope) (w : List ℕ) (l : LocatedLine) → (IsOneOf (hash_of w) (hashes_of s l) → ⊥) → (is_one_of w (unread_key (is_unread_located l)) ≡ false) × (is_one_of w (keys_in s (text_of_line l) l.class) ≡ false)
+no-key s w l h = not-both w (unread_key (is_unread_located l)) (keys_in s (text_of_line l) l.class) (not-one w (keys_of s l) h)
 
 not-unread : (u : Bool) → is_one_of [] (unread_key u) ≡ false → u ≡ false
 not-unread true h = absurd (false≢true (sym h))
 not-unread false h = refl
 
-not-assigned : (t w : List ℕ) (k : class.Class) → is_one_of w (keys_in t k) ≡ false → assigns_in t w k ≡ false
-not-assigned t w (variants.Assign a p) h = not-same (text_at t a.name) w (or_parts (bytes_eq w (text_at t a.name)) false h).0
-not-assigned t w variants.Endef h = refl
-not-assigned t w (variants.Body d) h = refl
-not-assigned t w variants.Recipe h = refl
-not-assigned t w variants.Opaque h = refl
-not-assigned t w variants.Blank h = refl
-not-assigned t w variants.Comment h = refl
-not-assigned t w (variants.DefineHead p) h = refl
-not-assigned t w variants.If h = refl
-not-assigned t w variants.Else h = refl
-not-assigned t w variants.Endif h = refl
-not-assigned t w variants.Directive h = refl
-not-assigned t w (variants.TargetAssign a) h = refl
-not-assigned t w variants.Rough h = refl
-not-assigned t w (variants.Header x) h = refl
+not-assigned : (s : Scope) (t w : List ℕ) (k : class.Class) → is_one_of w (keys_in s t k) ≡ false → assigns_in t w k ≡ false
+not-assigned s t w (variants.Assign a p) h = not-same (text_at t a.name) w (or_parts (bytes_eq w (text_at t a.name)) false h).0
+not-assigned s t w variants.Endef h = refl
+not-assigned s t w (variants.Body d) h = refl
+not-assigned s t w variants.Recipe h = refl
+not-assigned s t w variants.Opaque h = refl
+not-assigned s t w variants.Blank h = refl
+not-assigned s t w variants.Comment h = refl
+not-assigned s t w (variants.DefineHead p) h = refl
+not-assigned s t w variants.If h = refl
+not-assigned s t w variants.Else h = refl
+not-assigned s t w variants.Endif h = refl
+not-assigned s t w variants.Directive h = refl
+not-assigned s t w (variants.TargetAssign a) h = refl
+not-assigned s t w variants.Rough h = refl
+not-assigned s t w (variants.Header x) h = refl
 
 -- what a word is not that is no word of some parts
 record PartsLack (t w : List ℕ) (p : WordParts) : Type 0 where
@@ -146,28 +175,32 @@ record PartsLack (t w : List ℕ) (p : WordParts) : Type 0 where
   normal : is_one_of w (words_in (text_at t p.normal)) ≡ false
   order_only : is_one_of w (words_in (text_at t p.order_only)) ≡ false
 
-parts-lack : (t w : List ℕ) (p : WordParts) → is_one_of w (words_of_parts t p) ≡ false → PartsLack t w p
+parts-lack : (t w : List ℕ) (p : WordParts) → is_one_of w (words_of_parts Words t p) ≡ false → PartsLack t w p
 parts-lack t w p h =
     let first = not-both w (words_in (text_at t p.targets)) (words_in (text_at t p.normal) ++ words_in (text_at t p.order_only)) h in
     let others = not-both w (words_in (text_at t p.normal)) (words_in (text_at t p.order_only)) first.1 in
     record { targets = first.0; normal = others.0; order_only = others.1 }
 
-not-target : (t w : List ℕ) (k : class.Class) → is_one_of w (keys_in t k) ≡ false → is_target_in t w k ≡ false
-not-target t w (variants.Header x) h = (parts-lack t w (word_parts (variants.Header x)) h).targets
-not-target t w (variants.TargetAssign a) h = (parts-lack t w (word_parts (variants.TargetAssign a)) h).targets
-not-target t w (variants.Assign a p) h = refl
-not-target t w variants.Endef h = refl
-not-target t w (variants.Body d) h = refl
-not-target t w variants.Recipe h = refl
-not-target t w variants.Opaque h = refl
-not-target t w variants.Blank h = refl
-not-target t w variants.Comment h = refl
-not-target t w (variants.DefineHead p) h = refl
-not-target t w variants.If h = refl
-not-target t w variants.Else h = refl
-not-target t w variants.Endif h = refl
-not-target t w variants.Directive h = refl
-not-target t w variants.Rough h = refl
+targets-lack : (s : Scope) (t w : List ℕ) (p : WordParts) → is_one_of w (words_of_parts s t p) ≡ false → is_one_of w (words_in (text_at t p.targets)) ≡ false
+targets-lack Names t w p h = h
+targets-lack Words t w p h = (parts-lack t w p h).targets
+
+not-target : (s : Scope) (t w : List ℕ) (k : class.Class) → is_one_of w (keys_in s t k) ≡ false → is_target_in t w k ≡ false
+not-target s t w (variants.Header x) h = targets-lack s t w (word_parts (variants.Header x)) h
+not-target s t w (variants.TargetAssign a) h = targets-lack s t w (word_parts (variants.TargetAssign a)) h
+not-target s t w (variants.Assign a p) h = refl
+not-target s t w variants.Endef h = refl
+not-target s t w (variants.Body d) h = refl
+not-target s t w variants.Recipe h = refl
+not-target s t w variants.Opaque h = refl
+not-target s t w variants.Blank h = refl
+not-target s t w variants.Comment h = refl
+not-target s t w (variants.DefineHead p) h = refl
+not-target s t w variants.If h = refl
+not-target s t w variants.Else h = refl
+not-target s t w variants.Endif h = refl
+not-target s t w variants.Directive h = refl
+not-target s t w variants.Rough h = refl
 
 -- a line of which a word is no target is no header of a rule for it
 not-rule : (t w : List ℕ) (k : class.Class) → is_target_in t w k ≡ false → is_rule_for_in t w k ≡ false
@@ -188,24 +221,24 @@ not-rule t w variants.Directive h = refl
 not-rule t w variants.Rough h = refl
 
 -- a word that is no key of a line is no target of it
-untargeted : (word : List ℕ) (l : LocatedLine) → (IsOneOf (hash_of word) (hashes_of l) → ⊥) → is_target_located word l ≡ false
-untargeted word l h = not-target (text_of_line l) word l.class (no-key word l h).1
+untargeted : (s : Scope) (word : List ℕ) (l : LocatedLine) → (IsOneOf (hash_of word) (hashes_of s l) → ⊥) → is_target_located word l ≡ false
+untargeted s word l h = not-target s (text_of_line l) word l.class (no-key s word l h).1
 
 -- an address whose key is no key of a line does not mean it
-not-meant : (a : Option Address) (l : LocatedLine) (h : ℕ) → IsKeyOf a h → (IsOneOf h (hashes_of l) → ⊥) → may_mean a l ≡ false
-not-meant None l h key none = refl
-not-meant (Some (Variable nth n)) l h key none = not-assigned (text_of_line l) n l.class (no-key n l (λ m. none (subst (λ i. IsOneOf i (hashes_of l)) (sym key) m))).1
-not-meant (Some (Rule nth t)) l h key none = not-rule (text_of_line l) t l.class (untargeted t l (λ m. none (subst (λ i. IsOneOf i (hashes_of l)) (sym key) m)))
+not-meant : (s : Scope) (a : Option Address) (l : LocatedLine) (h : ℕ) → IsKeyOf a h → (IsOneOf h (hashes_of s l) → ⊥) → may_mean a l ≡ false
+not-meant s None l h key none = refl
+not-meant s (Some (Variable nth n)) l h key none = not-assigned s (text_of_line l) n l.class (no-key s n l (λ m. none (subst (λ i. IsOneOf i (hashes_of s l)) (sym key) m))).1
+not-meant s (Some (Rule nth t)) l h key none = not-rule (text_of_line l) t l.class (untargeted s t l (λ m. none (subst (λ i. IsOneOf i (hashes_of s l)) (sym key) m)))
 
 -- a line decides nothing for an address if neither the address's key nor the empty word is a key of
 -- the line
-pub unconcerned : (a : Option Address) (l : LocatedLine) (h : ℕ) → IsKeyOf a h → (IsOneOf h (hashes_of l) → ⊥) → (IsOneOf 0 (hashes_of l) → ⊥) → concerns a l ≡ false
-unconcerned a l h key none read =
-    ap (λ b. b || is_unread_located l) (not-meant a l h key none) ∙ not-unread (is_unread_located l) (no-key [] l read).0
+pub unconcerned : (s : Scope) (a : Option Address) (l : LocatedLine) (h : ℕ) → IsKeyOf a h → (IsOneOf h (hashes_of s l) → ⊥) → (IsOneOf 0 (hashes_of s l) → ⊥) → concerns a l ≡ false
+unconcerned s a l h key none read =
+    ap (λ b. b || is_unread_located l) (not-meant s a l h key none) ∙ not-unread (is_unread_located l) (no-key s [] l read).0
 
 -- a line of which a word is no key has no range in which a rename replaces the word
-unrenamed : (old : List ℕ) (l : LocatedLine) → IsClassed l → (IsOneOf (hash_of old) (hashes_of l) → ⊥) → renamed_ranges old l ≡ []
-unrenamed old l c h = go l.class refl (no-key old l h).1
+unrenamed : (old : List ℕ) (l : LocatedLine) → IsClassed l → (IsOneOf (hash_of old) (hashes_of Words l) → ⊥) → renamed_ranges old l ≡ []
+unrenamed old l c h = go l.class refl (no-key Words old l h).1
   where
     cs : List Cell
     cs = line_cells l.bytes
@@ -215,7 +248,7 @@ unrenamed old l c h = go l.class refl (no-key old l h).1
         ap (λ z. z ++ (part_ranges cs old p.normal ++ part_ranges cs old p.order_only)) (part-lacks cs p.targets old within.0 lack.targets)
         ∙ (ap (λ z. z ++ part_ranges cs old p.order_only) (part-lacks cs p.normal old within.1 lack.normal) ∙ part-lacks cs p.order_only old within.2 lack.order_only)
 
-    go : (k : class.Class) → l.class ≡ k → is_one_of old (keys_in (text_of_line l) k) ≡ false → parts_ranges cs old (word_parts k) ≡ []
+    go : (k : class.Class) → l.class ≡ k → is_one_of old (keys_in Words (text_of_line l) k) ≡ false → parts_ranges cs old (word_parts k) ≡ []
     go (variants.Header x) is lack =
         let seen = seen-header l c x is in
         none (word_parts (variants.Header x)) (part-within _ _ _ _ _ seen.2.targets, part-within _ _ _ _ _ seen.2.normal, part-within _ _ _ _ _ seen.2.order_only) (parts-lack (text_of_line l) old (word_parts (variants.Header x)) lack)
@@ -237,9 +270,9 @@ unrenamed old l c h = go l.class refl (no-key old l h).1
     go variants.Rough is lack = refl
 
 -- a line without the words of a rename does not concern it
-pub unrenaming : (old new : List ℕ) (l : LocatedLine) → IsClassed l → (IsOneOf (hash_of old) (hashes_of l) → ⊥) → (IsOneOf (hash_of new) (hashes_of l) → ⊥) → (IsOneOf 0 (hashes_of l) → ⊥) → concerns_rename old new l ≡ false
+pub unrenaming : (old new : List ℕ) (l : LocatedLine) → IsClassed l → (IsOneOf (hash_of old) (hashes_of Words l) → ⊥) → (IsOneOf (hash_of new) (hashes_of Words l) → ⊥) → (IsOneOf 0 (hashes_of Words l) → ⊥) → concerns_rename old new l ≡ false
 unrenaming old new l classed none_old none_new read =
-    let unread : is_unread_located l ≡ false = unconcerned None l 0 tt read read in
+    let unread : is_unread_located l ≡ false = unconcerned Words None l 0 tt read read in
     let ranges : nat_lt 0 (length (renamed_ranges old l)) ≡ false = ap (λ (xs : List Span). nat_lt 0 (length xs)) (unrenamed old l classed none_old) in
-    let target : is_target_located new l ≡ false = untargeted new l none_new in
+    let target : is_target_located new l ≡ false = untargeted Words new l none_new in
     rw (unread, ranges, target) refl

@@ -16,19 +16,20 @@ use Rattle.mk_index.specs.Indexes as indexes
 use Rattle.mk_index.specs.Indexes.{IsIndexOf}
 use Rattle.mk_index.specs.Keys.{hashes_of, keys_in, unread_key}
 use Rattle.mk_index.specs.declared.blocks.Block.{Block}
+use Rattle.mk_index.specs.declared.keys.Scope.{Scope}
 use Rattle.mk_index.proofs.on_blocks.ChangedLines.{with-back, with-front, with-length, with_lines}
 
 -- one line does for what is known what another does
 record SameRole (k l : LocatedLine) : Type 0 where
-  pub hashes_are : hashes_of k ≡ hashes_of l
+  pub hashes_are : (s : Scope) → hashes_of s k ≡ hashes_of s l
   pub unread_is : is_unread_located k ≡ is_unread_located l
   pub context_is : (c : Context) → context_after_located c k.class ≡ context_after_located c l.class
 
 same-role : (k l : LocatedLine) → AssignSame k l → SameRole k l
 same-role k l h = record {
-  hashes_are = ap (λ (b : Bool). map hash_of (unread_key b ++ keys_in (text_of_line k) k.class)) unread
+  hashes_are = λ s. ap (λ (b : Bool). map hash_of (unread_key b ++ keys_in s (text_of_line k) k.class)) unread
       ∙ ap (λ (keys : List (List ℕ)). map hash_of (unread_key (is_unread_located l) ++ keys))
-      (ap (keys_in (text_of_line k)) h.old_is ∙ (ap (λ (n : List ℕ). n ∷ []) h.name_is ∙ sym (ap (keys_in (text_of_line l)) h.new_is)));
+      (ap (keys_in s (text_of_line k)) h.old_is ∙ (ap (λ (n : List ℕ). n ∷ []) h.name_is ∙ sym (ap (keys_in s (text_of_line l)) h.new_is)));
   unread_is = unread;
   context_is = λ c. ap (context_after_located c) h.old_is ∙ sym (ap (context_after_located c) h.new_is);
 }
@@ -47,24 +48,24 @@ line_or d (Some x) = x
 step : (at : ℕ) (x l : LocatedLine) (ls : List LocatedLine) → with_line (suc at) l (x ∷ ls) ≡ x ∷ with_line at l ls
 step at x l ls = let n : suc at + 1 ≡ suc (at + 1) = omega arith in ap (λ (m : ℕ). x ∷ (take at ls ++ l ∷ drop m (x ∷ ls))) n
 
-same-front : (ms : List Mention) (n : ℕ) (ls : List LocatedLine) (at front : ℕ) (k l : LocatedLine) → Some k ≡ slice_get ls at → SameRole k l → AreLinesMentioned ms n (take front ls) → AreLinesMentioned ms n (take front (with_line at l ls))
-same-front ms n ls at zero k l there same h = tt
-same-front ms n [] at (suc front) k l there same h = absurd (cc)
-same-front ms n (x ∷ ls) zero (suc front) k l there same h =
+same-front : (s : Scope) (ms : List Mention) (n : ℕ) (ls : List LocatedLine) (at front : ℕ) (k l : LocatedLine) → Some k ≡ slice_get ls at → SameRole k l → AreLinesMentioned s ms n (take front ls) → AreLinesMentioned s ms n (take front (with_line at l ls))
+same-front s ms n ls at zero k l there same h = tt
+same-front s ms n [] at (suc front) k l there same h = absurd (cc)
+same-front s ms n (x ∷ ls) zero (suc front) k l there same h =
     let here : k ≡ x = ap (line_or k) there in
-    (subst (AreMentioned ms n) (ap hashes_of (sym here) ∙ same.hashes_are) h.0, h.1)
-same-front ms n (x ∷ ls) (suc at) (suc front) k l there same h =
-    subst (λ (xs : List LocatedLine). AreLinesMentioned ms n (take (suc front) xs)) (sym (step at x l ls)) (h.0, same-front ms n ls at front k l there same h.1)
+    (subst (AreMentioned ms n) (ap (hashes_of s) (sym here) ∙ same.hashes_are s) h.0, h.1)
+same-front s ms n (x ∷ ls) (suc at) (suc front) k l there same h =
+    subst (λ (xs : List LocatedLine). AreLinesMentioned s ms n (take (suc front) xs)) (sym (step at x l ls)) (h.0, same-front s ms n ls at front k l there same h.1)
 
-same-back : (ms : List Mention) (n : ℕ) (ls : List LocatedLine) (at from : ℕ) (k l : LocatedLine) → Some k ≡ slice_get ls at → SameRole k l → AreLinesMentioned ms n (drop from ls) → AreLinesMentioned ms n (drop from (with_line at l ls))
-same-back ms n [] at from k l there same h = absurd (cc)
-same-back ms n (x ∷ ls) zero zero k l there same h =
+same-back : (s : Scope) (ms : List Mention) (n : ℕ) (ls : List LocatedLine) (at from : ℕ) (k l : LocatedLine) → Some k ≡ slice_get ls at → SameRole k l → AreLinesMentioned s ms n (drop from ls) → AreLinesMentioned s ms n (drop from (with_line at l ls))
+same-back s ms n [] at from k l there same h = absurd (cc)
+same-back s ms n (x ∷ ls) zero zero k l there same h =
     let here : k ≡ x = ap (line_or k) there in
-    (subst (AreMentioned ms n) (ap hashes_of (sym here) ∙ same.hashes_are) h.0, h.1)
-same-back ms n (x ∷ ls) zero (suc from) k l there same h = h
-same-back ms n (x ∷ ls) (suc at) zero k l there same h = subst (AreLinesMentioned ms n) (sym (step at x l ls)) (h.0, same-back ms n ls at zero k l there same h.1)
-same-back ms n (x ∷ ls) (suc at) (suc from) k l there same h =
-    subst (λ (xs : List LocatedLine). AreLinesMentioned ms n (drop (suc from) xs)) (sym (step at x l ls)) (same-back ms n ls at from k l there same h)
+    (subst (AreMentioned ms n) (ap (hashes_of s) (sym here) ∙ same.hashes_are s) h.0, h.1)
+same-back s ms n (x ∷ ls) zero (suc from) k l there same h = h
+same-back s ms n (x ∷ ls) (suc at) zero k l there same h = subst (AreLinesMentioned s ms n) (sym (step at x l ls)) (h.0, same-back s ms n ls at zero k l there same h.1)
+same-back s ms n (x ∷ ls) (suc at) (suc from) k l there same h =
+    subst (λ (xs : List LocatedLine). AreLinesMentioned s ms n (drop (suc from) xs)) (sym (step at x l ls)) (same-back s ms n ls at from k l there same h)
 
 context-same : (c : Context) (ls : List LocatedLine) (at : ℕ) (k l : LocatedLine) → Some k ≡ slice_get ls at → SameRole k l → context_after_located_lines c (with_line at l ls) ≡ context_after_located_lines c ls
 context-same c [] at k l there same = absurd (cc)
@@ -92,9 +93,9 @@ inside-or-below (suc at) k (x ∷ xs) ys there = elim (inside-or-below at k xs y
 expected-same : (b : Block) (xs ys : List LocatedLine) → context_after_located_lines b.context xs ≡ context_after_located_lines b.context ys → expected_after b xs ≡ expected_after b ys
 expected-same b xs ys h = ap (λ (c : Context). if b.is_stale then None else Some c) h
 
-blocks-same : (ms : List Mention) (n : ℕ) (o : Option Context) (ls : List LocatedLine) (bs : List Block) (end : Context) (at : ℕ) (k l : LocatedLine) → Some k ≡ slice_get ls at → SameRole k l → AreBlocks ms n o ls bs end → AreBlocks ms n o (with_line at l ls) bs end
-blocks-same ms n o ls [] end at k l there same h = absurd (let none = there ∙ ap (λ (xs : List LocatedLine). slice_get xs at) h.0 in cc)
-blocks-same ms n o ls (b ∷ bs) end at k l there same h =
+blocks-same : (s : Scope) (ms : List Mention) (n : ℕ) (o : Option Context) (ls : List LocatedLine) (bs : List Block) (end : Context) (at : ℕ) (k l : LocatedLine) → Some k ≡ slice_get ls at → SameRole k l → AreBlocks s ms n o ls bs end → AreBlocks s ms n o (with_line at l ls) bs end
+blocks-same s ms n o ls [] end at k l there same h = absurd (let none = there ∙ ap (λ (xs : List LocatedLine). slice_get xs at) h.0 in cc)
+blocks-same s ms n o ls (b ∷ bs) end at k l there same h =
     elim (inside-or-below at k h.inside h.after (there ∙ ap (λ (xs : List LocatedLine). slice_get xs at) h.lines_are)) [
       | inl i ↦ record {
         inside = with_line at l h.inside;
@@ -102,12 +103,12 @@ blocks-same ms n o ls (b ∷ bs) end at k l there same h =
         lines_are = ap (with_line at l) h.lines_are ∙ with-front at 1 (l ∷ []) h.inside h.after i.1;
         count_is = let c = h.count_is in let m = with-length at 1 (l ∷ []) h.inside i.1 in let f = i.1 in omega (arith, c, m, f);
         context_is = h.context_is;
-        front_is = same-front ms n h.inside at b.front k l i.0 same h.front_is;
+        front_is = same-front s ms n h.inside at b.front k l i.0 same h.front_is;
         back_is =
             let long : length h.inside - b.back ≡ length (with_line at l h.inside) - b.back = let m = with-length at 1 (l ∷ []) h.inside i.1 in let f = i.1 in omega (arith, m, f) in
-            subst (λ (m : ℕ). AreLinesMentioned ms n (drop m (with_line at l h.inside))) long (same-back ms n h.inside at (length h.inside - b.back) k l i.0 same h.back_is);
+            subst (λ (m : ℕ). AreLinesMentioned s ms n (drop m (with_line at l h.inside))) long (same-back s ms n h.inside at (length h.inside - b.back) k l i.0 same h.back_is);
         whole = h.whole;
-        next_is = subst (λ (p : Option Context). AreBlocks ms (n + 1) p h.after bs end) (sym (expected-same b (with_line at l h.inside) h.inside (context-same b.context h.inside at k l i.0 same))) h.next_is;
+        next_is = subst (λ (p : Option Context). AreBlocks s ms (n + 1) p h.after bs end) (sym (expected-same b (with_line at l h.inside) h.inside (context-same b.context h.inside at k l i.0 same))) h.next_is;
       }
       | inr i ↦ record {
         inside = h.inside;
@@ -118,13 +119,13 @@ blocks-same ms n o ls (b ∷ bs) end at k l there same h =
         front_is = h.front_is;
         back_is = h.back_is;
         whole = h.whole;
-        next_is = blocks-same ms (n + 1) _ h.after bs end i.0 k l i.2 same h.next_is;
+        next_is = blocks-same s ms (n + 1) _ h.after bs end i.0 k l i.2 same h.next_is;
       }
     ]
 
 index-same : (ls : List LocatedLine) (at : ℕ) (k l : LocatedLine) (o : Option indexes.Stored) → Some k ≡ slice_get ls at → SameRole k l → IfSome o (IsIndexOf ls) → IfSome o (IsIndexOf (with_line at l ls))
 index-same ls at k l None there same h = tt
-index-same ls at k l (Some i) there same h = record { mentions = h.mentions; chains_are = h.chains_are; blocks_are = blocks-same h.mentions 0 (Some start) ls i.blocks i.end at k l there same h.blocks_are }
+index-same ls at k l (Some i) there same h = record { mentions = h.mentions; chains_are = h.chains_are; blocks_are = blocks-same i.scope h.mentions 0 (Some start) ls i.blocks i.end at k l there same h.blocks_are }
 
 end-same : (ls : List LocatedLine) (at : ℕ) (k l : LocatedLine) (o : Option End) → Some k ≡ slice_get ls at → SameRole k l → IfSome o (IsEndOf ls) → IfSome o (IsEndOf (with_line at l ls))
 end-same ls at k l None there same h = tt

@@ -1,4 +1,4 @@
-use Rattle.std.proofs.Common.{◌≡◌, ◌∙◌, ◌+◌, ◌*◌, ◌-◌, ◌≤◌, ◌<◌, ◌⊎◌, inl, inr, ap, arith, length}
+use Rattle.std.proofs.Common.{◌≡◌, ◌∙◌, ◌+◌, ◌*◌, ◌≤◌, ◌<◌, ◌⊎◌, inl, inr, ap, arith, length}
 use Rattle.mk_index.specs.declared.blocks.Block.{Block}
 use Rattle.std.proofs.lemmas.Bool.{cases_lt}
 use Rattle.mk_index.proofs.on_blocks.GroupLemmas.{all-of-group, one-more}

@@ -6,7 +6,7 @@ use Rattle.mk_index.proofs.on_blocks.FollowedLemmas.{move-here}
 use Rattle.mk_index.proofs.follow.follow_all.Goals as goal
 
 pub steps-preserved : goal.steps-preserved
-steps-preserved g c = λ ms n o lines end h fit.
-    let before = c.steps.invariant ms n o lines end h fit in
+steps-preserved g c = λ s ms n o lines end h fit.
+    let before = c.steps.invariant s ms n o lines end h fit in
     let here = move-here c.args.patch.now c.steps.at (c.steps.at + 1) (move_of c.in-Some.step.now) lines (omega arith) c.in-Some.ensures before.1 in
-    (subst (λ (ls : List LocatedLine). AreBlocks ms n o ls c.follow.new.blocks end) (sym here.after) (c.if-not-follow.ensures ms n o _ end before.0 here.fits (search rules)), here.below)
+    (subst (λ (ls : List LocatedLine). AreBlocks s ms n o ls c.follow.new.blocks end) (sym here.after) (c.if-not-follow.ensures s ms n o _ end before.0 here.fits (search rules)), here.below)

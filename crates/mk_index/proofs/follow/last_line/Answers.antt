@@ -1,7 +1,7 @@
-use Rattle.std.proofs.Common.{◌≡◌, ◌+◌, ◌*◌, ◌/◌, ◌≤◌, ap, arith, rules, length, take, drop}
+use Rattle.std.proofs.Common.{◌≡◌, ◌+◌, ◌*◌, ◌≤◌, ap, arith, rules, length}
 use Rattle.std.proofs.lemmas.List.{take_all}
-use Rattle.mk_index.specs.Blocks.{blocks_of, lines_in}
-use Rattle.mk_index.proofs.on_blocks.GroupLemmas.{lines_in-below, next-group}
+use Rattle.mk_index.specs.Blocks.{lines_in}
+use Rattle.mk_index.proofs.on_blocks.GroupLemmas.{next-group}
 use Rattle.mk_index.proofs.on_blocks.MadeLemmas.{lines-counted}
 use Rattle.mk_index.proofs.follow.last_line.Goals as goal
 
@@ -14,9 +14,9 @@ groups-preserved g c =
     omega (arith, more, sum, c.group.ensures.lines_are, c.groups.invariant)
 
 pub returns : goal.returns
-returns g c = λ ms n o ls end h.
+returns g c = λ s ms n o ls end h.
     let bs = c.args.blocks.now in
-    let counted = lines-counted ms n o ls bs end h in
+    let counted = lines-counted s ms n o ls bs end h in
     let past : length bs ≤ c.groups.group * 128 = omega (arith, c.groups-test.false, c.group_count-group-end.ensures) in
     let all = ap lines_in (take_all (c.groups.group * 128) bs past) in
     grind (arith, counted, all)

@@ -1,4 +1,4 @@
-use Rattle.std.proofs.Common.{◌+◌, ◌≤◌, refl, arith}
+use Rattle.std.proofs.Common.{arith}
 use Rattle.mk_index.proofs.on_blocks.GroupLemmas.{next-group}
 use Rattle.mk_index.proofs.follow.splice.Goals as goal
 

@@ -1,4 +1,4 @@
-use Rattle.std.proofs.Common.{◌≡◌, ◌∙◌, ◌+◌, ◌*◌, ◌-◌, ◌≤◌, ◌<◌, ◌⊎◌, sym, ap, subst, arith, rules, suc, ℕ, length, take, drop, get_or, false}
+use Rattle.std.proofs.Common.{◌≡◌, ◌∙◌, ◌+◌, ◌*◌, ◌-◌, ◌≤◌, ◌<◌, sym, ap, subst, arith, suc, ℕ, length, take, drop, get_or, false}
 use Rattle.mk_index.specs.Blocks.{lines_in}
 use Rattle.mk_index.specs.Walks.{HasWindows}
 use Rattle.mk_index.proofs.on_blocks.GroupLemmas.{all-of-group, end-is, one-more, within-group}
@@ -27,7 +27,7 @@ numbers-init g c =
     let none : n - first ≡ 0 = omega (arith, e) in
     let k : lines_in (take (n - first) (drop first bs)) ≡ 0 = ap (λ (i : ℕ). lines_in (take i (drop first bs))) none in
     record {
-      windows = λ test ls ms end idle h. subst (λ (i : ℕ). HasWindows test ls ms bs end i c.args.above c.args.windows.now.items) (sym e) h;
+      windows = λ s test ls ms end idle h. subst (λ (i : ℕ). HasWindows s test ls ms bs end i c.args.above c.args.windows.now.items) (sym e) h;
       lines = omega (arith, k);
       from = omega (arith, e);
     }
@@ -41,22 +41,22 @@ numbers-preserved g c =
     let few : suc n ≤ length bs = omega (arith, c.numbers-test.true, c.end_of-number-end.ensures) in
     let more = one-more bs first n b c.numbers.invariant.from few c.block-block.ensures in
     record {
-      windows = λ test ls ms end idle h.
-          let w = c.numbers.invariant.windows test ls ms end idle h in
-          let here = fresh-here test ls ms bs end n c.numbers.at c.numbers.windows.items b w few c.block-block.ensures in
+      windows = λ s test ls ms end idle h.
+          let w = c.numbers.invariant.windows s test ls ms end idle h in
+          let here = fresh-here s test ls ms bs end n c.numbers.at c.numbers.windows.items b w few c.block-block.ensures in
           elim c.if-is_marked.branch [
-            | then-is_marked+in_ok-push k ↦ rw k.windows-is (rw k.in_ok-push.ensures.items (collected-more test ls ms bs end n c.numbers.at c.numbers.windows.items b w here))
+            | then-is_marked+in_ok-push k ↦ rw k.windows-is (rw k.in_ok-push.ensures.items (collected-more s test ls ms bs end n c.numbers.at c.numbers.windows.items b w here))
             | else-is_marked k ↦
                 let within : n < length c.args.marks.now = omega (arith, few, c.requires.marks) in
                 let mark : get_or c.args.marks.now n false ≡ false = sym c.is_marked.ensures ∙ k.if-is_marked.false in
-                rw k.windows-is (collected-past test ls ms bs end n c.numbers.at c.numbers.windows.items b w here (idle n here.inside within mark here.classed.0 here.mentioned))
+                rw k.windows-is (collected-past s test ls ms bs end n c.numbers.at c.numbers.windows.items b w here (idle n here.inside within mark here.classed.0 here.mentioned))
           ];
       lines = omega (arith, more, c.numbers.invariant.lines);
       from = omega (arith, c.numbers.invariant.from);
     }
 
 pub returns : goal.returns
-returns g c = λ test ls ms end idle h.
+returns g c = λ s test ls ms end idle h.
     let bs = c.args.blocks.now in
     let first = c.args.group * 128 in
     let n = c.numbers.number in
@@ -65,5 +65,5 @@ returns g c = λ test ls ms end idle h.
     let over = end-is (length bs) first n c.end_of-number-end.result c.end_of-number-end.ensures c.numbers-test.false to in
     let all = all-of-group bs first n c.numbers.invariant.from over most in
     let lines : c.numbers.at ≡ c.args.above + lines_in (take 128 (drop first bs)) = omega (arith, all, c.numbers.invariant.lines) in
-    let w = windows-to test ls ms bs end n c.numbers.at (first + 128) c.numbers.windows.items (c.numbers.invariant.windows test ls ms end idle h) over most in
-    subst (λ (k : ℕ). HasWindows test ls ms bs end (first + 128) k c.numbers.windows.items) lines w
+    let w = windows-to s test ls ms bs end n c.numbers.at (first + 128) c.numbers.windows.items (c.numbers.invariant.windows s test ls ms end idle h) over most in
+    subst (λ (k : ℕ). HasWindows s test ls ms bs end (first + 128) k c.numbers.windows.items) lines w

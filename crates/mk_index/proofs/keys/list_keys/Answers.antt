@@ -22,26 +22,28 @@ part-name-requires-clause-within g c =
 
 pub returns-in-Assign : goal.returns-in-Assign
 returns-in-Assign g c = λ ms h.
+    let s = c.args.scope in
     let l = line_view c.args.line.now in
     let u = unread_key (is_unread_located l) in
-    let s = c.in_ok-list_unread.ensures ms h in
+    let x = c.in_ok-list_unread.ensures ms h in
     let new = c.list.new.self in
     let hash : c.hash_of.result ≡ hash_of (text_at (text_of_line l) c.in-Assign.assignment.name) =
     c.hash_of.ensures ∙ ap hash_of (c.part-name.ensures ∙ ap (λ t. text_at t c.in-Assign.assignment.name) c.text_of_line.ensures) in
-    let all : map hash_of u ++ c.hash_of.result ∷ [] ≡ hashes_of l =
-    ap (λ x. map hash_of u ++ x ∷ []) hash ∙ (ap (λ k. map hash_of u ++ map hash_of (keys_in (text_of_line l) k)) (sym (sym c.requires.class ∙ c.in-Assign.is)) ∙ sym (map-append hash_of u (keys_in (text_of_line l) l.class))) in
+    let all : map hash_of u ++ c.hash_of.result ∷ [] ≡ hashes_of s l =
+    ap (λ x. map hash_of u ++ x ∷ []) hash ∙ (ap (λ k. map hash_of u ++ map hash_of (keys_in s (text_of_line l) k)) (sym (sym c.requires.class ∙ c.in-Assign.is)) ∙ sym (map-append hash_of u (keys_in s (text_of_line l) l.class))) in
     subst (λ hs. OnOk c.list.result (HaveListed hs c.args.block ms new)) all
-    (on_ok_weaker c.list.result (listed-after (map hash_of u) (c.hash_of.result ∷ []) c.args.block ms c.list_unread.new.chains new s) (c.list.ensures (s.added ++ ms) s.chains_are))
+    (on_ok_weaker c.list.result (listed-after (map hash_of u) (c.hash_of.result ∷ []) c.args.block ms c.list_unread.new.chains new x) (c.list.ensures (x.added ++ ms) x.chains_are))
 
 pub returns-in_default : goal.returns-in_default
 returns-in_default g c = λ ms h.
+    let s = c.args.scope in
     let l = line_view c.args.line.now in
     let t = text_of_line l in
     let u = unread_key (is_unread_located l) in
-    let words = words_of_parts t (word_parts c.args.class.now) in
-    let s = c.in_ok-list_unread.ensures ms h in
+    let words = words_of_parts s t (word_parts c.args.class.now) in
+    let x = c.in_ok-list_unread.ensures ms h in
     let new = c.list_parts.new.chains in
-    let keys : words ≡ keys_in t l.class = sym (keys-other t c.args.class.now c.in_default.not-Assign) ∙ ap (keys_in t) c.requires.class in
-    let all : map hash_of u ++ map hash_of words ≡ hashes_of l = ap (λ ks. map hash_of u ++ map hash_of ks) keys ∙ sym (map-append hash_of u (keys_in t l.class)) in
+    let keys : words ≡ keys_in s t l.class = sym (keys-other s t c.args.class.now c.in_default.not-Assign) ∙ ap (keys_in s t) c.requires.class in
+    let all : map hash_of u ++ map hash_of words ≡ hashes_of s l = ap (λ ks. map hash_of u ++ map hash_of ks) keys ∙ sym (map-append hash_of u (keys_in s t l.class)) in
     subst (λ hs. OnOk c.list_parts.result (HaveListed hs c.args.block ms new)) all
-    (on_ok_weaker c.list_parts.result (listed-after (map hash_of u) (map hash_of words) c.args.block ms c.list_unread.new.chains new s) (c.list_parts.ensures (s.added ++ ms) s.chains_are))
+    (on_ok_weaker c.list_parts.result (listed-after (map hash_of u) (map hash_of words) c.args.block ms c.list_unread.new.chains new x) (c.list_parts.ensures (x.added ++ ms) x.chains_are))

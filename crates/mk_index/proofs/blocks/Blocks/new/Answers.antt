@@ -1,8 +1,7 @@
-use Rattle.std.proofs.Common.{◌≡◌, ◌+◌, ◌/◌, [], ◌∷◌, subst, rules, arith, List, length}
+use Rattle.std.proofs.Common.{◌≡◌, [], ◌∷◌, subst, rules, arith, List, length}
 use Rattle.std.proofs.lemmas.List.{length-append}
-use Rattle.mk_index.specs.Blocks.{AreFirstGroupsOf, IsGroupOf, blocks_of}
+use Rattle.mk_index.specs.Blocks.{IsGroupOf, blocks_of}
 use Rattle.mk_index.specs.declared.blocks.Block.{Block}
-use Rattle.mk_index.specs.declared.blocks.Group.{Group}
 use Rattle.mk_index.proofs.on_blocks.GroupLemmas.{groups-more}
 use Rattle.mk_index.proofs.blocks.Blocks.new.Goals as goal
 

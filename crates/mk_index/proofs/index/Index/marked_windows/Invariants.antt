@@ -8,5 +8,5 @@ use Rattle.mk_index.specs.Walks.{HasWindows}
 use Rattle.mk_index.proofs.index.Index.marked_windows.Given as goal
 
 abbrev pub invariant-groups : goal.invariant-groups
-invariant-groups g l = (test : LocatedLine → Bool) (ms : List Mention) → AreBlocks ms 0 (Some start) l.doc l.self.blocks l.self.end → PassesInMarked test ms l.marks
-    → HasWindows test l.doc ms l.self.blocks l.self.end (l.group * 128) l.at l.windows.items
+invariant-groups g l = (test : LocatedLine → Bool) (ms : List Mention) → AreBlocks l.self.scope ms 0 (Some start) l.doc l.self.blocks l.self.end → PassesInMarked l.self.scope test ms l.marks
+    → HasWindows l.self.scope test l.doc ms l.self.blocks l.self.end (l.group * 128) l.at l.windows.items

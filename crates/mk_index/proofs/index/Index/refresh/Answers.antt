@@ -1,4 +1,4 @@
-use Rattle.std.proofs.Common.{◌≡◌, ◌∙◌, ◌+◌, ◌*◌, ◌/◌, ◌≤◌, refl, sym, ap, subst, arith, ℕ, Option, Some, None, length, false}
+use Rattle.std.proofs.Common.{◌≡◌, ◌∙◌, ◌+◌, ◌*◌, ◌≤◌, refl, sym, ap, subst, arith, ℕ, Option, Some, None, length, false}
 use Rattle.std.specs.Prelude.{is_some}
 use Rattle.mk_class.specs.Contexts.{Context}
 use Rattle.mk_index.specs.Blocks.{AreFresh, blocks_of, lines_in}
@@ -48,11 +48,11 @@ groups-preserved g c =
       | else-may_be_stale+else-is_some b ↦
           let none : c.groups.carried ≡ None = none-carried c.groups.carried (sym b.is_some.ensures ∙ b.if-is_some.false) in
           let fresh : AreFresh (blocks_of k s.blocks) = subst (λ (i : Stored). AreFresh (blocks_of k i.blocks)) c.self-in-groups.view_is (c.group-lines.ensures.are_fresh b.if-may_be_stale.false) in
-          let w = subst (λ (o : Option Context). Refreshing c.args.doc.now s.chains s.blocks s.end o (k * 128) c.groups.at) none c.groups.invariant.walk in
-          let past = refreshing-past c.args.doc.now s.chains s.blocks s.end (k * 128) c.groups.at 128 w fresh in
+          let w = subst (λ (o : Option Context). Refreshing s.scope c.args.doc.now s.chains s.blocks s.end o (k * 128) c.groups.at) none c.groups.invariant.walk in
+          let past = refreshing-past s.scope c.args.doc.now s.chains s.blocks s.end (k * 128) c.groups.at 128 w fresh in
           rw (b.self-is, b.carried-is, none) (record {
-            walk = subst (λ (n : ℕ). Refreshing c.args.doc.now s.chains s.blocks s.end None n (c.groups.at + c.group-lines.result.lines)) next
-                (subst (λ (n : ℕ). Refreshing c.args.doc.now s.chains s.blocks s.end None (k * 128 + 128) n) at past);
+            walk = subst (λ (n : ℕ). Refreshing s.scope c.args.doc.now s.chains s.blocks s.end None n (c.groups.at + c.group-lines.result.lines)) next
+                (subst (λ (n : ℕ). Refreshing s.scope c.args.doc.now s.chains s.blocks s.end None (k * 128 + 128) n) at past);
             count = c.groups.invariant.count;
           })
     ]
@@ -68,9 +68,9 @@ returns-then-self-eq0 g c =
     let s = c.groups.self in
     let first = ap (λ (s : Stored). length s.blocks) c.self.view_is in
     let past : length s.blocks ≤ c.groups.group * 128 = omega (arith, c.groups-test.false, c.group_count-group-end.ensures, c.groups.invariant.count, first) in
-    let over : (last : Context) → (c.groups.carried ≡ None → last ≡ s.end) → ((x : Context) → c.groups.carried ≡ Some x → last ≡ x) → IsFreshIndexOf c.args.doc.now (record { chains = c.self-2.inside.chains; blocks = c.self-2.inside.blocks; end = last })
-    = λ last none some. subst (λ (i : Stored). IsFreshIndexOf c.args.doc.now (record { chains = i.chains; blocks = i.blocks; end = last })) (sym c.self-2.view_is)
-    (refreshing-enough c.args.doc.now s.chains s.blocks s.end c.groups.carried (c.groups.group * 128) c.groups.at c.groups.invariant.walk last past none some) in
+    let over : (last : Context) → (c.groups.carried ≡ None → last ≡ s.end) → ((x : Context) → c.groups.carried ≡ Some x → last ≡ x) → IsFreshIndexOf c.args.doc.now (record { scope = c.self-2.inside.scope; chains = c.self-2.inside.chains; blocks = c.self-2.inside.blocks; end = last })
+    = λ last none some. subst (λ (i : Stored). IsFreshIndexOf c.args.doc.now (record { scope = i.scope; chains = i.chains; blocks = i.blocks; end = last })) (sym c.self-2.view_is)
+    (refreshing-enough s.scope c.args.doc.now s.chains s.blocks s.end c.groups.carried (c.groups.group * 128) c.groups.at c.groups.invariant.walk last past none some) in
     elim c.match-carried.branch [
       | in-Some b ↦ rw b.self-inside-is (over b.in-Some.context (λ e. absurd (let is = b.in-Some.is in cc)) (λ x e. let is = b.in-Some.is in cc))
       | in_default b ↦ rw b.self-inside-is (over c.self-2.inside.end (λ e. ap (λ (i : Stored). i.end) c.self-2.view_is) (λ x e. absurd (let is = b.in_default.is in cc)))
@@ -81,9 +81,9 @@ returns-else-self-eq0 g c =
     let s = c.groups.self in
     let first = ap (λ (s : Stored). length s.blocks) c.self.view_is in
     let past : length s.blocks ≤ c.groups.group * 128 = omega (arith, c.groups-test.false, c.group_count-group-end.ensures, c.groups.invariant.count, first) in
-    let over : (last : Context) → (c.groups.carried ≡ None → last ≡ s.end) → ((x : Context) → c.groups.carried ≡ Some x → last ≡ x) → IsFreshIndexOf c.args.doc.now (record { chains = c.self-2.inside.chains; blocks = c.self-2.inside.blocks; end = last })
-    = λ last none some. subst (λ (i : Stored). IsFreshIndexOf c.args.doc.now (record { chains = i.chains; blocks = i.blocks; end = last })) (sym c.self-2.view_is)
-    (refreshing-enough c.args.doc.now s.chains s.blocks s.end c.groups.carried (c.groups.group * 128) c.groups.at c.groups.invariant.walk last past none some) in
+    let over : (last : Context) → (c.groups.carried ≡ None → last ≡ s.end) → ((x : Context) → c.groups.carried ≡ Some x → last ≡ x) → IsFreshIndexOf c.args.doc.now (record { scope = c.self-2.inside.scope; chains = c.self-2.inside.chains; blocks = c.self-2.inside.blocks; end = last })
+    = λ last none some. subst (λ (i : Stored). IsFreshIndexOf c.args.doc.now (record { scope = i.scope; chains = i.chains; blocks = i.blocks; end = last })) (sym c.self-2.view_is)
+    (refreshing-enough s.scope c.args.doc.now s.chains s.blocks s.end c.groups.carried (c.groups.group * 128) c.groups.at c.groups.invariant.walk last past none some) in
     elim c.match-carried.branch [
       | in-Some b ↦ rw b.self-inside-is (over b.in-Some.context (λ e. absurd (let is = b.in-Some.is in cc)) (λ x e. let is = b.in-Some.is in cc))
       | in_default b ↦ rw b.self-inside-is (over c.self-2.inside.end (λ e. ap (λ (i : Stored). i.end) c.self-2.view_is) (λ x e. absurd (let is = b.in_default.is in cc)))

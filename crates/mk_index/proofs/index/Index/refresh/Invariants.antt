@@ -5,6 +5,6 @@ use Rattle.mk_index.proofs.index.Index.refresh.Given as goal
 
 abbrev pub invariant-groups : goal.invariant-groups
 invariant-groups g l = record {
-  walk : Refreshing l.doc l.self.chains l.self.blocks l.self.end l.carried (l.group * 128) l.at;
+  walk : Refreshing l.self.scope l.doc l.self.chains l.self.blocks l.self.end l.carried (l.group * 128) l.at;
   count : length l.self.blocks ≡ length l.fn.self.blocks;
 }

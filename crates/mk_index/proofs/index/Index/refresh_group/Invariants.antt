@@ -6,7 +6,7 @@ use Rattle.mk_index.proofs.index.Index.refresh_group.Given as goal
 
 abbrev pub invariant-numbers : goal.invariant-numbers
 invariant-numbers g l = record {
-  walk : Refreshing l.doc l.self-inside.chains l.self-inside.blocks l.self-inside.end l.carried l.number l.at;
+  walk : Refreshing l.self-inside.scope l.doc l.self-inside.chains l.self-inside.blocks l.self-inside.end l.carried l.number l.at;
   count : length l.self-inside.blocks ≡ length l.fn.self.blocks;
   below : drop l.number l.self-inside.blocks ≡ drop l.number l.fn.self.blocks;
   lines : l.at ≡ l.above + lines_in (take (l.number - l.group * 128) (drop (l.group * 128) l.fn.self.blocks));
