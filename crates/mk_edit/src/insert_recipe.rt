@@ -47,7 +47,8 @@ pub(crate) fn plan_insert_recipe<A: Allocator + Copy>(
     let Some(at) = recipe_gap(doc, header.at + 1, number) else {
         return Err(Refusal::Absent);
     };
-    if recipe_below(doc, header.at + 1).is_split {
+    let recipe = recipe_below(doc, header.at + 1);
+    if recipe.is_split {
         return Err(Refusal::Straddles);
     }
     let place = after_lines(doc, header, at - header.at);

@@ -310,6 +310,11 @@ const REFUSED_EDITS: [Refused; 13] = [
     (b"a:\n", Step::SetRecipe(b"a", b"x"), Refusal::Absent),
     (b"a:\n", Step::RemoveRecipe(b"a"), Refusal::Absent),
     (
+        b"foo:\nifdef A\n\tx\nendif\n",
+        Step::InsertRecipe(b"foo", b"y"),
+        Refusal::Straddles,
+    ),
+    (
         b"all:\n",
         Step::RenameTarget(b"all", b"include"),
         Refusal::Reserved,

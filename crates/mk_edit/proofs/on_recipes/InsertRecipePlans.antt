@@ -1,5 +1,5 @@
 -- A new recipe line at the place of a number: its place, and the causes that come before those of the place.
-use Rattle.std.proofs.Common.{◌≡◌, refl, sym, ap, ◌∙◌, subst, arith, ℕ, ◌+◌, ◌<◌, ◌≤◌, not, true, false, List, [], ◌∷◌, ◌++◌, map, append_assoc, length, length-append, Option, Some, None, is_some, option_map}
+use Rattle.std.proofs.Common.{◌≡◌, refl, sym, ap, ◌∙◌, subst, arith, ℕ, ◌+◌, ◌<◌, ◌≤◌, not, true, false, List, [], ◌∷◌, ◌++◌, map, length, length-append, Option, Some, None, is_some, option_map}
 use Rattle.std.specs.List.{list_any}
 use Rattle.std.specs.Prelude.{Err, option_and_then}
 use Rattle.std.proofs.lemmas.List.{map-append}
@@ -49,7 +49,7 @@ lines-offsets : (h : StandingLine) (ss : List StandingLine) → map above_count 
 lines-offsets h [] = refl
 lines-offsets h (s ∷ ss) =
     let n : length (h.above ++ h.line ∷ s.above) ≡ length h.above + 1 + length s.above = omega (arith, length-append h.above (h.line ∷ s.above)) in
-    ap (λ m. m ∷ map above_count (map before_line (map (below_header h) ss))) n ∙ ap (λ z. length h.above + 1 + length s.above ∷ z) (lines-offsets h ss)
+    ap (λ m. m ∷ map above_count (map before_line (map (below_header h) ss))) n ∙ ap (λ z. (length h.above + 1 + length s.above) ∷ z) (lines-offsets h ss)
 
 -- and the one after the last
 gap-offsets : (h : StandingLine) → map above_count (recipe_gaps h) ≡ map (λ n. length h.above + 1 + n) (gaps_in h.below)

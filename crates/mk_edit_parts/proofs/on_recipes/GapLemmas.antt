@@ -1,5 +1,5 @@
 -- The place of a number for a new recipe line is that of the recipe line of this number, or the one after the last.
-use Rattle.std.proofs.Common.{◌≡◌, refl, ℕ, zero, suc, ◌+◌, List, [], ◌∷◌, ◌++◌, map, Bool, true, false, length, Option, Some, None, is_some, option_map}
+use Rattle.std.proofs.Common.{◌≡◌, refl, ℕ, zero, suc, ◌+◌, List, [], ◌∷◌, ◌++◌, map, true, false, length, Option, Some, None, is_some, option_map}
 use Rattle.mk_tree.specs.LineTexts.{StandingLine}
 use Rattle.mk_edit_language.specs.Spots.{nth_of}
 use Rattle.mk_edit_parts.specs.RecipeWalks.{follows_recipe}

@@ -1,4 +1,4 @@
-use Rattle.std.proofs.Common.{◌≡◌, ◌∙◌, sym, ap, ◌+◌, length, Some}
+use Rattle.std.proofs.Common.{◌∙◌, sym, ap, length, Some}
 use Rattle.mk_tree.specs.RecipeLines.{recipe_run}
 use Rattle.mk_edit_parts.specs.RecipeWalks.{lines_from, recipe_spots_in}
 use Rattle.mk_edit_parts.proofs.on_recipes.GapLemmas.{gap-some, gap-last, gap-none, none-is}
