@@ -30,6 +30,7 @@ COMMANDS = {
     "recipe": 'recipe {target} "@echo {number}"',
     "recipe-set": 'recipe-set {target} 1 "$(CC) -DNEW={number} -c $<"',
     "recipe-del": "recipe-del {target} 1",
+    "recipe-insert": 'recipe-insert {target} 1 "@echo {number}"',
     "rename": "rename {target} new/{number}.o",
 }
 # How many edits stand in so many commands of a mixture.

@@ -37,6 +37,10 @@ pub fn obey(document: &mut Document, command: &Command<'_>) -> Option<()> {
             document.exchange(recipe_line(document, target, number)?, &[b"\t", line, b"\n"]);
         }
         [b"recipe-del", target, number] => document.take_out(recipe_line(document, target, number)?),
+        [b"recipe-insert", target, number, line] => {
+            let below = place_in_recipe(document, target, number)?;
+            document.put_in(below, &[b"\t", line, b"\n"]);
+        }
         [b"rename", old, new] => rename(document, old, new)?,
         _ => return None,
     }
@@ -132,6 +136,18 @@ fn recipe(document: &Document, header: u32) -> impl Iterator<Item = u32> {
 fn recipe_line(document: &Document, target: &[u8], number: &[u8]) -> Option<u32> {
     let number: usize = str::from_utf8(number).ok()?.parse().ok()?;
     recipe(document, rule(document, target)?).nth(number.checked_sub(1)?)
+}
+
+/// The line of a rule below which a new recipe line gets a number.
+fn place_in_recipe(document: &Document, target: &[u8], number: &[u8]) -> Option<u32> {
+    let number: usize = str::from_utf8(number).ok()?.parse().ok()?;
+    let header = rule(document, target)?;
+    let lines: Vec<u32> = recipe(document, header).collect();
+    match lines.get(number.checked_sub(1)?) {
+        Some(line) => Some(document.before(*line)),
+        None if number == lines.len() + 1 => Some(*lines.last().unwrap_or(&header)),
+        None => None,
+    }
 }
 
 fn unrule(document: &mut Document, target: &[u8]) -> Option<()> {

@@ -113,6 +113,8 @@ def antt_edit(fields):
         return f"(SetRecipe {number} {text(rest[0])} {int(rest[1])} {text(rest[2])})"
     if command == b"recipe-del":
         return f"(RemoveRecipe {number} {text(rest[0])} {int(rest[1])})"
+    if command == b"recipe-insert":
+        return f"(InsertRecipe {number} {text(rest[0])} {int(rest[1])} {text(rest[2])})"
     if command == b"rename":
         return f"(RenameTarget {text(rest[0])} {text(rest[1])})"
     name = {
@@ -177,7 +179,7 @@ IMPORTS = [
     (
         "Rattle.mk_edit_language.specs.Edits",
         ["SetValue", "AppendValue", "AddAssign", "RemoveAssign", "AddRule", "RemoveRule", "AddPrereq", "RemovePrereq"]
-        + ["AddRecipe", "SetRecipe", "RemoveRecipe", "RenameTarget"],
+        + ["AddRecipe", "SetRecipe", "RemoveRecipe", "InsertRecipe", "RenameTarget"],
     ),
     ("Rattle.mk_rows.proofs.edits.Outcomes", ["outcome", "account", "span"]),
     ("Rattle.mk_rows.proofs.edits.Outcomes", ["Becomes", "Refused", "Accepted", "NotMade"]),

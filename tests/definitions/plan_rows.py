@@ -7,8 +7,7 @@ runs each row through the library, and prints which rows it answers in another w
     plan_rows.py            the rows, which the crate keeps as its file stdin
     plan_rows.py --answer   what the program prints where no row differs, its file stdout
 
-The tables are tests/cases/edits/corners.tsv, tests/cases/edits/random.tsv, tests/cases/runs.tsv and
-tests/cases/random-runs.tsv; a name given last, as `corners`, takes that table alone. The rows whose
+The tables are those of tests/cases/edits, tests/cases/runs.tsv and tests/cases/random-runs.tsv; a name given last, as `corners`, takes that table alone. The rows whose
 script or command line has a fault, so that no command runs, are left out (status 2), and the queries,
 which are no edits.
 
@@ -44,6 +43,7 @@ CASES = Path(__file__).resolve().parent.parent / "cases"
 TABLES = {
     "corners": CASES / "edits" / "corners.tsv",
     "random": CASES / "edits" / "random.tsv",
+    "random-recipes": CASES / "edits" / "random-recipes.tsv",
     "runs": CASES / "runs.tsv",
     "random-runs": CASES / "random-runs.tsv",
 }
@@ -84,7 +84,7 @@ def command_column(fields):
         nth = str(int(fields[1]))
         fields = fields[2:]
     word, *rest = fields
-    if word in (b"recipe-set", b"recipe-del"):
+    if word in (b"recipe-set", b"recipe-del", b"recipe-insert"):
         rest[1] = b"%d" % int(rest[1])
     numbers = [] if word in WITHOUT_NUMBER else [nth]
     return " ".join([word.decode(), *numbers, *map(escape_field, rest)])

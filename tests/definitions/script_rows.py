@@ -122,6 +122,9 @@ def edit_of(nth, word, fields):
     if word == b"recipe-del":
         target, number = taken(fields, 2)
         return ("RemoveRecipe", nth, target, number_of(number))
+    if word == b"recipe-insert":
+        target, number, text = taken(fields, 3)
+        return ("InsertRecipe", nth, target, number_of(number), text)
     if word == b"rename" and nth is None:
         return ("RenameTarget", *taken(fields, 2))
     raise NoCommand
@@ -181,7 +184,7 @@ def antt_nth(nth):
 
 
 # Where the number of the line stands that an edit means.
-NTH_FIRST = {"SetValue", "AppendValue", "RemoveAssign", "RemoveRule", "RemovePrereq", "AddRecipe", "SetRecipe", "RemoveRecipe"}
+NTH_FIRST = {"SetValue", "AppendValue", "RemoveAssign", "RemoveRule", "RemovePrereq", "AddRecipe", "SetRecipe", "RemoveRecipe", "InsertRecipe"}
 
 
 def antt_command(name, *arguments):
@@ -217,7 +220,7 @@ IMPORTS = [
     (
         "Rattle.mk_edit_language.specs.Edits",
         ["SetValue", "AppendValue", "AddAssign", "RemoveAssign", "AddRule", "RemoveRule", "AddPrereq", "RemovePrereq"]
-        + ["AddRecipe", "SetRecipe", "RemoveRecipe", "RenameTarget"],
+        + ["AddRecipe", "SetRecipe", "RemoveRecipe", "InsertRecipe", "RenameTarget"],
     ),
     ("Rattle.mk_history.specs.Machine", ["Apply", *CALLS.values()]),
     ("Rattle.mk_script.proofs.on_scripts.ReaderLemmas", ["on_line", "read_script"]),

@@ -33,6 +33,7 @@ EDITS = {
     "recipe": (b"recipe last third", b"END", b"\tthird@END"),
     "recipe-set": (b"recipe-set last 2 third", b"second", b"third"),
     "recipe-del": (b"recipe-del last 1", b"\tfirst\n", b""),
+    "recipe-insert": (b"recipe-insert last 2 third", b"\tsecond", b"\tthird@\tsecond"),
     "rename": (b"rename last final", b"last:", b"final:"),
 }
 BOTTOM = {
@@ -43,7 +44,8 @@ BOTTOM = {
 ALL = (
     b"set LAST two\nappend LAST three\nassign after-var LAST NEW = 1\n"
     b'rule before-rule last new : "a b"\ndepend last c\ndepend-order last d\nundepend last a\n'
-    b"recipe last third\nrecipe-set last 2 fourth\nrecipe-del last 1\nrename last final\n"
+    b"recipe last third\nrecipe-set last 2 fourth\nrecipe-del last 1\n"
+    b"recipe-insert last 2 fifth\nrename last final\n"
     b"unrule final\nunset LAST\n"
 )
 

@@ -360,5 +360,6 @@ FIELDS = {
     "recipe": lambda it: it.for_target(lambda _: it.command()),
     "recipe-set": lambda it: it.for_target(it.number, lambda _: it.command()),
     "recipe-del": lambda it: it.for_target(it.number),
+    "recipe-insert": lambda it: it.for_target(it.number, lambda _: it.command()),
     "rename": Editor.rename,
 }

@@ -154,6 +154,13 @@ def recipe_del(of, nth, target, number):
     return of
 
 
+def recipe_insert(of, nth, target, number, line):
+    at = addressed(of, nth, has_target(target))
+    found = recipe_places(of, at)
+    of.insert([*found, [at, *found][-1] + 1][int(number) - 1], Item("Recipe", (line,)))
+    return of
+
+
 def rename(of, _, old, new):
     def renamed(words):
         return tuple(new if it == old else it for it in words)
@@ -182,6 +189,7 @@ CHANGES = {
     "recipe": recipe,
     "recipe-set": recipe_set,
     "recipe-del": recipe_del,
+    "recipe-insert": recipe_insert,
     "rename": rename,
 }
 

@@ -26,6 +26,7 @@ TABLES = (
     "random-runs",
     "edits/corners",
     "edits/random",
+    "edits/random-recipes",
 )
 ESCAPES = {"\\\\": b"\\", "\\t": b"\t", "\\n": b"\n", "\\r": b"\r"}
 PIECE = re.compile(r"\\x[0-9A-Fa-f]{2}|\\[\\tnr]|[^\\]+")

@@ -1,4 +1,4 @@
-"""The twelve edits, from docs/EDITS.md: when they are refused, what they replace, their stated change.
+"""The edits, from docs/EDITS.md: when they are refused, what they replace, their stated change.
 
 Each edit is a class with the fields that script_rows.py gives a command. plan() tests the causes of
 refusal in their order, and hands out the spans of the edit and the reading that it states.
@@ -359,15 +359,31 @@ class AddRecipe(OfRule):
     def fields(self):
         return [*super().fields(), ("line", self.line, is_command)]
 
+    def place_in(self, doc, at, last):
+        """The index of the line before which the new one goes, by those of the rule and of its last recipe line."""
+        return last + 1
+
     def plan_in(self, doc):
         at = self.find(doc)
         last = max(doc.recipe_lines(at), default=at)
+        place = self.place_in(doc, at, last)
         refuse_straddling(doc, at, last)
-        refuse_open_line(doc, last + 1)
+        refuse_open_line(doc, place)
         items = items_of(doc.lines)
-        items.insert(last + 1, ("Recipe", self.line))
-        prefix = doc.context(last + 1).prefix
-        return [new_line(doc, last + 1, prefix + self.line)], items
+        items.insert(place, ("Recipe", self.line))
+        prefix = doc.context(place).prefix
+        return [new_line(doc, place, prefix + self.line)], items
+
+
+class InsertRecipe(AddRecipe):
+    def __init__(self, nth, target, number, line):
+        super().__init__(nth, target, line)
+        self.number = number
+
+    def place_in(self, doc, at, last):
+        places = [*doc.recipe_lines(at), last + 1]
+        refuse(6, not 1 <= self.number <= len(places))
+        return places[self.number - 1]
 
 
 class OfRecipeLine(OfRule):
@@ -449,6 +465,7 @@ KINDS = (
     AddRecipe,
     SetRecipe,
     RemoveRecipe,
+    InsertRecipe,
     RenameTarget,
 )
 EDITS = {it.__name__: it for it in KINDS}

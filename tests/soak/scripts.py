@@ -33,7 +33,7 @@ OF_RULES = {
     b"recipe": 9,
     b"rename": 9,
 }
-OF_RECIPES = {b"recipe-set": 8, b"recipe-del": 8}
+OF_RECIPES = {b"recipe-set": 8, b"recipe-del": 8, b"recipe-insert": 8}
 NEW_LINES = {b"assign": 10, b"rule": 9}
 GREATEST = 4294967295
 
@@ -246,10 +246,10 @@ class Scripts(Drawing):
         targets = self.targets_of(rules)
         return self.one(targets) if targets and self.chance(0.85) else self.target()
 
-    def recipe_number(self, target):
-        """The number of a recipe line of a rule with this target; seldom 0, or one too many."""
+    def recipe_number(self, target, more=0):
+        """The number of a recipe line of a rule with this target, or of so many below the last; seldom 0, or one too many."""
         rules = self.document.rules(target)
-        most = max((len(self.document.recipe_lines(at)) for at in rules), default=0)
+        most = max((len(self.document.recipe_lines(at)) for at in rules), default=0) + more
         most += 1 if not most or self.chance(0.15) else 0
         return b"%d" % (0 if self.chance(0.03) else self.source.randint(1, most))
 
@@ -261,6 +261,11 @@ class Scripts(Drawing):
     def recipe_del(self):
         target = self.recipe_target()
         return self.of_target(b"recipe-del", target, self.recipe_number(target))
+
+    def recipe_insert(self):
+        target = self.recipe_target()
+        number = self.recipe_number(target, more=1)
+        return self.of_target(b"recipe-insert", target, number, self.line_text())
 
     def rename(self):
         standing = self.targets_of(self.document.lines)

@@ -214,6 +214,16 @@ fn read_recipe_edit(alloc: Global, word: &str, nth: Option<u32>, fields: &[&str]
             target: unescape(alloc, target)?,
             number: read_number(number)?,
         }),
+        ("recipe-insert", [target, number, line]) => {
+            let number = read_number(number)?;
+            let (target, line) = unescape_both(alloc, target, line)?;
+            Ok(Edit::InsertRecipe {
+                nth,
+                target,
+                number,
+                line,
+            })
+        }
         _ => bail!("no edit of a recipe: {word}"),
     }
 }

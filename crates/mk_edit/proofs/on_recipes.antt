@@ -6,4 +6,5 @@ pub mod RemoveRulePlans
 pub mod RecipePlaces
 pub mod RemoveRecipePlans
 pub mod AddRecipePlans
+pub mod InsertRecipePlans
 pub mod SetRecipePlans

@@ -6,7 +6,7 @@ use Rattle.mk_lines.specs.PhysicalLines.{line_end_bytes, file_line_end}
 use Rattle.mk_class.specs.ClassedLines.{classed_lines}
 use Rattle.mk_tree.specs.Documents.{context_of}
 use Rattle.mk_tree.specs.LocatedLines.{LocatedLine, located_text}
-use Rattle.mk_edit_language.specs.Edits.{Place, Bottom, Edit, AddAssign, AddRule, AddRecipe}
+use Rattle.mk_edit_language.specs.Edits.{Place, Bottom, Edit, AddAssign, AddRule, AddRecipe, InsertRecipe}
 use Rattle.mk_edit_language.specs.Stretches.{Stretch}
 use Rattle.mk_edit_language.specs.EditSpans.{spans_of}
 use Rattle.mk_edit_language.specs.LineCauses.{open_line, open_define, leaning, too_long}
@@ -20,6 +20,7 @@ abbrev pub IsOfNewLine : Edit → Type 0
 IsOfNewLine (AddAssign p n f v) = Unit {0}
 IsOfNewLine (AddRule p ts c ws) = Unit {0}
 IsOfNewLine (AddRecipe nth t c) = Unit {0}
+IsOfNewLine (InsertRecipe nth t k c) = Unit {0}
 IsOfNewLine e = ⊥
 
 -- an edit that puts a line in at a place that it names

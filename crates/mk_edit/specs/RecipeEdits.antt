@@ -4,7 +4,7 @@
 use Rattle.std.specs.Prelude.{◌≡◌, ℕ, List, length}
 use Rattle.mk_lines.specs.PhysicalLines.{without_line_end}
 use Rattle.mk_lines.specs.declared.split.Span.{Span}
-use Rattle.mk_edit_language.specs.Edits.{Edit, RemoveRule, AddRecipe, SetRecipe, RemoveRecipe}
+use Rattle.mk_edit_language.specs.Edits.{Edit, RemoveRule, AddRecipe, SetRecipe, RemoveRecipe, InsertRecipe}
 
 -- the removal of a rule
 abbrev pub IsRemoveRule : Edit → Type 0
@@ -25,6 +25,11 @@ IsSetRecipe n c e = ⊥
 abbrev pub IsRemoveRecipe : (number : ℕ) → Edit → Type 0
 IsRemoveRecipe n (RemoveRecipe nth t k) = k ≡ n
 IsRemoveRecipe n e = ⊥
+
+-- a new recipe line at the place of this number
+abbrev pub IsInsertRecipe : (number : ℕ) → Edit → Type 0
+IsInsertRecipe n (InsertRecipe nth t k c) = k ≡ n
+IsInsertRecipe n e = ⊥
 
 -- where the command of a recipe line stands among the line's bytes: after the first byte, up to the
 -- line end

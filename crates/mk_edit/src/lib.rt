@@ -4,7 +4,7 @@
 //! `mk_edit_parts` has the edits as Rust types, the line that each edit means, and the bytes of the
 //! lines that edits write.
 //!
-//! - [`planning`]: `plan`, one call for all twelve edits, and `plan_with`, for a caller who knows
+//! - [`planning`]: `plan`, one call for all edits, and `plan_with`, for a caller who knows
 //!   where the edit's line stands, or which windows of the document a rename concerns.
 //!
 //! The other modules are the crate's own, lowest first:
@@ -16,6 +16,7 @@
 //! - `insertion`: where new lines go, and the causes of refusal that their places decide.
 //! - `add_line`: new lines, planned: those of assignments and of rules.
 //! - `add_recipe`: a new recipe line, planned.
+//! - `insert_recipe`: a new recipe line at the place of a number, planned.
 //! - `header`: the header in the line of a rule.
 //! - `add_prereq`: a new prerequisite, planned.
 //! - `remove_prereq`: a prerequisite taken out, planned.
@@ -34,6 +35,7 @@ mod add_prereq;
 mod add_recipe;
 mod append_value;
 mod header;
+mod insert_recipe;
 mod insertion;
 mod moves;
 pub mod planning;

@@ -10,6 +10,7 @@ use crate::add_line::plan_add_line;
 use crate::add_prereq::plan_add_prereq;
 use crate::add_recipe::plan_add_recipe;
 use crate::append_value::plan_append_value;
+use crate::insert_recipe::plan_insert_recipe;
 use crate::remove_assign::plan_remove_assign;
 use crate::remove_prereq::plan_remove_prereq;
 use crate::remove_recipe::plan_remove_recipe;
@@ -89,6 +90,9 @@ pub fn plan_with<A: Allocator + Copy>(
             plan_set_recipe(alloc, doc, edit, sought, *number, line, meter)
         }
         Edit::RemoveRecipe { number, .. } => plan_remove_recipe(alloc, doc, edit, sought, *number),
+        Edit::InsertRecipe { number, .. } => {
+            plan_insert_recipe(alloc, doc, edit, sought, *number, meter)
+        }
         Edit::RenameTarget { from, to } => plan_rename(alloc, doc, edit, known, from, to, meter),
     }
 }

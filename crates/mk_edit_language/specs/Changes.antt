@@ -19,7 +19,7 @@ use Rattle.mk_class.specs.declared.rule.Separator.TheVariants.{SingleColon, Doub
 use Rattle.mk_tree.specs.Documents.{text_of}
 use Rattle.mk_tree.specs.Items.{Item, Assign, TargetAssign, Header, Recipe, Sets, items, header_item}
 use Rattle.mk_tree.specs.LineTexts.{StandingLine}
-use Rattle.mk_edit_language.specs.Edits.{Edit, SetValue, AppendValue, AddAssign, RemoveAssign, AddRule, RemoveRule, AddPrereq, RemovePrereq, AddRecipe, SetRecipe, RemoveRecipe, RenameTarget}
+use Rattle.mk_edit_language.specs.Edits.{Edit, SetValue, AppendValue, AddAssign, RemoveAssign, AddRule, RemoveRule, AddPrereq, RemovePrereq, AddRecipe, SetRecipe, RemoveRecipe, InsertRecipe, RenameTarget}
 use Rattle.mk_edit_language.specs.Addresses.{Variable, Rule, found}
 use Rattle.mk_edit_language.specs.Stretches.{Stretch, insertion, removal, recipe_found}
 use Rattle.mk_edit_language.specs.ValueSpans.{set_value_span}
@@ -146,6 +146,8 @@ change_of t ls (SetRecipe nth g k c) =
     where_found (with_items (Recipe c ∷ [])) (recipe_found ls nth g k)
 change_of t ls (RemoveRecipe nth g k) =
     where_found without_items (removal ls (RemoveRecipe nth g k))
+change_of t ls (InsertRecipe nth g k c) =
+    where_found (with_item (Recipe c)) (insertion ls (InsertRecipe nth g k c))
 change_of t ls (RenameTarget o n) = map (renamed_item o n) (items ls)
 
 abbrev pub change : (text : List ℕ) → Edit → List Item

@@ -3,7 +3,7 @@
 use Rattle.std.specs.Prelude.{ℕ, Bool, List, length, filter, Option, Some, None}
 use Rattle.std.specs.List.{list_any}
 use Rattle.mk_class.specs.ClassedLines.{ClassedLine, classed_lines}
-use Rattle.mk_edit_language.specs.Edits.{Edit, AddAssign, RemoveAssign, AddRule, RemoveRule, AddRecipe, RemoveRecipe, RenameTarget}
+use Rattle.mk_edit_language.specs.Edits.{Edit, AddAssign, RemoveAssign, AddRule, RemoveRule, AddRecipe, RemoveRecipe, InsertRecipe, RenameTarget}
 use Rattle.mk_edit_language.specs.Stretches.{Stretch, removal}
 use Rattle.mk_edit_language.specs.WordPieces.{renamed_pieces, is_replaced}
 
@@ -29,6 +29,7 @@ abbrev pub size : (text : List ℕ) → Edit → ℕ
 size t (AddAssign p n f v) = 0
 size t (AddRule p ts c ws) = 0
 size t (AddRecipe nth g c) = 0
+size t (InsertRecipe nth g k c) = 0
 size t (RemoveAssign nth n) = 1
 size t (RemoveRecipe nth g k) = 1
 size t (RemoveRule nth g) = line_count (removal (classed_lines t) (RemoveRule nth g))

@@ -10,7 +10,7 @@ use Rattle.mk_class.specs.Classes.Class.{Header}
 use Rattle.mk_class.specs.ClassedLines.{ClassedLine}
 use Rattle.mk_tree.specs.Documents.{text_of}
 use Rattle.mk_tree.specs.LineTexts.{StandingLine}
-use Rattle.mk_edit_language.specs.Edits.{Edit, SetValue, AppendValue, AddAssign, RemoveAssign, AddRule, RemoveRule, AddPrereq, RemovePrereq, AddRecipe, SetRecipe, RemoveRecipe, RenameTarget}
+use Rattle.mk_edit_language.specs.Edits.{Edit, SetValue, AppendValue, AddAssign, RemoveAssign, AddRule, RemoveRule, AddPrereq, RemovePrereq, AddRecipe, SetRecipe, RemoveRecipe, InsertRecipe, RenameTarget}
 use Rattle.mk_edit_language.specs.Addresses.{Variable, Rule, found}
 use Rattle.mk_edit_language.specs.Stretches.{Stretch, insertion, removal, recipe_found}
 use Rattle.mk_edit_language.specs.NewLines.{new_line_span}
@@ -70,4 +70,6 @@ spans_of t ls (AddRecipe nth g c) =
     where_found (new_line_span t (AddRecipe nth g c)) (insertion ls (AddRecipe nth g c))
 spans_of t ls (SetRecipe nth g k c) = where_found (recipe_span c) (recipe_found ls nth g k)
 spans_of t ls (RemoveRecipe nth g k) = where_found removed_span (removal ls (RemoveRecipe nth g k))
+spans_of t ls (InsertRecipe nth g k c) =
+    where_found (new_line_span t (InsertRecipe nth g k c)) (insertion ls (InsertRecipe nth g k c))
 spans_of t ls (RenameTarget o n) = renamed_spans o n 0 ls

@@ -28,4 +28,6 @@ edit_of (edit.RemovePrereq nth target word) = edits.RemovePrereq nth target.item
 edit_of (edit.AddRecipe nth target line) = edits.AddRecipe nth target.items line.items
 edit_of (edit.SetRecipe nth target number line) = edits.SetRecipe nth target.items number line.items
 edit_of (edit.RemoveRecipe nth target number) = edits.RemoveRecipe nth target.items number
+edit_of (edit.InsertRecipe nth target number line) =
+    edits.InsertRecipe nth target.items number line.items
 edit_of (edit.RenameTarget from to) = edits.RenameTarget from.items to.items

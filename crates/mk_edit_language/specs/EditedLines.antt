@@ -4,7 +4,7 @@ use Rattle.std.specs.Prelude.{ℕ, List, [], ◌∷◌, ◌++◌, length}
 use Rattle.mk_lines.specs.Pieces.{Replacement, replaced}
 use Rattle.mk_class.specs.ClassedLines.{ClassedLine, classed}
 use Rattle.mk_tree.specs.Documents.{text_of, context_of}
-use Rattle.mk_edit_language.specs.Edits.{Edit, AddAssign, RemoveAssign, AddRule, RemoveRule, AddRecipe, RemoveRecipe}
+use Rattle.mk_edit_language.specs.Edits.{Edit, AddAssign, RemoveAssign, AddRule, RemoveRule, AddRecipe, RemoveRecipe, InsertRecipe}
 use Rattle.mk_edit_language.specs.Stretches.{Stretch}
 use Rattle.mk_edit_language.specs.NewLines.{new_text, new_line_end}
 
@@ -26,6 +26,7 @@ edited_bytes t (RemoveRecipe nth g k) s rs = []
 edited_bytes t (AddAssign p n f v) s rs = new_line_bytes t (AddAssign p n f v) s ∷ []
 edited_bytes t (AddRule p ts c ws) s rs = new_line_bytes t (AddRule p ts c ws) s ∷ []
 edited_bytes t (AddRecipe nth g c) s rs = new_line_bytes t (AddRecipe nth g c) s ∷ []
+edited_bytes t (InsertRecipe nth g k c) s rs = new_line_bytes t (InsertRecipe nth g k c) s ∷ []
 edited_bytes t e s rs = respanned_bytes s rs ∷ []
 
 -- the edited lines, with the classes that they have below the lines above

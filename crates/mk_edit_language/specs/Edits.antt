@@ -28,4 +28,5 @@ pub data Edit : Type 0 where
   AddRecipe : (nth : Option ℕ) → (target line : List ℕ) → Edit
   SetRecipe : (nth : Option ℕ) → (target : List ℕ) → (number : ℕ) → (line : List ℕ) → Edit
   RemoveRecipe : (nth : Option ℕ) → (target : List ℕ) → (number : ℕ) → Edit
+  InsertRecipe : (nth : Option ℕ) → (target : List ℕ) → (number : ℕ) → (line : List ℕ) → Edit
   RenameTarget : (old new : List ℕ) → Edit

@@ -10,9 +10,9 @@ use Rattle.mk_class.specs.Classes.Class.{Header}
 use Rattle.mk_class.specs.ClassedLines.{ClassedLine}
 use Rattle.mk_tree.specs.RecipeLines.{recipe_run}
 use Rattle.mk_tree.specs.LineTexts.{StandingLine}
-use Rattle.mk_edit_language.specs.Edits.{Edit, AddPrereq, RemovePrereq, RemoveRule, AddRecipe, SetRecipe, RemoveRecipe, RenameTarget}
+use Rattle.mk_edit_language.specs.Edits.{Edit, AddPrereq, RemovePrereq, RemoveRule, AddRecipe, SetRecipe, RemoveRecipe, InsertRecipe, RenameTarget}
 use Rattle.mk_edit_language.specs.Addresses.{Rule, found, targets_of, is_a_target}
-use Rattle.mk_edit_language.specs.Stretches.{recipe_found}
+use Rattle.mk_edit_language.specs.Stretches.{recipe_found, recipe_gap}
 use Rattle.mk_edit_language.specs.Causes.{where_holds}
 use Rattle.mk_edit_language.specs.declared.refusal.Refusal.{Refusal}
 use Rattle.mk_edit_language.specs.declared.refusal.Refusal.TheVariants.{Absent, Already, Taken, SharedRule, Straddles}
@@ -32,7 +32,8 @@ abbrev pub header_passes : (Headers.Header Cell → Bool) → Option (Class Cell
 header_passes p (Some (Header h)) = p h
 header_passes p k = false
 
--- ---- Absent: the word is no prerequisite; there is no recipe line of this number
+-- ---- Absent: the word is no prerequisite; there is no recipe line of this number, or no place of
+-- ---- this number for a new one
 
 -- whether a word is among the normal prerequisites of a header, and among the order-only ones
 abbrev pub is_normal : List ℕ → Headers.Header Cell → Bool
@@ -48,6 +49,7 @@ absent ls (RemovePrereq nth t w) =
     Absent
 absent ls (SetRecipe nth t k c) = where_holds (not (is_some (recipe_found ls nth t k))) Absent
 absent ls (RemoveRecipe nth t k) = where_holds (not (is_some (recipe_found ls nth t k))) Absent
+absent ls (InsertRecipe nth t k c) = where_holds (not (is_some (recipe_gap ls nth t k))) Absent
 absent ls e = None
 
 -- ---- Already: the word is in that list of prerequisites
@@ -90,4 +92,6 @@ has_conditional (Some h) = list_any (λ l. is_conditional l.class) (recipe_run h
 abbrev pub straddles : List ClassedLine → Edit → Option Refusal
 straddles ls (RemoveRule nth t) = where_holds (has_conditional (found ls (Rule nth t))) Straddles
 straddles ls (AddRecipe nth t c) = where_holds (has_conditional (found ls (Rule nth t))) Straddles
+straddles ls (InsertRecipe nth t k c) =
+    where_holds (has_conditional (found ls (Rule nth t))) Straddles
 straddles ls e = None

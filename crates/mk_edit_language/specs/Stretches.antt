@@ -5,7 +5,7 @@ use Rattle.mk_class.specs.Classes.{is_recipe}
 use Rattle.mk_class.specs.ClassedLines.{ClassedLine}
 use Rattle.mk_tree.specs.RecipeLines.{recipe_run, after_recipe, recipe_lines}
 use Rattle.mk_tree.specs.LineTexts.{StandingLine}
-use Rattle.mk_edit_language.specs.Edits.{Place, Bottom, BeforeVar, AfterVar, BeforeRule, Edit, SetValue, AppendValue, AddAssign, RemoveAssign, AddRule, RemoveRule, AddPrereq, RemovePrereq, AddRecipe, SetRecipe, RemoveRecipe, RenameTarget}
+use Rattle.mk_edit_language.specs.Edits.{Place, Bottom, BeforeVar, AfterVar, BeforeRule, Edit, SetValue, AppendValue, AddAssign, RemoveAssign, AddRule, RemoveRule, AddPrereq, RemovePrereq, AddRecipe, SetRecipe, RemoveRecipe, InsertRecipe, RenameTarget}
 use Rattle.mk_edit_language.specs.Spots.{spots, nth_of}
 use Rattle.mk_edit_language.specs.Addresses.{Variable, Rule, found}
 
@@ -62,6 +62,15 @@ abbrev pub recipe_found : List ClassedLine → (nth : Option ℕ) → (target : 
     → Option StandingLine
 recipe_found ls nth t k = option_and_then (recipe_spot k) (found ls (Rule nth t))
 
+-- where a new recipe line of a header can go: before each of its recipe lines, and after the last
+abbrev pub recipe_gaps : StandingLine → List Stretch
+recipe_gaps h = map before_line (recipe_spots h) ++ after_rule h ∷ []
+
+-- the place of this number, from 1, for a new recipe line of a rule
+abbrev pub recipe_gap : List ClassedLine → (nth : Option ℕ) → (target : List ℕ) → ℕ
+    → Option Stretch
+recipe_gap ls nth t k = option_and_then (λ h. nth_of k (recipe_gaps h)) (found ls (Rule nth t))
+
 -- the empty stretch where the new line of this place goes
 abbrev pub place_found : List ClassedLine → Place → Option Stretch
 place_found ls Bottom = Some (bottom ls)
@@ -74,6 +83,7 @@ abbrev pub insertion : List ClassedLine → Edit → Option Stretch
 insertion ls (AddAssign p n f v) = place_found ls p
 insertion ls (AddRule p ts c ws) = place_found ls p
 insertion ls (AddRecipe nth t c) = option_map after_rule (found ls (Rule nth t))
+insertion ls (InsertRecipe nth t k c) = recipe_gap ls nth t k
 insertion ls e = None
 
 -- the stretch of the lines that an edit takes out
@@ -105,4 +115,6 @@ touched_by ls (RemoveRecipe nth t k) = removal ls (RemoveRecipe nth t k)
 touched_by ls (AddAssign p n f v) = option_map between (insertion ls (AddAssign p n f v))
 touched_by ls (AddRule p ts c ws) = option_map between (insertion ls (AddRule p ts c ws))
 touched_by ls (AddRecipe nth t c) = option_map between (insertion ls (AddRecipe nth t c))
+touched_by ls (InsertRecipe nth t k c) =
+    option_map between (insertion ls (InsertRecipe nth t k c))
 touched_by ls (RenameTarget o n) = None

@@ -1,4 +1,4 @@
-//! The twelve edits, the places of new lines, and the separators of new rules.
+//! The edits, the places of new lines, and the separators of new rules.
 //!
 //! An edit owns its texts. Contracts see it as a value of the definitions (`edit_of`).
 //!
@@ -155,6 +155,18 @@ pub enum Edit<A: Allocator = Global> {
         target: Vec<u8, A>,
         /// Which of the rule's recipe lines, from 1.
         number: u32,
+    },
+    /// Puts a line into the recipe of a rule, before one of its recipe lines or after the last.
+    InsertRecipe {
+        /// Which of the rules for this target, from 1.
+        nth: Option<u32>,
+        /// One of the rule's targets.
+        target: Vec<u8, A>,
+        /// The number that the new line will have among the rule's recipe lines, from 1: at most one
+        /// more than there are.
+        number: u32,
+        /// The command of the recipe line, without the recipe prefix.
+        line: Vec<u8, A>,
     },
     /// Gives a target another name, wherever it stands as a target or as a prerequisite. A report
     /// calls the fields `old` and `new`.

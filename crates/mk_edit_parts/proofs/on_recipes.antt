@@ -1,3 +1,4 @@
 -- Lemmas. The recipes of rules, and the edits of rules and recipes.
 pub mod WalksDown
 pub mod WalkLemmas
+pub mod GapLemmas

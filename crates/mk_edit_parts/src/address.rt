@@ -32,7 +32,8 @@ pub fn address_of<A: Allocator>(edit: &Edit<A>) -> Option<Address<'_>>
         | Edit::RemovePrereq { nth, target, .. }
         | Edit::AddRecipe { nth, target, .. }
         | Edit::SetRecipe { nth, target, .. }
-        | Edit::RemoveRecipe { nth, target, .. } => Some(Address::Rule(*nth, target)),
+        | Edit::RemoveRecipe { nth, target, .. }
+        | Edit::InsertRecipe { nth, target, .. } => Some(Address::Rule(*nth, target)),
         Edit::RenameTarget { .. } => None,
     }
 }

@@ -47,14 +47,14 @@ pub fn bad_field<A: Allocator>(edit: &Edit<A>) -> Option<Field>
         Edit::AddPrereq { target, word, .. } | Edit::RemovePrereq { target, word, .. } => {
             first_failed(Field::Target, is_target(target), Field::Word, is_word(word))
         }
-        Edit::AddRecipe { target, line, .. } | Edit::SetRecipe { target, line, .. } => {
-            first_failed(
-                Field::Target,
-                is_target(target),
-                Field::Line,
-                is_command(line),
-            )
-        }
+        Edit::AddRecipe { target, line, .. }
+        | Edit::SetRecipe { target, line, .. }
+        | Edit::InsertRecipe { target, line, .. } => first_failed(
+            Field::Target,
+            is_target(target),
+            Field::Line,
+            is_command(line),
+        ),
         Edit::RenameTarget { from, to } => {
             first_failed(Field::Old, is_target(from), Field::New, is_target(to))
         }
@@ -152,7 +152,8 @@ pub fn is_reserved<A: Allocator>(edit: &Edit<A>) -> bool
         | Edit::RemovePrereq { target, .. }
         | Edit::AddRecipe { target, .. }
         | Edit::SetRecipe { target, .. }
-        | Edit::RemoveRecipe { target, .. } => is_reserved_word(target),
+        | Edit::RemoveRecipe { target, .. }
+        | Edit::InsertRecipe { target, .. } => is_reserved_word(target),
         Edit::RenameTarget { from, to } => is_reserved_word(from) || is_reserved_word(to),
     }
 }

@@ -74,7 +74,9 @@ pub fn new_len<A: Allocator>(edit: &Edit<A>) -> usize
             prereqs,
             ..
         } => rule_len(targets, *separator, prereqs),
-        Edit::AddRecipe { line, .. } => line.len().saturating_add(1),
+        Edit::AddRecipe { line, .. } | Edit::InsertRecipe { line, .. } => {
+            line.len().saturating_add(1)
+        }
         _ => 0,
     }
 }
@@ -127,7 +129,9 @@ pub fn new_line<A: Allocator + Copy>(
             prereqs,
             ..
         } => push_rule(&mut bytes, targets, *separator, prereqs)?,
-        Edit::AddRecipe { line, .. } => push_recipe(&mut bytes, prefix, line)?,
+        Edit::AddRecipe { line, .. } | Edit::InsertRecipe { line, .. } => {
+            push_recipe(&mut bytes, prefix, line)?
+        }
         _ => (),
     }
     push_line_end(&mut bytes, end)?;
@@ -235,7 +239,7 @@ pub fn begins_with_prefix<A: Allocator>(edit: &Edit<A>, prefix: u8) -> bool
     match edit {
         Edit::AddAssign { name, .. } => first_byte(name, b' ') == prefix,
         Edit::AddRule { targets, .. } => first_of_rule(targets) == prefix,
-        Edit::AddRecipe { .. } => true,
+        Edit::AddRecipe { .. } | Edit::InsertRecipe { .. } => true,
         _ => false,
     }
 }

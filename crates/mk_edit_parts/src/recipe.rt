@@ -9,7 +9,7 @@ ghost use Rattle.mk_tree.specs.Documents.{IsFaithful};
 ghost use Rattle.mk_tree.specs.LocatedLines.{is_conditional_located};
 ghost use Rattle.mk_tree.specs.RecipeLines.{recipe_run};
 ghost use Rattle.mk_edit_language.specs.Spots.{nth_of};
-ghost use Rattle.mk_edit_parts.specs.RecipeWalks.{is_recipe_located, lines_from, recipe_spots_in};
+ghost use Rattle.mk_edit_parts.specs.RecipeWalks.{follows_recipe, gaps_in, is_recipe_located, lines_from, recipe_spots_in};
 
 use mk_class::Class;
 use mk_tree::Doc;
@@ -78,6 +78,39 @@ pub fn recipe_line<A: Allocator>(doc: &Doc<A>, from: usize, number: u32) -> Opti
         }
     }
     None
+}
+
+/// The index where a header's new recipe line goes that is to have this number, from 1: before the
+/// recipe line of this number, or after the last one if the number is one more than theirs. The
+/// header stands directly before the index `from`.
+pub fn recipe_gap<A: Allocator>(doc: &Doc<A>, from: usize, number: u32) -> Option<usize>
+    requires faithful { IsFaithful doc.now }
+    requires in_range { from ≤ length doc.now }
+    ensures { result
+        ≡ option_map (λ gap. from + gap) (nth_of number (gaps_in (lines_from doc.now from))) }
+{
+    let line = recipe_line(doc, from, number);
+    if line.is_some() {
+        return line;
+    }
+    if follows_recipe(doc, from, number) {
+        Some(recipe_below(doc, from).end)
+    } else {
+        None
+    }
+}
+
+// Whether a recipe line of this number would be the first of a header, or would follow one.
+fn follows_recipe<A: Allocator>(doc: &Doc<A>, from: usize, number: u32) -> bool
+    requires faithful { IsFaithful doc.now }
+    requires in_range { from ≤ length doc.now }
+    ensures { result ≡ follows_recipe number (recipe_spots_in (lines_from doc.now from)) }
+{
+    match number {
+        0 => false,
+        1 => true,
+        _ => recipe_line(doc, from, number - 1).is_some(),
+    }
 }
 
 // Whether a line of this class is a recipe line.

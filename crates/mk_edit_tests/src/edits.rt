@@ -147,6 +147,21 @@ pub fn remove_recipe<'a>(
     })
 }
 
+/// Puts a recipe line into the recipe of a target, at the place of a number.
+pub fn insert_recipe<'a>(
+    heap: Heap<'a>,
+    target: &[u8],
+    number: u32,
+    line: &[u8],
+) -> Result<Edit<Heap<'a>>, AllocError> {
+    Ok(Edit::InsertRecipe {
+        nth: None,
+        target: Vec::from_slice(heap, target)?,
+        number,
+        line: Vec::from_slice(heap, line)?,
+    })
+}
+
 /// Gives a target another name.
 pub fn rename_target<'a>(
     heap: Heap<'a>,

@@ -4,8 +4,8 @@ ghost use Rattle.mk_tree.specs.Documents.{IsFaithful};
 
 use crate::checks::{Heap, check};
 use crate::edits::{
-    add_assign, add_prereq, add_recipe, add_rule, append_value, remove_assign, remove_prereq,
-    remove_recipe, remove_rule, rename_target, set_recipe, set_value,
+    add_assign, add_prereq, add_recipe, add_rule, append_value, insert_recipe, remove_assign,
+    remove_prereq, remove_recipe, remove_rule, rename_target, set_recipe, set_value,
 };
 use mk_class::{Context, Flavor, Meter};
 use mk_edit::{Edit, RuleSeparator, plan_with};
@@ -243,5 +243,10 @@ fn what_is_known_after_each_edit_that_moves_lines_is_what_a_walk_finds(
     check_after(&heap, &mut indexed, remove_assign(&heap, b"A"))?;
     check_after(&heap, &mut indexed, add_recipe(&heap, b"mid", b"last"))?;
     check_after(&heap, &mut indexed, remove_recipe(&heap, b"all", 1))?;
+    check_after(
+        &heap,
+        &mut indexed,
+        insert_recipe(&heap, b"mid", 1, b"first"),
+    )?;
     check_after(&heap, &mut indexed, remove_rule(&heap, b"tail"))
 }

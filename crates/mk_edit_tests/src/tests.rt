@@ -6,8 +6,8 @@ use crate::checks::{
     Heap, check_accepted, check_refused, check_refused_rename, document, growths_of_plan,
 };
 use crate::edits::{
-    add_assign, add_prereq, add_recipe, add_rule, append_value, remove_assign, remove_prereq,
-    remove_recipe, remove_rule, rename_target, set_recipe, set_value,
+    add_assign, add_prereq, add_recipe, add_rule, append_value, insert_recipe, remove_assign,
+    remove_prereq, remove_recipe, remove_rule, rename_target, set_recipe, set_value,
 };
 use mk_class::{Flavor, Meter};
 use mk_edit::{Edit, Field, Refusal, RuleSeparator, plan};
@@ -123,6 +123,20 @@ fn a_recipe_line_is_taken_out(rt: HostRuntime) -> Result<(), Fail> {
         edit,
         b"foo:\nifdef A\nendif\n",
     )
+}
+
+#[test]
+fn a_recipe_line_is_put_in_at_a_number(rt: HostRuntime) -> Result<(), Fail> {
+    let heap = Watched::new(rt.alloc());
+    let edit = insert_recipe(&heap, b"foo", 2, b"ls");
+    check_accepted(
+        &heap,
+        b".RECIPEPREFIX = >\nfoo:\n>a \\\n>b\n# c\n>echo\n",
+        edit,
+        b".RECIPEPREFIX = >\nfoo:\n>a \\\n>b\n# c\n>ls\n>echo\n",
+    )?;
+    let edit = insert_recipe(&heap, b"foo", 2, b"ls");
+    check_accepted(&heap, b"foo:\n\ta", edit, b"foo:\n\ta\n\tls\n")
 }
 
 #[test]

@@ -2,4 +2,5 @@
 mod Outcomes
 mod WorkedEdits
 mod RandomEdits
+mod RandomRecipes
 mod CornerEdits

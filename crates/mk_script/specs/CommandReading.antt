@@ -3,7 +3,7 @@
 use Rattle.std.specs.Prelude.{ℕ, true, false, if◌then◌else◌, List, Option, Some, None, option_map, codes}
 use Rattle.std.specs.Str.{bytes_eq}
 use Rattle.mk_class.specs.declared.assignment.Flavor.{Flavor}
-use Rattle.mk_edit_language.specs.Edits.{Place, Bottom, BeforeVar, AfterVar, BeforeRule, Edit, SetValue, AppendValue, AddAssign, RemoveAssign, AddRule, RemoveRule, AddPrereq, RemovePrereq, AddRecipe, SetRecipe, RemoveRecipe, RenameTarget}
+use Rattle.mk_edit_language.specs.Edits.{Place, Bottom, BeforeVar, AfterVar, BeforeRule, Edit, SetValue, AppendValue, AddAssign, RemoveAssign, AddRule, RemoveRule, AddPrereq, RemovePrereq, AddRecipe, SetRecipe, RemoveRecipe, InsertRecipe, RenameTarget}
 use Rattle.mk_edit_language.specs.declared.edit.RuleSeparator.{RuleSeparator}
 use Rattle.mk_history.specs.Machine.{Command, Apply}
 use Rattle.mk_script.specs.FieldReading.{is_blank, first_field, one_field, two_fields, three_fields}
@@ -74,14 +74,16 @@ abbrev pub add_rule_after : Option (Place × List ℕ) → Option Edit
 add_rule_after None = None
 add_rule_after (Some p) = add_rule_at p.0 (three_fields p.1)
 
-abbrev pub set_recipe_of : (nth : Option ℕ) → (target : List ℕ) → Option ℕ → (line : List ℕ)
-    → Option Edit
-set_recipe_of nth target None line = None
-set_recipe_of nth target (Some k) line = Some (SetRecipe nth target k line)
+-- an edit of a target, a number and a line
+abbrev pub numbered_line_of : (make : List ℕ → ℕ → List ℕ → Edit) → (target : List ℕ) → Option ℕ
+    → (line : List ℕ) → Option Edit
+numbered_line_of make target None line = None
+numbered_line_of make target (Some k) line = Some (make target k line)
 
-abbrev pub set_recipe_after : (nth : Option ℕ) → Option (List ℕ × List ℕ × List ℕ) → Option Edit
-set_recipe_after nth None = None
-set_recipe_after nth (Some p) = set_recipe_of nth p.0 (number p.1) p.2
+abbrev pub numbered_line_after : (make : List ℕ → ℕ → List ℕ → Edit)
+    → Option (List ℕ × List ℕ × List ℕ) → Option Edit
+numbered_line_after make None = None
+numbered_line_after make (Some p) = numbered_line_of make p.0 (number p.1) p.2
 
 abbrev pub remove_recipe_of : (nth : Option ℕ) → (target : List ℕ) → Option ℕ → Option Edit
 remove_recipe_of nth target None = None
@@ -108,8 +110,11 @@ edit_by_word nth (Some word.Depend) rest = of_two (AddPrereq false nth) rest
 edit_by_word nth (Some word.DependOrder) rest = of_two (AddPrereq true nth) rest
 edit_by_word nth (Some word.Undepend) rest = of_two (RemovePrereq nth) rest
 edit_by_word nth (Some word.Recipe) rest = of_two (AddRecipe nth) rest
-edit_by_word nth (Some word.RecipeSet) rest = set_recipe_after nth (three_fields rest)
+edit_by_word nth (Some word.RecipeSet) rest =
+    numbered_line_after (SetRecipe nth) (three_fields rest)
 edit_by_word nth (Some word.RecipeDel) rest = remove_recipe_after nth (two_fields rest)
+edit_by_word nth (Some word.RecipeInsert) rest =
+    numbered_line_after (InsertRecipe nth) (three_fields rest)
 edit_by_word nth (Some word.Rename) rest = rename_target_of nth rest
 
 -- an edit, from its first field and what follows that field

@@ -1,7 +1,7 @@
 -- Laws of lines and of scripts. Each law is the contract of a public function.
 -- Told in docs/PROOFS.md, "Scripts (mk_script)".
 use Rattle.std.specs.Prelude.{◌≡◌, ◌⊎◌, ℕ, ◌≤◌, List, [], ◌∷◌, ◌++◌, Option, Some, None}
-use Rattle.mk_edit_language.specs.Edits.{Edit, SetValue, AppendValue, AddAssign, RemoveAssign, AddRule, RemoveRule, AddPrereq, RemovePrereq, AddRecipe, SetRecipe, RemoveRecipe, RenameTarget}
+use Rattle.mk_edit_language.specs.Edits.{Edit, SetValue, AppendValue, AddAssign, RemoveAssign, AddRule, RemoveRule, AddPrereq, RemovePrereq, AddRecipe, SetRecipe, RemoveRecipe, InsertRecipe, RenameTarget}
 use Rattle.mk_history.specs.Machine.{Command, Apply}
 use Rattle.mk_script.specs.Fields.{quoted, HasFields}
 use Rattle.mk_script.specs.CommandTable.{nth_of_place}
@@ -51,6 +51,8 @@ HasNumbersOfScripts (RemovePrereq nth target word) = CanBeWritten nth
 HasNumbersOfScripts (AddRecipe nth target line) = CanBeWritten nth
 HasNumbersOfScripts (SetRecipe nth target number line) = CanBeWritten nth × (number ≤ 4294967295)
 HasNumbersOfScripts (RemoveRecipe nth target number) = CanBeWritten nth × (number ≤ 4294967295)
+HasNumbersOfScripts (InsertRecipe nth target number line) =
+    CanBeWritten nth × (number ≤ 4294967295)
 HasNumbersOfScripts (RenameTarget old new) = Unit {0}
 
 abbrev HasLine : Command Edit → Type 0

@@ -34,7 +34,7 @@ edit_words =
     ∷ (word.Depend, codes "depend") ∷ (word.DependOrder, codes "depend-order")
     ∷ (word.Undepend, codes "undepend") ∷ (word.Recipe, codes "recipe")
     ∷ (word.RecipeSet, codes "recipe-set") ∷ (word.RecipeDel, codes "recipe-del")
-    ∷ (word.Rename, codes "rename") ∷ []
+    ∷ (word.RecipeInsert, codes "recipe-insert") ∷ (word.Rename, codes "rename") ∷ []
 
 -- the first words of places
 abbrev pub places : List (PlaceWord × List ℕ)

@@ -6,7 +6,7 @@ ghost use Rattle.std.specs.Prelude.{◌≡◌, IfOk, true, false};
 ghost use Rattle.mk_edit_language.specs.Edits as edits;
 ghost use Rattle.mk_edit_language.specs.EditViews.{edit_of, place_of};
 ghost use Rattle.mk_script.specs.SeenFields.{field_text};
-ghost use Rattle.mk_script.specs.CommandReading.{add_assign_after, edit, of_one, of_two, place_at_front, remove_recipe_after, rename_target_of, add_rule_after, set_recipe_after};
+ghost use Rattle.mk_script.specs.CommandReading.{add_assign_after, edit, of_one, of_two, place_at_front, numbered_line_after, remove_recipe_after, rename_target_of, add_rule_after};
 ghost use Rattle.mk_script.specs.FieldReading.{three_fields, two_fields};
 ghost use Rattle.mk_script.specs.ReaderAnswers.{IsFound, IsRead, place_and_rest, written_place};
 
@@ -105,6 +105,7 @@ pub(crate) fn read_edit<A: Allocator + Copy>(
         EditWord::Recipe => read_recipe(alloc, nth, rest),
         EditWord::RecipeSet => read_recipe_set(alloc, nth, rest),
         EditWord::RecipeDel => read_recipe_del(alloc, nth, rest),
+        EditWord::RecipeInsert => read_recipe_insert(alloc, nth, rest),
         EditWord::Rename => read_rename(alloc, nth, rest),
     }
 }
@@ -263,7 +264,7 @@ fn read_recipe_set<A: Allocator + Copy>(
     nth: Option<u32>,
     rest: &[u8],
 ) -> Result<Edit<A>, LineFault>
-    ensures { IsRead edit_of (set_recipe_after nth (three_fields rest.now)) result }
+    ensures { IsRead edit_of (numbered_line_after (edits.SetRecipe nth) (three_fields rest.now)) result }
 {
     let (target, number, line) = three_fields(rest)?;
     let number = number_of(number)?;
@@ -292,6 +293,27 @@ fn read_recipe_del<A: Allocator + Copy>(
         nth,
         target,
         number,
+    })
+}
+
+// `recipe-insert TARGET K LINE`.
+fn read_recipe_insert<A: Allocator + Copy>(
+    alloc: A,
+    nth: Option<u32>,
+    rest: &[u8],
+) -> Result<Edit<A>, LineFault>
+    ensures { IsRead edit_of
+        (numbered_line_after (edits.InsertRecipe nth) (three_fields rest.now)) result }
+{
+    let (target, number, line) = three_fields(rest)?;
+    let number = number_of(number)?;
+    let target = target.to_vec(alloc)?;
+    let line = line.to_vec(alloc)?;
+    Ok(Edit::InsertRecipe {
+        nth,
+        target,
+        number,
+        line,
     })
 }
 

@@ -38,6 +38,8 @@ pub(crate) enum EditWord {
     RecipeSet,
     /// `recipe-del`.
     RecipeDel,
+    /// `recipe-insert`.
+    RecipeInsert,
     /// `rename`.
     Rename,
 }
@@ -83,6 +85,8 @@ pub(crate) fn edit_word(word: Field<'_>) -> Option<EditWord>
         Some(EditWord::RecipeSet)
     } else if word.is(b"recipe-del") {
         Some(EditWord::RecipeDel)
+    } else if word.is(b"recipe-insert") {
+        Some(EditWord::RecipeInsert)
     } else if word.is(b"rename") {
         Some(EditWord::Rename)
     } else {

@@ -124,8 +124,14 @@ fn recipe_edit(rt: &HostRuntime, numbers: &mut Numbers) -> Result<Edit, AllocErr
     let target = numbers.one_of(rt, &TARGETS)?;
     let number = if numbers.below(3) == 0 { 2 } else { 1 };
     let line = numbers.one_of(rt, &LINES)?;
-    Ok(match numbers.below(3) {
+    Ok(match numbers.below(4) {
         0 => Edit::AddRecipe { nth, target, line },
+        2 => Edit::InsertRecipe {
+            nth,
+            target,
+            number,
+            line,
+        },
         1 => Edit::SetRecipe {
             nth,
             target,

@@ -151,6 +151,22 @@ pub fn remove_recipe<A: Allocator + Copy>(alloc: A, target: &[u8]) -> Result<Edi
     })
 }
 
+/// Puts a recipe line before the first recipe line of a target.
+pub fn insert_recipe<A: Allocator + Copy>(
+    alloc: A,
+    target: &[u8],
+    line: &[u8],
+) -> Result<Edit<A>, AllocError> {
+    let target = Vec::from_slice(alloc, target)?;
+    let line = Vec::from_slice(alloc, line)?;
+    Ok(Edit::InsertRecipe {
+        nth: None,
+        target,
+        number: 1,
+        line,
+    })
+}
+
 /// Gives a target another name.
 pub fn rename_target<A: Allocator + Copy>(
     alloc: A,

@@ -43,6 +43,7 @@ const CALLS: &[Step] = &[
     Step::RemovePrereq(b"mid", b"a"),
     Step::AddRecipe(b"mid", b"p"),
     Step::SetRecipe(b"end", b"q"),
+    Step::InsertRecipe(b"all", b"r"),
     Step::RemoveRecipe(b"all"),
     Step::Undo,
     Step::Undo,
@@ -64,7 +65,7 @@ const CALLS: &[Step] = &[
 ];
 
 // Edits of each kind. Some of them are refused after some of the calls.
-const EDITS: [Step; 18] = [
+const EDITS: [Step; 19] = [
     Step::SetValue(b"A", b"7"),
     Step::SetValue(b"B", b"7"),
     Step::SetValue(b"C", b"7"),
@@ -79,6 +80,7 @@ const EDITS: [Step; 18] = [
     Step::AddRecipe(b"two", b"w"),
     Step::SetRecipe(b"new", b"w"),
     Step::RemoveRecipe(b"end"),
+    Step::InsertRecipe(b"mid", b"w"),
     Step::RenameTarget(b"all", b"mid"),
     Step::RenameTarget(b"mid", b"w"),
     Step::RenameTarget(b"B", b"all"),
@@ -223,7 +225,7 @@ fn refused_in_turn<'a>(
 }
 
 // An edit of each kind, each of which is accepted.
-const ACCEPTED: [Step; 12] = [
+const ACCEPTED: [Step; 13] = [
     Step::SetValue(b"C", b"2"),
     Step::AppendValue(b"M", b"3"),
     Step::AddAssign(b"D", b"5"),
@@ -235,6 +237,7 @@ const ACCEPTED: [Step; 12] = [
     Step::AddRecipe(b"mid", b"p"),
     Step::SetRecipe(b"end", b"q"),
     Step::RemoveRecipe(b"all"),
+    Step::InsertRecipe(b"all", b"r"),
     Step::RenameTarget(b"mid", b"center"),
 ];
 

@@ -264,7 +264,7 @@ fn each_refused_growth_of_a_begin_changes_nothing(rt: HostRuntime) -> Result<(),
 type Refused = (&'static [u8], Step, Refusal);
 
 // One of each kind at least.
-const REFUSED_EDITS: [Refused; 13] = [
+const REFUSED_EDITS: [Refused; 14] = [
     (
         b"ifdef A\nCC=x\nelse\nCC=y\nendif\n",
         Step::SetValue(b"CC", b"z"),
@@ -309,6 +309,11 @@ const REFUSED_EDITS: [Refused; 13] = [
     ),
     (b"a:\n", Step::SetRecipe(b"a", b"x"), Refusal::Absent),
     (b"a:\n", Step::RemoveRecipe(b"a"), Refusal::Absent),
+    (
+        b"foo:\nifdef A\n\tx\nendif\n",
+        Step::InsertRecipe(b"foo", b"y"),
+        Refusal::Straddles,
+    ),
     (
         b"all:\n",
         Step::RenameTarget(b"all", b"include"),

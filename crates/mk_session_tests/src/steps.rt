@@ -1,7 +1,7 @@
 //! Calls of a session as constants, each with its answer, and sessions that are asked for them.
 use crate::edits::{
-    add_assign, add_order_prereq, add_recipe, add_rule, append_value, remove_assign, remove_prereq,
-    remove_recipe, remove_rule, rename_target, set_recipe, set_value,
+    add_assign, add_order_prereq, add_recipe, add_rule, append_value, insert_recipe, remove_assign,
+    remove_prereq, remove_recipe, remove_rule, rename_target, set_recipe, set_value,
 };
 use crate::texts::is_as_parsed;
 use mk_lines::Fault;
@@ -34,6 +34,8 @@ pub enum Step {
     SetRecipe(&'static [u8], &'static [u8]),
     /// Target.
     RemoveRecipe(&'static [u8]),
+    /// Target and command.
+    InsertRecipe(&'static [u8], &'static [u8]),
     /// The old and the new target.
     RenameTarget(&'static [u8], &'static [u8]),
     Undo,
@@ -61,6 +63,7 @@ impl Step {
             Step::AddRecipe(target, line) => add_recipe(alloc, target, line),
             Step::SetRecipe(target, line) => set_recipe(alloc, target, line),
             Step::RemoveRecipe(target) => remove_recipe(alloc, target),
+            Step::InsertRecipe(target, line) => insert_recipe(alloc, target, line),
             Step::RenameTarget(from, to) => rename_target(alloc, from, to),
             Step::Undo => return Ok(Command::Undo),
             Step::Redo => return Ok(Command::Redo),

@@ -101,7 +101,8 @@ assignments for targets do not count. There is no `nth all`: write one line for 
 ";
 
 const ABSENT: &str = "\
-The word to take out is no prerequisite of the rule, or the rule has no K-th recipe line.
+The word to take out is no prerequisite of the rule, or the rule has no K-th recipe line. For
+`recipe-insert` K may be one more than the number of recipe lines.
 
 Example: over
     hello: main.o
@@ -157,8 +158,8 @@ Edit by hand.
 ";
 
 const STRADDLES: &str = "\
-The line of a conditional stands between the rule's line and its last recipe line. `unrule` and
-`recipe` are refused then.
+The line of a conditional stands between the rule's line and its last recipe line. `unrule`,
+`recipe` and `recipe-insert` are refused then.
 
 Example: over
     hello:

@@ -10,7 +10,7 @@ use Rattle.mk_tree.specs.Documents.{IsFaithful, document_lines, context_of}
 use Rattle.mk_tree.specs.LineTexts.{line_in}
 use Rattle.mk_tree.specs.LocatedLines.{LocatedLine, located_line, located_lines, located_text, size_of}
 use Rattle.mk_tree.proofs.on_documents.DocumentLemmas.{faithful-own}
-use Rattle.mk_edit_language.specs.Edits.{Edit, SetValue, AppendValue, AddAssign, AddRule, AddPrereq, RemovePrereq, AddRecipe, SetRecipe}
+use Rattle.mk_edit_language.specs.Edits.{Edit, SetValue, AppendValue, AddAssign, AddRule, AddPrereq, RemovePrereq, AddRecipe, SetRecipe, InsertRecipe}
 use Rattle.mk_edit_language.specs.Stretches.{Stretch, between, insertion, touched_by}
 use Rattle.mk_edit_language.specs.Costs.{cost, size}
 use Rattle.mk_edit_language.specs.EditedLines.{edited_bytes, new_line_bytes}
@@ -77,6 +77,7 @@ pub touched-none_put : (ls : List ClassedLine) (e : Edit) (s : Stretch) → touc
 touched-none_put ls (AddAssign p n f v) s h few = none-between (insertion ls (AddAssign p n f v)) s h few
 touched-none_put ls (AddRule p ts c ws) s h few = none-between (insertion ls (AddRule p ts c ws)) s h few
 touched-none_put ls (AddRecipe nth g c) s h few = none-between (insertion ls (AddRecipe nth g c)) s h few
+touched-none_put ls (InsertRecipe nth g k c) s h few = none-between (insertion ls (InsertRecipe nth g k c)) s h few
 touched-none_put ls e s h few = refl
 
 -- an edit that leaves no line puts no line in
@@ -84,6 +85,7 @@ pub removed-none_put : (t : List ℕ) (e : Edit) (rs : List Replacement) (s : St
 removed-none_put t (AddAssign p n f v) rs s h = absurd (cc)
 removed-none_put t (AddRule p ts c ws) rs s h = absurd (cc)
 removed-none_put t (AddRecipe nth g c) rs s h = absurd (cc)
+removed-none_put t (InsertRecipe nth g k c) rs s h = absurd (cc)
 removed-none_put t e rs s h = refl
 
 -- an edit that leaves one line where it touches one line reads that line again, and replaces one line
@@ -100,6 +102,7 @@ changes-one t (SetRecipe nth g n c) rs s m h few k = record { cost_is = refl; si
 changes-one t (AddAssign p n f v) rs s m h few k = absurd (touched-some (insertion (classed_lines t) (AddAssign p n f v)) s h few)
 changes-one t (AddRule p ts c ws) rs s m h few k = absurd (touched-some (insertion (classed_lines t) (AddRule p ts c ws)) s h few)
 changes-one t (AddRecipe nth g c) rs s m h few k = absurd (touched-some (insertion (classed_lines t) (AddRecipe nth g c)) s h few)
+changes-one t (InsertRecipe nth g n c) rs s m h few k = absurd (touched-some (insertion (classed_lines t) (InsertRecipe nth g n c)) s h few)
 changes-one t e rs s m h few k = absurd (cc)
 
 -- what is known of an edit that puts a line in
@@ -113,6 +116,7 @@ pub puts-in : (t : List ℕ) (e : Edit) (rs : List Replacement) (s : Stretch) �
 puts-in t (AddAssign p n f v) rs s h = record { place = ap (option_map between) h; bytes = refl; one = refl; none = refl }
 puts-in t (AddRule p ts c ws) rs s h = record { place = ap (option_map between) h; bytes = refl; one = refl; none = refl }
 puts-in t (AddRecipe nth g c) rs s h = record { place = ap (option_map between) h; bytes = refl; one = refl; none = refl }
+puts-in t (InsertRecipe nth g k c) rs s h = record { place = ap (option_map between) h; bytes = refl; one = refl; none = refl }
 puts-in t e rs s h = absurd (cc)
 
 -- ---- the answers of planning

@@ -27,16 +27,21 @@ use Rattle.mk_edit.proofs.on_recipes.RulePlaces.{IsRuleAt, rule-at, rule-within}
 use Rattle.mk_edit.proofs.on_recipes.RemoveRulePlans.{straddles-is}
 use Rattle.mk_edit.proofs.on_plans.RemovalPlans.{place-found}
 
+-- the lines above and below the place after a rule
+pub after_rule-apart : (ls : List LocatedLine) (nth : Option ℕ) (t : List ℕ) (f : Found) (R : IsRuleAt ls nth t f) → classed_lines (located_text ls) ≡ (after_rule R.spot).above ++ (after_rule R.spot).below
+after_rule-apart ls nth t f R =
+    let s = R.spot in
+    let run = recipe_run s.below in
+    R.line.lines ∙ (ap (λ z. s.above ++ s.line ∷ z) (sym (recipe_run-after s.below)) ∙ sym (append_assoc s.above (s.line ∷ run) (after_recipe s.below)))
+
 -- the place after the recipe of a rule is the one of its new line
 inserted-after_rule : (ls : List LocatedLine) (nth : Option ℕ) (t c : List ℕ) (f g : Found) → IsRuleAt ls nth t f → g.at ≡ f.at + 1 + length (recipe_run (lines_from ls (f.at + 1)))
     → IsPlaceOf ls g → IsInsertedAt ls (insertion (classed_lines (located_text ls)) (AddRecipe nth t c)) g
 inserted-after_rule ls nth t c f g R at p =
     let s = R.spot in
     let run = recipe_run s.below in
-    let whole : classed_lines (located_text ls) ≡ (s.above ++ s.line ∷ run) ++ after_recipe s.below =
-    R.line.lines ∙ (ap (λ z. s.above ++ s.line ∷ z) (sym (recipe_run-after s.below)) ∙ sym (append_assoc s.above (s.line ∷ run) (after_recipe s.below))) in
     let place : length (s.above ++ s.line ∷ run) ≡ g.at = omega (arith, at, R.place_is, ap (λ z. length (recipe_run z)) R.below_is, length-append s.above (s.line ∷ run)) in
-    inserted-between ls _ (after_rule s) g (ap (option_map after_rule) R.found_is) whole place p
+    inserted-between ls _ (after_rule s) g (ap (option_map after_rule) R.found_is) (after_rule-apart ls nth t f R) place p
 
 -- What the code asks of a document if a recipe line is added, and what follows from the answers.
 pub record IsAddRecipeOf (e : Edit) (ls : List LocatedLine) (f : Found) : Type 0 where

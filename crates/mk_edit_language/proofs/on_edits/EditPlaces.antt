@@ -1,15 +1,17 @@
 -- Where an edit applies: an address, a place and a removal mean lines of the text, with the lines above and below them.
-use Rattle.std.proofs.Common.{◌≡◌, refl, sym, ap, ◌∙◌, subst, ℕ, List, [], ◌∷◌, ◌++◌, not, true, append_assoc, Option, Some, None, is_some, option_map}
+use Rattle.std.proofs.Common.{◌≡◌, refl, sym, ap, ◌∙◌, subst, ℕ, zero, suc, List, [], ◌∷◌, ◌++◌, map, not, true, append_assoc, Option, Some, None, is_some, option_map}
+use Rattle.std.specs.Prelude.{option_and_then}
 use Rattle.std.proofs.lemmas.List.{append-nil}
 use Rattle.mk_class.specs.Classes.{is_recipe}
 use Rattle.mk_class.specs.ClassedLines.{ClassedLine}
 use Rattle.mk_tree.specs.RecipeLines.{recipe_run, after_recipe}
 use Rattle.mk_tree.proofs.on_changes.RecipeRunLemmas.{recipe_run-after}
 use Rattle.mk_tree.specs.LineTexts.{StandingLine}
-use Rattle.mk_edit_language.specs.Edits.{Place, Bottom, BeforeVar, AfterVar, BeforeRule, Edit, SetValue, AppendValue, AddAssign, RemoveAssign, AddRule, RemoveRule, AddPrereq, RemovePrereq, AddRecipe, SetRecipe, RemoveRecipe, RenameTarget}
+use Rattle.mk_edit_language.specs.Edits.{Place, Bottom, BeforeVar, AfterVar, BeforeRule, Edit, SetValue, AppendValue, AddAssign, RemoveAssign, AddRule, RemoveRule, AddPrereq, RemovePrereq, AddRecipe, SetRecipe, RemoveRecipe, InsertRecipe, RenameTarget}
+use Rattle.mk_edit_language.specs.Spots.{nth_of}
 use Rattle.mk_edit_language.specs.Addresses.{Address, Variable, Rule, assigns, is_rule_for, found}
-use Rattle.mk_edit_language.specs.Stretches.{Stretch, this_line, before_line, after_line, bottom, whole_rule, after_rule, recipe_found, place_found, insertion, removal, IsStretchOf}
-use Rattle.mk_edit_language.proofs.on_lines.SpotLemmas.{picked-is, recipe-found}
+use Rattle.mk_edit_language.specs.Stretches.{Stretch, this_line, before_line, after_line, bottom, whole_rule, after_rule, recipe_spots, recipe_gaps, recipe_gap, recipe_found, place_found, insertion, removal, IsStretchOf}
+use Rattle.mk_edit_language.proofs.on_lines.SpotLemmas.{picked-is, recipe-found, recipe_spot-is}
 
 -- a spot of the text's lines
 abbrev pub IsSpotOf : List ClassedLine → StandingLine → Type 0
@@ -66,6 +68,26 @@ place-stretch ls (BeforeVar nth n) s e = mapped (IsStretchOf ls) before_line (fo
 place-stretch ls (AfterVar nth n) s e = mapped (IsStretchOf ls) after_line (found ls (Variable nth n)) (λ x i. after-stretch ls x (found-spot ls (Variable nth n) x i)) s e
 place-stretch ls (BeforeRule nth g) s e = mapped (IsStretchOf ls) before_line (found ls (Rule nth g)) (λ x i. before-stretch ls x (found-spot ls (Rule nth g) x i)) s e
 
+-- what is known of the place before each recipe line, and of the place after the last, is known of a place for a new one
+pub gap-is : (P : Stretch → Type 0) (ss : List StandingLine) (a : Stretch) (k : ℕ) → ((s : StandingLine) → nth_of k ss ≡ Some s → P (before_line s)) → P a
+    → (s : Stretch) → nth_of k (map before_line ss ++ a ∷ []) ≡ Some s → P s
+gap-is P [] a zero b e s h = absurd (cc)
+gap-is P [] a (suc zero) b e s h = let k : a ≡ s = cc in subst P k e
+gap-is P [] a (suc (suc n)) b e s h = absurd (cc)
+gap-is P (q ∷ ss) a zero b e s h = absurd (cc)
+gap-is P (q ∷ ss) a (suc zero) b e s h = let k : before_line q ≡ s = cc in subst P k (b q refl)
+gap-is P (q ∷ ss) a (suc (suc n)) b e s h = gap-is P ss a (suc n) b e s h
+
+-- the place of a number for a new recipe line of a rule
+gap-stretch : (ls : List ClassedLine) (nth : Option ℕ) (g : List ℕ) (k : ℕ) (s : Stretch) → recipe_gap ls nth g k ≡ Some s → IsStretchOf ls s
+gap-stretch ls nth g k s e = go (found ls (Rule nth g)) refl e
+  where
+    go : (o : Option StandingLine) → found ls (Rule nth g) ≡ o → option_and_then (λ h. nth_of k (recipe_gaps h)) o ≡ Some s → IsStretchOf ls s
+    go None i h = absurd (cc)
+    go (Some p) i h =
+        let w = found-spot ls (Rule nth g) p i in
+        gap-is (IsStretchOf ls) (recipe_spots p) (after_rule p) k (λ q j. before-stretch ls q (recipe_spot-is ls p k q w j).whole) (after_rule-stretch ls p w) s h
+
 -- the stretch where the new line of an edit goes
 pub insertion-stretch : (ls : List ClassedLine) (e : Edit) (s : Stretch) → insertion ls e ≡ Some s → IsStretchOf ls s
 insertion-stretch ls (AddAssign p n f v) s h = place-stretch ls p s h
@@ -79,6 +101,7 @@ insertion-stretch ls (AddPrereq o nth g w) s h = absurd (cc)
 insertion-stretch ls (RemovePrereq nth g w) s h = absurd (cc)
 insertion-stretch ls (SetRecipe nth g k c) s h = absurd (cc)
 insertion-stretch ls (RemoveRecipe nth g k) s h = absurd (cc)
+insertion-stretch ls (InsertRecipe nth g k c) s h = gap-stretch ls nth g k s h
 insertion-stretch ls (RenameTarget o n) s h = absurd (cc)
 
 -- the lines that an edit takes out
@@ -93,5 +116,6 @@ removal-stretch ls (AddRule p ts c ws) s h = absurd (cc)
 removal-stretch ls (AddPrereq o nth g w) s h = absurd (cc)
 removal-stretch ls (RemovePrereq nth g w) s h = absurd (cc)
 removal-stretch ls (AddRecipe nth g c) s h = absurd (cc)
+removal-stretch ls (InsertRecipe nth g k c) s h = absurd (cc)
 removal-stretch ls (SetRecipe nth g k c) s h = absurd (cc)
 removal-stretch ls (RenameTarget o n) s h = absurd (cc)

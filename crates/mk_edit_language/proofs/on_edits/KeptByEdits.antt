@@ -22,7 +22,7 @@ use Rattle.mk_tree.proofs.on_documents.LinesInText.{line-in_text, context_of-las
 use Rattle.mk_tree.specs.NewLineEnds.{above_ended, missing_line_end}
 use Rattle.mk_tree.proofs.on_changes.RecipeRunLemmas.{recipe_run-stays, rule-agrees, assign-agrees, recipe-agrees}
 use Rattle.mk_tree.specs.LineTexts.{StandingLine}
-use Rattle.mk_edit_language.specs.Edits.{Edit, Place, SetValue, AppendValue, AddAssign, RemoveAssign, AddRule, RemoveRule, AddPrereq, RemovePrereq, AddRecipe, SetRecipe, RemoveRecipe}
+use Rattle.mk_edit_language.specs.Edits.{Edit, Place, SetValue, AppendValue, AddAssign, RemoveAssign, AddRule, RemoveRule, AddPrereq, RemovePrereq, AddRecipe, SetRecipe, RemoveRecipe, InsertRecipe}
 use Rattle.mk_edit_language.specs.Addresses.{Variable, Rule, found}
 use Rattle.mk_edit_language.specs.Stretches.{Stretch, this_line, whole_rule, between, insertion, removal, touched_by}
 use Rattle.mk_edit_language.specs.NewLines.{assign_text, new_text, new_line_span}
@@ -50,7 +50,7 @@ use Rattle.mk_class.specs.declared.assignment.Flavor.{Flavor}
 use Rattle.mk_class.specs.PartOffsets.{raw_width}
 use Rattle.mk_edit_language.specs.declared.edit.RuleSeparator.{RuleSeparator}
 use Rattle.mk_edit_language.proofs.on_prerequisites.RemovePrereqLemmas.{remove_prereq-line}
-use Rattle.mk_edit_language.proofs.on_recipes.RecipeLemmas.{set_recipe-line, add_recipe-stands}
+use Rattle.mk_edit_language.proofs.on_recipes.RecipeLemmas.{set_recipe-line, add_recipe-stands, insert_recipe-stands}
 use Rattle.mk_edit_language.proofs.on_edits.EditPlaces.{rule-stretch}
 use Rattle.mk_edit_language.specs.RisingSpans.{Rise}
 use Rattle.mk_edit_language.proofs.on_edits.SpansRise.{RisesInAssignment, set_value-rises, append_value-rises, value-rises, spot-rises, rise-header, recipe-rises, old_length, add-length, remove-length}
@@ -237,3 +237,9 @@ pub add_recipe-keeps : (nth : Option ℕ) (g c t : List ℕ) (rs : List Replacem
 add_recipe-keeps nth g c t rs h =
     let S = add_recipe-stands nth g c t rs h in
     added-keeps t (AddRecipe nth g c) rs S.stretch ((context_of S.stretch.above).prefix ∷ c) Class.Recipe h S.found_is S.spans_are refl refl S.stands refl (omega arith) refl
+
+-- a new recipe line at a place of a number
+pub insert_recipe-keeps : (nth : Option ℕ) (g : List ℕ) (k : ℕ) (c t : List ℕ) (rs : List Replacement) → spans t (InsertRecipe nth g k c) ≡ Ok rs → AreOthersKept t (InsertRecipe nth g k c) rs
+insert_recipe-keeps nth g k c t rs h =
+    let S = insert_recipe-stands nth g k c t rs h in
+    added-keeps t (InsertRecipe nth g k c) rs S.stretch ((context_of S.stretch.above).prefix ∷ c) Class.Recipe h S.found_is S.spans_are refl refl S.stands refl (omega arith) refl

@@ -30,7 +30,7 @@ use Rattle.mk_tree.specs.Documents.{text_of, context_of}
 use Rattle.mk_tree.proofs.on_documents.LinesInText.{line-in_text, run-in_text, AreClassed, AreClassed-class, AreClassed-tail, AreClassed-lines}
 use Rattle.mk_tree.proofs.on_documents.DocumentLemmas.{text_of-classed_lines}
 use Rattle.mk_tree.specs.LineTexts.{StandingLine}
-use Rattle.mk_edit_language.specs.Edits.{Edit, SetValue, AppendValue, AddAssign, RemoveAssign, AddRule, RemoveRule, AddPrereq, RemovePrereq, AddRecipe, SetRecipe, RemoveRecipe, RenameTarget}
+use Rattle.mk_edit_language.specs.Edits.{Edit, SetValue, AppendValue, AddAssign, RemoveAssign, AddRule, RemoveRule, AddPrereq, RemovePrereq, AddRecipe, SetRecipe, RemoveRecipe, InsertRecipe, RenameTarget}
 use Rattle.mk_edit_language.specs.Addresses.{Variable, Rule, found}
 use Rattle.mk_edit_language.specs.Stretches.{Stretch, insertion, removal, recipe_found, IsStretchOf}
 use Rattle.mk_edit_language.specs.NewLines.{new_line_span}
@@ -318,6 +318,8 @@ spans-rise t (AddRecipe nth g c) = rise-found t (new_line_span t (AddRecipe nth 
 spans-rise t (SetRecipe nth g k c) = rise-found t (recipe_span c) (recipe_found (classed_lines t) nth g k)
     (λ s i. rise-recipe t c s (recipe_found-spot (classed_lines t) nth g k s i) (recipe_found-recipe (classed_lines t) nth g k s i))
 spans-rise t (RemoveRecipe nth g k) = rise-found t removed_span (removal (classed_lines t) (RemoveRecipe nth g k)) (λ s i. rise-removed t s (removal-stretch (classed_lines t) (RemoveRecipe nth g k) s i))
+spans-rise t (InsertRecipe nth g k c) = rise-found t (new_line_span t (InsertRecipe nth g k c)) (insertion (classed_lines t) (InsertRecipe nth g k c))
+    (λ s i. rise-inserted t (InsertRecipe nth g k c) s (insertion-stretch (classed_lines t) (InsertRecipe nth g k c) s i))
 spans-rise t (RenameTarget o n) =
     let r = rise-renamed o n start (classed_lines t) 0 (AreClassed-lines t (classed_lines t) refl) in
     Rise-until 0 (0 + length (text_of (classed_lines t))) (length t) (renamed_spans o n 0 (classed_lines t)) r (omega (arith, ap length (text_of-classed_lines t)))

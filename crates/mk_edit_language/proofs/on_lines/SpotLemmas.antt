@@ -70,7 +70,7 @@ below-spots test ls h (s ∷ ss) e k = (
 )
 
 -- a recipe line of a header is a spot of the text
-recipe_spot-is : (ls : List ClassedLine) (h : StandingLine) (k : ℕ) (s : StandingLine) → ls ≡ h.above ++ h.line ∷ h.below → recipe_spot k h ≡ Some s → IsSpot (λ l. is_recipe l.class) ls s
+pub recipe_spot-is : (ls : List ClassedLine) (h : StandingLine) (k : ℕ) (s : StandingLine) → ls ≡ h.above ++ h.line ∷ h.below → recipe_spot k h ≡ Some s → IsSpot (λ l. is_recipe l.class) ls s
 recipe_spot-is ls h k s e i =
     let ss = spots (λ l. is_recipe l.class) h.below in
     let n = length (recipe_lines h.below) in

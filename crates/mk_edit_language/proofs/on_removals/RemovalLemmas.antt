@@ -19,7 +19,7 @@ use Rattle.mk_tree.proofs.on_changes.RecipeRunLemmas.{recipe_run-after, recipe_r
 use Rattle.mk_tree.specs.Leaning.{AgreeButForFlag}
 use Rattle.mk_tree.proofs.on_changes.LeaningLemmas.{agrees-self, agrees-then}
 use Rattle.mk_tree.specs.LineTexts.{StandingLine}
-use Rattle.mk_edit_language.specs.Edits.{Edit, SetValue, AppendValue, AddAssign, RemoveAssign, AddRule, RemoveRule, AddPrereq, RemovePrereq, AddRecipe, SetRecipe, RemoveRecipe, RenameTarget}
+use Rattle.mk_edit_language.specs.Edits.{Edit, SetValue, AppendValue, AddAssign, RemoveAssign, AddRule, RemoveRule, AddPrereq, RemovePrereq, AddRecipe, SetRecipe, RemoveRecipe, InsertRecipe, RenameTarget}
 use Rattle.mk_edit_language.specs.Stretches.{Stretch, removal, this_line, whole_rule}
 use Rattle.mk_edit_language.specs.EditSpans.{removed_span, where_found}
 use Rattle.mk_edit_language.specs.RuleCauses.{has_conditional}
@@ -164,5 +164,6 @@ removed-lines (AddRule p ts c ws) t rs s h k = absurd (cc)
 removed-lines (AddPrereq order nth g w) t rs s h k = absurd (cc)
 removed-lines (RemovePrereq nth g w) t rs s h k = absurd (cc)
 removed-lines (AddRecipe nth g c) t rs s h k = absurd (cc)
+removed-lines (InsertRecipe nth g number c) t rs s h k = absurd (cc)
 removed-lines (SetRecipe nth g number c) t rs s h k = absurd (cc)
 removed-lines (RenameTarget o n) t rs s h k = absurd (cc)

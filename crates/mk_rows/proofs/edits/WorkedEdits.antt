@@ -5,7 +5,7 @@ use Rattle.mk_class.specs.declared.assignment.Flavor.TheVariants.{Recursive, Sim
 use Rattle.mk_edit_language.specs.declared.edit.RuleSeparator.TheVariants.{Single, Double}
 use Rattle.mk_edit_language.specs.declared.refusal.Refusal.TheVariants.{BadArgument, Reserved, RecipePrefix, NoSuch, Ambiguous, Absent, Taken, SharedRule, Straddles, OpenValue, OpenLine, OpenDefine, Leans}
 use Rattle.mk_edit_language.specs.Edits.{Bottom, BeforeVar, AfterVar, BeforeRule}
-use Rattle.mk_edit_language.specs.Edits.{SetValue, AppendValue, AddAssign, RemoveAssign, AddRule, RemoveRule, AddPrereq, RemovePrereq, AddRecipe, SetRecipe, RemoveRecipe, RenameTarget}
+use Rattle.mk_edit_language.specs.Edits.{SetValue, AppendValue, AddAssign, RemoveAssign, AddRule, RemoveRule, AddPrereq, RemovePrereq, AddRecipe, SetRecipe, RemoveRecipe, InsertRecipe, RenameTarget}
 use Rattle.mk_rows.proofs.edits.Outcomes.{outcome}
 use Rattle.mk_rows.proofs.edits.Outcomes.{Becomes, Refused}
 use Rattle.mk_edit_language.specs.declared.refusal.Field.TheVariants as field
@@ -390,3 +390,36 @@ row_nth_before_a_place = refl
 
 row_recipe_line_zero_is_refused : outcome (codes "a:\n\tx\n") (RemoveRecipe None (codes "a") 0) ≡ Refused Absent
 row_recipe_line_zero_is_refused = refl
+
+row_recipe_insert_between_two_lines : outcome (codes "c:\n\ta\n\tb\n") (InsertRecipe None (codes "c") 2 (codes "x")) ≡ Becomes (codes "c:\n\ta\n\tx\n\tb\n")
+row_recipe_insert_between_two_lines = refl
+
+row_recipe_insert_goes_below_a_comment : outcome (codes "c:\n\ta\n\n# n\n\tb\n") (InsertRecipe None (codes "c") 2 (codes "x")) ≡ Becomes (codes "c:\n\ta\n\n# n\n\tx\n\tb\n")
+row_recipe_insert_goes_below_a_comment = refl
+
+row_recipe_insert_into_a_rule_without_a_recipe : outcome (codes "c:\n") (InsertRecipe None (codes "c") 1 (codes "x")) ≡ Becomes (codes "c:\n\tx\n")
+row_recipe_insert_into_a_rule_without_a_recipe = refl
+
+row_recipe_insert_two_below_the_last_is_refused : outcome (codes "c:\n\ta\n") (InsertRecipe None (codes "c") 3 (codes "x")) ≡ Refused Absent
+row_recipe_insert_two_below_the_last_is_refused = refl
+
+row_recipe_insert_at_zero_is_refused : outcome (codes "a:\n\tx\n") (InsertRecipe None (codes "a") 0 (codes "y")) ≡ Refused Absent
+row_recipe_insert_at_zero_is_refused = refl
+
+row_recipe_insert_across_a_conditional_is_refused : outcome (codes "foo:\nifdef A\n\tx\nendif\n") (InsertRecipe None (codes "foo") 1 (codes "y")) ≡ Refused Straddles
+row_recipe_insert_across_a_conditional_is_refused = refl
+
+row_recipe_insert_tells_a_bad_number_before_a_conditional : outcome (codes "foo:\nifdef A\n\tx\nendif\n") (InsertRecipe None (codes "foo") 3 (codes "y")) ≡ Refused Absent
+row_recipe_insert_tells_a_bad_number_before_a_conditional = refl
+
+row_recipe_insert_below_a_prefix_that_is_reset : outcome (codes ".RECIPEPREFIX = >\nfoo:\n>a\n.RECIPEPREFIX =\nbar:\n\tb\n") (InsertRecipe None (codes "bar") 1 (codes "c")) ≡ Becomes (codes ".RECIPEPREFIX = >\nfoo:\n>a\n.RECIPEPREFIX =\nbar:\n\tc\n\tb\n")
+row_recipe_insert_below_a_prefix_that_is_reset = refl
+
+row_recipe_insert_before_an_open_line : outcome (codes "foo:\n\tx\r") (InsertRecipe None (codes "foo") 1 (codes "y")) ≡ Becomes (codes "foo:\n\ty\n\tx\r")
+row_recipe_insert_before_an_open_line = refl
+
+row_recipe_insert_after_an_open_line_is_refused : outcome (codes "foo:\n\tx\r") (InsertRecipe None (codes "foo") 2 (codes "y")) ≡ Refused OpenLine
+row_recipe_insert_after_an_open_line_is_refused = refl
+
+row_recipe_insert_ends_a_last_line_without_line_end : outcome (codes "c:\n\ta") (InsertRecipe None (codes "c") 2 (codes "x")) ≡ Becomes (codes "c:\n\ta\n\tx\n")
+row_recipe_insert_ends_a_last_line_without_line_end = refl

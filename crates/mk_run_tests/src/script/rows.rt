@@ -12,7 +12,7 @@ pub struct Script {
 }
 
 /// Each command, each place, operator and separator, numbers, quotes and line ends.
-pub static SCRIPTS: [Script; 15] = [
+pub static SCRIPTS: [Script; 16] = [
     Script {
         text: b"",
         commands: b"",
@@ -77,6 +77,11 @@ pub static SCRIPTS: [Script; 15] = [
         text: b"recipe t \"echo a\"\nrecipe-set t 01 ls\nrecipe-del t 2\nrename a b",
         commands: b"1 AddRecipe -|t|echo a\n2 SetRecipe -|t|1|ls\n3 RemoveRecipe -|t|2\n4 RenameTarget|a|b\n",
         growths: 8,
+    },
+    Script {
+        text: b"nth 2 recipe-insert t 1 ls",
+        commands: b"1 InsertRecipe 2|t|1|ls\n",
+        growths: 3,
     },
     Script {
         text: b"begin\nend\nredo\nbegin\ncancel\nundo",

@@ -173,16 +173,7 @@ fn put_recipe_edit<A: Allocator>(
             target,
             number,
             line,
-        } => {
-            let number = format!(in alloc; "{number}")?;
-            put_named(
-                alloc,
-                out,
-                b"SetRecipe",
-                *nth,
-                &[target, number.as_bytes(), line],
-            )
-        }
+        } => put_numbered_line(alloc, out, b"SetRecipe", *nth, target, *number, line),
         Edit::RemoveRecipe {
             nth,
             target,
@@ -197,6 +188,26 @@ fn put_recipe_edit<A: Allocator>(
                 &[target, number.as_bytes()],
             )
         }
+        Edit::InsertRecipe {
+            nth,
+            target,
+            number,
+            line,
+        } => put_numbered_line(alloc, out, b"InsertRecipe", *nth, target, *number, line),
         _ => out.extend_from_slice(b"?"),
     }
+}
+
+// An edit of a recipe by its name, with the number of a recipe line and a command.
+fn put_numbered_line(
+    alloc: Global,
+    out: &mut Vec<u8>,
+    name: &[u8],
+    nth: Option<u32>,
+    target: &[u8],
+    number: u32,
+    line: &[u8],
+) -> Result<(), AllocError> {
+    let number = format!(in alloc; "{number}")?;
+    put_named(alloc, out, name, nth, &[target, number.as_bytes(), line])
 }

@@ -5,7 +5,7 @@ use Rattle.std.specs.Str.{bytes_eq}
 use Rattle.mk_class.specs.declared.assignment.Flavor.{Flavor}
 use Rattle.mk_class.specs.OperatorTexts.{operator_text}
 use Rattle.mk_edit_language.specs.declared.edit.RuleSeparator.{RuleSeparator}
-use Rattle.mk_edit_language.specs.Edits.{Place, Bottom, BeforeVar, AfterVar, BeforeRule, Edit, SetValue, AppendValue, AddAssign, RemoveAssign, AddRule, RemoveRule, AddPrereq, RemovePrereq, AddRecipe, SetRecipe, RemoveRecipe, RenameTarget}
+use Rattle.mk_edit_language.specs.Edits.{Place, Bottom, BeforeVar, AfterVar, BeforeRule, Edit, SetValue, AppendValue, AddAssign, RemoveAssign, AddRule, RemoveRule, AddPrereq, RemovePrereq, AddRecipe, SetRecipe, RemoveRecipe, InsertRecipe, RenameTarget}
 use Rattle.mk_edit_language.specs.NewLines.{rule_separator_text}
 use Rattle.mk_history.specs.Machine.{Command, Apply, Undo, Redo, Begin, End, Cancel}
 use Rattle.mk_script.specs.Fields.{HasFields}
@@ -13,7 +13,7 @@ use Rattle.mk_script.specs.Numbers.{IsNumber}
 use Rattle.mk_script.specs.CommandTable.{IsAfterNth, place_words, nth_of_place, IsCommand}
 use Rattle.mk_script.specs.FieldReading.{first_field, one_field, two_fields, three_fields}
 use Rattle.mk_script.specs.WordReading.{named, calls}
-use Rattle.mk_script.specs.CommandReading.{place_at_front, place_after, add_assign_after, add_assign_at, add_assign_of, add_rule_after, add_rule_at, add_rule_of, set_recipe_after, set_recipe_of, remove_recipe_after, remove_recipe_of, edit, edit_after_nth, edit_after_number, numbered_edit, call_or_edit, command_after, command}
+use Rattle.mk_script.specs.CommandReading.{place_at_front, place_after, add_assign_after, add_assign_at, add_assign_of, add_rule_after, add_rule_at, add_rule_of, numbered_line_after, numbered_line_of, remove_recipe_after, remove_recipe_of, edit, edit_after_nth, edit_after_number, numbered_edit, call_or_edit, command_after, command}
 use Rattle.mk_script.proofs.on_fields.BlankLemmas.{is-blank}
 use Rattle.mk_script.proofs.on_fields.FirstLemmas.{begins-read, one-read, two-read, three-read}
 use Rattle.mk_script.proofs.on_fields.NumberLemmas.{is-number}
@@ -86,10 +86,10 @@ add_rule-read place targets prereqs text colons h =
     ∙ (ap (λ o. add_rule_at place o) (three-read p.rest targets (rule_separator_text colons) prereqs p.others_are)
     ∙ ap (λ o. add_rule_of place o targets prereqs) (separator-named colons))
 
-set_recipe-read : (nth : Option ℕ) (target digits line text : List ℕ) (n : ℕ) → IsNumber digits n → HasFields text (target ∷ digits ∷ line ∷ [])
-    → set_recipe_after nth (three_fields text) ≡ Some (SetRecipe nth target n line)
-set_recipe-read nth target digits line text n is h =
-    ap (λ o. set_recipe_after nth o) (three-read text target digits line h) ∙ ap (λ o. set_recipe_of nth target o line) (is-number digits n is)
+numbered_line-read : (make : List ℕ → ℕ → List ℕ → Edit) (target digits line text : List ℕ) (n : ℕ) → IsNumber digits n → HasFields text (target ∷ digits ∷ line ∷ [])
+    → numbered_line_after make (three_fields text) ≡ Some (make target n line)
+numbered_line-read make target digits line text n is h =
+    ap (λ o. numbered_line_after make o) (three-read text target digits line h) ∙ ap (λ o. numbered_line_of make target o line) (is-number digits n is)
 
 remove_recipe-read : (nth : Option ℕ) (target digits text : List ℕ) (n : ℕ) → IsNumber digits n → HasFields text (target ∷ digits ∷ [])
     → remove_recipe_after nth (two_fields text) ≡ Some (RemoveRecipe nth target n)
@@ -131,10 +131,13 @@ edit-read line fields (AddRecipe nth target text) h is =
     addressed-read nth line (codes "recipe") (target ∷ text ∷ []) fields _ (edit_word (codes "recipe") refl refl) h is (of_two-read (AddRecipe nth) target text)
 edit-read line fields (SetRecipe nth target n text) h is =
     addressed-read nth line (codes "recipe-set") (target ∷ is.0 ∷ text ∷ []) fields _ (edit_word (codes "recipe-set") refl refl) h is.2
-    (λ rest. set_recipe-read nth target is.0 text rest n is.1)
+    (λ rest. numbered_line-read (SetRecipe nth) target is.0 text rest n is.1)
 edit-read line fields (RemoveRecipe nth target n) h is =
     addressed-read nth line (codes "recipe-del") (target ∷ is.0 ∷ []) fields _ (edit_word (codes "recipe-del") refl refl) h is.2
     (λ rest. remove_recipe-read nth target is.0 rest n is.1)
+edit-read line fields (InsertRecipe nth target n text) h is =
+    addressed-read nth line (codes "recipe-insert") (target ∷ is.0 ∷ text ∷ []) fields _ (edit_word (codes "recipe-insert") refl refl) h is.2
+    (λ rest. numbered_line-read (InsertRecipe nth) target is.0 text rest n is.1)
 edit-read line fields (RenameTarget old new) h is =
     addressed-read None line (codes "rename") (old ∷ new ∷ []) fields _ (edit_word (codes "rename") refl refl) h is (of_two-read RenameTarget old new)
 

@@ -6,16 +6,17 @@ use Rattle.std.proofs.lemmas.Slice.Eq.{bytes_eq-Decides}
 use Rattle.mk_class.specs.declared.assignment.Flavor.{Flavor}
 use Rattle.mk_class.specs.OperatorTexts.{operator_text}
 use Rattle.mk_edit_language.specs.declared.edit.RuleSeparator.{RuleSeparator}
-use Rattle.mk_edit_language.specs.Edits.{Place, Bottom, BeforeVar, AfterVar, BeforeRule, Edit, SetValue, AppendValue, AddAssign, RemoveAssign, AddRule, RemoveRule, AddPrereq, RemovePrereq, AddRecipe, SetRecipe, RemoveRecipe, RenameTarget}
+use Rattle.mk_edit_language.specs.Edits.{Place, Bottom, BeforeVar, AfterVar, BeforeRule, Edit, SetValue, AppendValue, AddAssign, RemoveAssign, AddRule, RemoveRule, AddPrereq, RemovePrereq, AddRecipe, SetRecipe, RemoveRecipe, InsertRecipe, RenameTarget}
 use Rattle.mk_edit_language.specs.NewLines.{rule_separator_text}
 use Rattle.mk_history.specs.Machine.{Command, Apply}
+use Rattle.mk_script.specs.Numbers.{IsNumber}
 use Rattle.mk_script.specs.Fields.{HasFields, BeginsWithField}
 use Rattle.mk_script.specs.CommandTable.{IsAfterNth, place_words, nth_of_place, IsCommand}
 use Rattle.mk_script.specs.Lines.{HasCommand}
 use Rattle.mk_script.specs.FieldReading.{is_blank, first_field, one_field, two_fields, three_fields}
 use Rattle.mk_script.specs.NumberReading.{number}
 use Rattle.mk_script.specs.WordReading.{named, calls, edit_words, places, operators, separators}
-use Rattle.mk_script.specs.CommandReading.{placed_at, bottom, place_by_word, place_at_front, place_after, of_one, of_two, add_assign_after, add_assign_at, add_assign_of, add_rule_after, add_rule_at, add_rule_of, set_recipe_after, set_recipe_of, remove_recipe_after, remove_recipe_of, rename_target_of, edit_by_word, edit, edit_after_nth, edit_after_number, numbered_edit, addressed_edit, call_or_edit, command_after, command}
+use Rattle.mk_script.specs.CommandReading.{placed_at, bottom, place_by_word, place_at_front, place_after, of_one, of_two, add_assign_after, add_assign_at, add_assign_of, add_rule_after, add_rule_at, add_rule_of, numbered_line_after, numbered_line_of, remove_recipe_after, remove_recipe_of, rename_target_of, edit_by_word, edit, edit_after_nth, edit_after_number, numbered_edit, addressed_edit, call_or_edit, command_after, command}
 use Rattle.mk_script.specs.declared.word.EditWord.{EditWord}
 use Rattle.mk_script.specs.declared.word.EditWord.TheVariants as word
 use Rattle.mk_script.specs.declared.word.PlaceWord.{PlaceWord}
@@ -179,21 +180,23 @@ add_rule-written nth rest e h = go (place_at_front nth rest) refl h
     go None k m = absurd (cc)
     go (Some p) k m = of_place p k (three_fields p.1) refl m
 
-set_recipe-written : (nth : Option ℕ) (rest : List ℕ) (e : Edit) → set_recipe_after nth (three_fields rest) ≡ Some e → IsWrittenEdit nth (codes "recipe-set") rest e
-set_recipe-written nth rest e h = go (three_fields rest) refl h
+numbered_line-written : (nth : Option ℕ) (word rest : List ℕ) (e : Edit) (make : List ℕ → ℕ → List ℕ → Edit) → numbered_line_after make (three_fields rest) ≡ Some e
+    → ((target digits line : List ℕ) (n : ℕ) (fields : List (List ℕ)) → IsNumber digits n → IsAfterNth nth fields (word ∷ target ∷ digits ∷ line ∷ []) → IsCommand fields (Apply (make target n line)))
+    → IsWrittenEdit nth word rest e
+numbered_line-written nth word rest e make h is = go (three_fields rest) refl h
   where
-    of_number : (q : List ℕ × List ℕ × List ℕ) → three_fields rest ≡ Some q → (o : Option ℕ) → number q.1 ≡ o → set_recipe_of nth q.0 o q.2 ≡ Some e
-        → IsWrittenEdit nth (codes "recipe-set") rest e
+    of_number : (q : List ℕ × List ℕ × List ℕ) → three_fields rest ≡ Some q → (o : Option ℕ) → number q.1 ≡ o → numbered_line_of make q.0 o q.2 ≡ Some e
+        → IsWrittenEdit nth word rest e
     of_number q k None n x = absurd (cc)
     of_number q k (Some i) n x =
-        let same : SetRecipe nth q.0 i q.2 ≡ e = cc in
+        let same : make q.0 i q.2 ≡ e = cc in
         record {
           args = q.0 ∷ q.1 ∷ q.2 ∷ [];
           args_are = three-is rest q.0 q.1 q.2 k;
-          is_command = λ fields a. subst (λ z. IsCommand fields (Apply z)) same (q.1, number-is q.1 i n, a);
+          is_command = λ fields a. subst (λ z. IsCommand fields (Apply z)) same (is q.0 q.1 q.2 i fields (number-is q.1 i n) a);
         }
 
-    go : (o : Option (List ℕ × List ℕ × List ℕ)) → three_fields rest ≡ o → set_recipe_after nth o ≡ Some e → IsWrittenEdit nth (codes "recipe-set") rest e
+    go : (o : Option (List ℕ × List ℕ × List ℕ)) → three_fields rest ≡ o → numbered_line_after make o ≡ Some e → IsWrittenEdit nth word rest e
     go None k m = absurd (cc)
     go (Some q) k m = of_number q k (number q.1) refl m
 
@@ -230,8 +233,9 @@ by_word-written nth word.Depend rest e h = two-written nth (codes "depend") rest
 by_word-written nth word.DependOrder rest e h = two-written nth (codes "depend-order") rest e (AddPrereq true nth) h (λ a b fields k. k)
 by_word-written nth word.Undepend rest e h = two-written nth (codes "undepend") rest e (RemovePrereq nth) h (λ a b fields k. k)
 by_word-written nth word.Recipe rest e h = two-written nth (codes "recipe") rest e (AddRecipe nth) h (λ a b fields k. k)
-by_word-written nth word.RecipeSet rest e h = set_recipe-written nth rest e h
+by_word-written nth word.RecipeSet rest e h = numbered_line-written nth (codes "recipe-set") rest e (SetRecipe nth) h (λ target digits line n fields i a. (digits, i, a))
 by_word-written nth word.RecipeDel rest e h = remove_recipe-written nth rest e h
+by_word-written nth word.RecipeInsert rest e h = numbered_line-written nth (codes "recipe-insert") rest e (InsertRecipe nth) h (λ target digits line n fields i a. (digits, i, a))
 by_word-written nth word.Rename rest e h = rename_target-written nth rest e h
 
 edit-written : (nth : Option ℕ) (first rest : List ℕ) (e : Edit) → edit nth first rest ≡ Some e → IsWrittenEdit nth first rest e

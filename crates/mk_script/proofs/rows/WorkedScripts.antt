@@ -5,7 +5,7 @@ use Rattle.bstr.specs.Text.{line_len, lines_from}
 use Rattle.mk_class.specs.declared.assignment.Flavor.TheVariants.{Recursive, Simple}
 use Rattle.mk_edit_language.specs.declared.edit.RuleSeparator.TheVariants.{Single, Double}
 use Rattle.mk_edit_language.specs.Edits.{Bottom, BeforeVar, AfterVar, BeforeRule}
-use Rattle.mk_edit_language.specs.Edits.{SetValue, AppendValue, AddAssign, RemoveAssign, AddRule, RemoveRule, AddPrereq, RemovePrereq, AddRecipe, SetRecipe, RemoveRecipe, RenameTarget}
+use Rattle.mk_edit_language.specs.Edits.{SetValue, AppendValue, AddAssign, RemoveAssign, AddRule, RemoveRule, AddPrereq, RemovePrereq, AddRecipe, SetRecipe, RemoveRecipe, InsertRecipe, RenameTarget}
 use Rattle.mk_history.specs.Machine.{Apply, Undo, Redo, Begin, End, Cancel}
 use Rattle.mk_script.proofs.on_scripts.ReaderLemmas.{on_line, read_script}
 
@@ -448,3 +448,35 @@ row_nth_twice_is_no_command = refl
 row_recipe_line_zero_is_refused : read_script (codes "recipe-del a 0") ≡ Ok (on_line 1 (Apply (RemoveRecipe None (codes "a") 0)) ∷ [])
 unfolding line_len lines_from
 row_recipe_line_zero_is_refused = refl
+
+row_recipe_insert_between_two_lines : read_script (codes "recipe-insert c 2 x") ≡ Ok (on_line 1 (Apply (InsertRecipe None (codes "c") 2 (codes "x"))) ∷ [])
+unfolding line_len lines_from
+row_recipe_insert_between_two_lines = refl
+
+row_recipe_insert_into_a_rule_without_a_recipe : read_script (codes "recipe-insert c 1 x") ≡ Ok (on_line 1 (Apply (InsertRecipe None (codes "c") 1 (codes "x"))) ∷ [])
+unfolding line_len lines_from
+row_recipe_insert_into_a_rule_without_a_recipe = refl
+
+row_recipe_insert_two_below_the_last_is_refused : read_script (codes "recipe-insert c 3 x") ≡ Ok (on_line 1 (Apply (InsertRecipe None (codes "c") 3 (codes "x"))) ∷ [])
+unfolding line_len lines_from
+row_recipe_insert_two_below_the_last_is_refused = refl
+
+row_recipe_insert_at_zero_is_refused : read_script (codes "recipe-insert a 0 y") ≡ Ok (on_line 1 (Apply (InsertRecipe None (codes "a") 0 (codes "y"))) ∷ [])
+unfolding line_len lines_from
+row_recipe_insert_at_zero_is_refused = refl
+
+row_recipe_insert_across_a_conditional_is_refused : read_script (codes "recipe-insert foo 1 y") ≡ Ok (on_line 1 (Apply (InsertRecipe None (codes "foo") 1 (codes "y"))) ∷ [])
+unfolding line_len lines_from
+row_recipe_insert_across_a_conditional_is_refused = refl
+
+row_recipe_insert_tells_a_bad_number_before_a_conditional : read_script (codes "recipe-insert foo 3 y") ≡ Ok (on_line 1 (Apply (InsertRecipe None (codes "foo") 3 (codes "y"))) ∷ [])
+unfolding line_len lines_from
+row_recipe_insert_tells_a_bad_number_before_a_conditional = refl
+
+row_recipe_insert_below_a_prefix_that_is_reset : read_script (codes "recipe-insert bar 1 c") ≡ Ok (on_line 1 (Apply (InsertRecipe None (codes "bar") 1 (codes "c"))) ∷ [])
+unfolding line_len lines_from
+row_recipe_insert_below_a_prefix_that_is_reset = refl
+
+row_recipe_insert_after_an_open_line_is_refused : read_script (codes "recipe-insert foo 2 y") ≡ Ok (on_line 1 (Apply (InsertRecipe None (codes "foo") 2 (codes "y"))) ∷ [])
+unfolding line_len lines_from
+row_recipe_insert_after_an_open_line_is_refused = refl

@@ -7,7 +7,7 @@ use Rattle.mk_history.specs.Machine as machine
 use Rattle.mk_history.specs.Machine.{Command, Apply, Undo, Redo, Begin, End, Cancel}
 use Rattle.mk_history.specs.Shown.{Shown, shown_edited, shown_ended, shown_back, shown_forward}
 use Rattle.mk_session.specs.Sessions.{answer, edited, text_with, session_refusal}
-use Rattle.mk_edit_language.specs.Edits.{Place, Bottom, Edit, AppendValue, AddAssign, AddRule, RemoveRule, AddPrereq, RemovePrereq, AddRecipe, SetRecipe, RemoveRecipe, RenameTarget}
+use Rattle.mk_edit_language.specs.Edits.{Place, Bottom, Edit, AppendValue, AddAssign, AddRule, RemoveRule, AddPrereq, RemovePrereq, AddRecipe, SetRecipe, RemoveRecipe, InsertRecipe, RenameTarget}
 use Rattle.mk_edit_language.specs.Addresses.{Address, address}
 use Rattle.mk_edit_language.specs.EditSpans.{spans_of}
 use Rattle.mk_edit_language.specs.Causes.{where_holds}
@@ -63,6 +63,7 @@ absent-other : (ls : List ClassedLine) (e : Edit) → IsOther (absent ls e)
 absent-other ls (RemovePrereq nth t w) h = where_holds-other _ Absent (λ k. absurd (cc)) h
 absent-other ls (SetRecipe nth t k c) h = where_holds-other _ Absent (λ k. absurd (cc)) h
 absent-other ls (RemoveRecipe nth t k) h = where_holds-other _ Absent (λ k. absurd (cc)) h
+absent-other ls (InsertRecipe nth t k c) h = where_holds-other _ Absent (λ k. absurd (cc)) h
 absent-other ls e h = nothing-other h
 
 already-other : (ls : List ClassedLine) (e : Edit) → IsOther (already ls e)
@@ -81,6 +82,7 @@ shared_rule-other ls e h = nothing-other h
 straddles-other : (ls : List ClassedLine) (e : Edit) → IsOther (straddles ls e)
 straddles-other ls (RemoveRule nth t) h = where_holds-other _ Straddles (λ k. absurd (cc)) h
 straddles-other ls (AddRecipe nth t c) h = where_holds-other _ Straddles (λ k. absurd (cc)) h
+straddles-other ls (InsertRecipe nth t k c) h = where_holds-other _ Straddles (λ k. absurd (cc)) h
 straddles-other ls e h = nothing-other h
 
 open_value-other : (ls : List ClassedLine) (e : Edit) → IsOther (open_value ls e)
