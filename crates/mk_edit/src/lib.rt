@@ -22,6 +22,7 @@
 //! - `remove_prereq`: a prerequisite taken out, planned.
 //! - `set_value`: another value, planned.
 //! - `append_value`: a text appended to a value, planned.
+//! - `add_word`: a word put after a value, planned.
 //! - `remove_assign`: the removal of an assignment.
 //! - `rename_target_places`: the lines that a rename exchanges and their places, noted.
 //! - `rename_target_effect`: what a rename finds among the lines and does to them.
@@ -33,6 +34,7 @@
 mod add_line;
 mod add_prereq;
 mod add_recipe;
+mod add_word;
 mod append_value;
 mod header;
 mod insert_recipe;

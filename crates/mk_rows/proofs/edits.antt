@@ -4,3 +4,4 @@ mod WorkedEdits
 mod RandomEdits
 mod RandomRecipes
 mod CornerEdits
+mod WordEdits

@@ -275,6 +275,11 @@ const REFUSED_EDITS: [Refused; 14] = [
         Step::AppendValue(b"X", b"${)#}"),
         Refusal::OpenValue,
     ),
+    (
+        b"F = -g a$\\\n\n",
+        Step::AddWord(b"F", b"b"),
+        Refusal::OpenValue,
+    ),
     (b"X = a\\", Step::AddAssign(b"Y", b"1"), Refusal::OpenLine),
     (
         b"foo:\nX = 1\n\tY = 2\n",

@@ -29,6 +29,7 @@ const FRONT: &[u8] = b"A=1\nall: a b\n\tx\n\ty\n";
 const EDITS: [(&str, Step, usize); 13] = [
     ("set", Step::SetValue(b"A", b"2"), 1),
     ("append", Step::AppendValue(b"A", b"2"), 1),
+    ("add", Step::AddWord(b"A", b"2"), 1),
     ("assign", Step::AddAssign(b"C", b"2"), 1),
     ("unset", Step::RemoveAssign(b"A"), 1),
     ("rule", Step::AddRule(b"c", b"d"), 1),

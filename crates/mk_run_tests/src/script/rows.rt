@@ -34,6 +34,11 @@ pub static SCRIPTS: [Script; 16] = [
         growths: 4,
     },
     Script {
+        text: b"add F -g\nnth 2 \"add\" F \"-O2\"",
+        commands: b"1 AddWord -|F|-g\n2 AddWord 2|F|-O2\n",
+        growths: 5,
+    },
+    Script {
         text: b"\n# c\r\n nth 2\tset X \"\" \r\nundo\r\n",
         commands: b"3 SetValue 2|X|\n4 Undo\n",
         growths: 2,

@@ -39,6 +39,7 @@ named-entry P (entry ∷ table) each text k h = go (bytes_eq text entry.1) refl 
 abbrev pub word_text : EditWord → List ℕ
 word_text word.Set = codes "set"
 word_text word.Append = codes "append"
+word_text word.Add = codes "add"
 word_text word.Unset = codes "unset"
 word_text word.Assign = codes "assign"
 word_text word.Rule = codes "rule"
