@@ -5,7 +5,7 @@
 _mkedit_options() {
     case $1 in
         "") echo "-h --help -V --version" ;;
-        edit) echo "-k --keep-going -d --depth -o --output -i --in-place -e --expression -h --help" ;;
+        edit) echo "-k --keep-going -d --depth -o --output -i --in-place --backup -e --expression -h --help" ;;
         help) ;;
         *) echo "-h --help" ;;
     esac
@@ -22,8 +22,8 @@ _mkedit() {
     local command= commands="edit vars rules check caveats explain help"
     ((COMP_CWORD > 1)) && command=${COMP_WORDS[1]}
     COMPREPLY=()
-    if [[ $command == edit && $before == @(-d|--depth|-e|--expression) ]]; then
-        return # a number, or a command of a script
+    if [[ $command == edit && $before == @(-d|--depth|-e|--expression|--backup) ]]; then
+        return # a number, a command of a script, or a suffix
     elif [[ $word == -* && $before != @(-o|--output) ]]; then
         mapfile -t COMPREPLY < <(compgen -W "$(_mkedit_options "$command")" -- "$word")
     elif ((COMP_CWORD == 1)) || [[ $command == help && COMP_CWORD -eq 2 ]]; then

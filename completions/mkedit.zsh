@@ -28,6 +28,7 @@ _mkedit_edit() {
         '(-d --depth)'{-d+,--depth=}'[how many edits can be undone, from 1 to 10000]:depth: ' \
         '(-o --output -i --in-place)'{-o+,--output=}'[where the text goes; it may be FILE, which is then named twice]:output:_files' \
         '(-i --in-place -o --output)'{-i,--in-place}'[the makefile gets the text]' \
+        '(-o --output)--backup=[with -i, keeps the old file under its name with this suffix at its end]:suffix: ' \
         '*'{-e+,--expression=}'[a line of a script, in place of the script]:command: ' \
         '(-h --help)'{-h,--help}'[print help]' \
         $files

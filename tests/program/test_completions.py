@@ -17,10 +17,10 @@ FOLDER = TOP / "completions"
 COMMAND = re.compile(r"^  (\w+) {2}", re.M)
 OPTION = re.compile(r"^ +(?:(-\w), )?(--[\w-]+)", re.M)
 ZSH_COMMAND = re.compile(r"^ +'(\w+):.*'$", re.M)
-ZSH_OPTION = re.compile(r"\{(-\w)\+?,(--[\w-]+?)=?\}")
+ZSH_OPTION = re.compile(r"\{(-\w)\+?,(--[\w-]+?)=?\}|^ +'(?:\([^)]*\))?()(--[\w-]+?)=?\[", re.M)
 FISH_COMMAND = re.compile(r"-n __fish_use_subcommand -a (\w+)")
 FISH_REFUSALS = re.compile(r"^set -l refusals (.*)$", re.M)
-FISH_OPTION = re.compile(r"-s (\w) -l ([\w-]+)")
+FISH_OPTION = re.compile(r"(?:-s (\w) )?-l ([\w-]+)")
 
 
 def section(shown, title):
@@ -30,8 +30,9 @@ def section(shown, title):
 
 def options_of_fish(text, others):
     """The options in the lines that do not have the condition of others."""
-    lines = "\n".join(it for it in text.splitlines() if others not in it)
-    return {it for pair in FISH_OPTION.findall(lines) for it in (f"-{pair[0]}", f"--{pair[1]}")}
+    lines = "\n".join(it for it in text.splitlines() if it.startswith("complete") and others not in it)
+    found = FISH_OPTION.findall(lines)
+    return {f"-{short}" for short, _ in found if short} | {f"--{long}" for _, long in found}
 
 
 def section_of_zsh(text, function):
@@ -133,7 +134,7 @@ class Completions(RoomCase):
         functions = (("", []), ("_edit", ["edit"]), ("_query", ["vars"]), ("_explain", ["explain"]))
         for function, words in functions:
             part = section_of_zsh(text, f"_mkedit{function}")
-            found = {it for pair in ZSH_OPTION.findall(part) for it in pair}
+            found = {it for pair in ZSH_OPTION.findall(part) for it in pair if it}
             self.assertEqual(found, options(self.room, *words))
         part = section_of_zsh(text, "_mkedit_explain")
         found = {*re.search(r"refusals=\((.*?)\)", part, re.S)[1].split()}

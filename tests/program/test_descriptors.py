@@ -124,8 +124,9 @@ class Descriptors(RoomCase):
 
     def test_both_outputs_may_be_gone(self):
         with nobody_reads() as gone:
-            for words in (["edit", "script", "Makefile"], *([it, "queried"] for it in ANSWERS)):
-                self.assert_run(silent(3), *words, stdout=gone, stderr=gone)
+            self.assert_run(silent(3), "edit", "script", "Makefile", stdout=gone, stderr=gone)
+            for query in ANSWERS:
+                self.assert_run(silent(0), query, "queried", stdout=gone, stderr=gone)
 
     def test_one_stream_may_be_the_input_and_the_output(self):
         reader, writer = os.pipe()

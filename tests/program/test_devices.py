@@ -105,7 +105,7 @@ class Devices(RoomCase):
         self.assert_run(WRITE_FAULT, "edit", "script", "Makefile", stdout=writer)
         os.close(writer)
 
-    def assert_fault_of_leaving(self, *words):
+    def assert_left(self, wanted, *words):
         """Runs the program, whose reader leaves after the first byte."""
         reader, writer = os.pipe()
 
@@ -115,15 +115,26 @@ class Devices(RoomCase):
                 os.read(reader, 1)
             os.close(reader)
 
-        self.assert_run(WRITE_FAULT, *words, stdout=writer, meanwhile=leave)
+        self.assert_run(wanted, *words, stdout=writer, meanwhile=leave)
 
     def test_a_reader_that_leaves_early_is_a_write_fault(self):
         self.room.write("long", b"# a comment of forty bytes, and its end\n" * 25_000)
-        self.assert_fault_of_leaving("edit", "empty", "long")
+        self.assert_left(WRITE_FAULT, "edit", "empty", "long")
 
-    def test_a_query_whose_reader_leaves_early_is_a_write_fault(self):
+    def test_a_query_whose_reader_leaves_early_is_done(self):
         self.room.write("long", b"NAME = a value, and a line of forty bytes\n" * 25_000)
-        self.assert_fault_of_leaving("vars", "long")
+        self.room.write("rules", b"all: main.o and a line of forty bytes in all\n" * 25_000)
+        self.room.write("rough", b"all: a\\\\ b \\c and a line of forty bytes in all\n" * 25_000)
+        self.room.write("caveats", b"\tNAME = a value, and a line of forty bytes\n" * 25_000)
+        for query, name in (("vars", "long"), ("rules", "rules"), ("check", "rough"), ("caveats", "caveats")):
+            self.assert_left(silent(0), query, name)
+
+    def test_a_query_that_nobody_reads_is_done(self):
+        for query in ANSWERS:
+            reader, writer = os.pipe()
+            os.close(reader)
+            self.assert_run(silent(0), query, "queried", stdout=writer)
+            os.close(writer)
 
     def test_a_refused_script_needs_no_output(self):
         self.assert_run(REFUSED, "edit", "undo", "Makefile", closed=(1,))

@@ -9,6 +9,7 @@ from tests.lib.rooms import (
     ANSWERS,
     EDITED,
     NO_COMMAND,
+    QUERIED,
     READ_FAULT,
     TEXT,
     TOO_LONG,
@@ -45,13 +46,33 @@ class Files(RoomCase):
         self.assert_run(cannot_open(""), "edit", "script", "")
         self.assert_run(cannot_open(""), "check", "")
 
-    def test_a_dash_is_the_name_of_a_file(self):
-        self.assert_run(cannot_open("-"), "edit", "script", "-")
-        self.assert_run(cannot_open("-"), "edit", "script", "-", given=TEXT)
-        self.assert_run(cannot_open("-"), "vars", "-", given=TEXT)
+    def test_a_dash_is_standard_input(self):
+        self.room.write("-", b"FILE = of another name\n")
+        self.assert_run(EDITED, "edit", "script", "-", given=TEXT)
+        self.assert_run(EDITED, "edit", "-e", "set CC clang", "-", given=TEXT)
+        self.assert_run(EDITED, "edit", "-", "Makefile", given=b"set CC clang\n")
+        self.assert_run(EDITED, "edit", "--", "-", "Makefile", given=b"set CC clang\n")
+        for query, answer in ANSWERS.items():
+            self.assert_run(Outcome(answer, b"", 0), query, "-", given=QUERIED)
+        self.assert_run(READ_FAULT, "edit", "script", "-", closed=(0,))
+        self.assert_run(READ_FAULT, "edit", "-", "Makefile", closed=(0,))
+
+    def test_script_and_makefile_are_not_both_standard_input(self):
+        for words in (("-", "-"), ("-",), ("-k", "-", "-"), ("-o", "out", "-"), ("-o", "out", "-", "-")):
+            got = self.room.run("edit", *words, given=b"set CC clang\n")
+            self.assertEqual((got.stdout, got.status), (b"", 2), words)
+            for it in (b"SCRIPT", b"FILE", b"'-'"):
+                self.assertIn(it, got.stderr)
+        self.assert_holds("out", None)
+
+    def test_a_file_that_is_called_a_dash_is_named_by_its_folder(self):
         self.room.write("-", TEXT)
-        self.assert_run(Outcome(b"1:0: CC = gcc\n", b"", 0), "vars", "-")
-        self.assert_run(EDITED, "edit", "script", "-")
+        self.assert_run(Outcome(b"1:0: CC = gcc\n", b"", 0), "vars", "./-")
+        self.assert_run(EDITED, "edit", "script", "./-")
+        self.assert_run(silent(0), "edit", "-i", "script", "./-")
+        self.assert_holds("-", EDITED.stdout)
+        self.assert_run(silent(0), "edit", "-o", "-", "script", "Makefile")
+        self.assert_holds("-", EDITED.stdout)
 
     def test_a_directory_as_file_is_a_read_fault(self):
         for words in (["edit", "script"], *([it] for it in ANSWERS)):

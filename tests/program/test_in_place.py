@@ -91,6 +91,27 @@ class InPlace(RoomCase):
         self.assert_run(silent(0), "edit", "-i", "empty", "nothing")
         self.assert_holds("nothing", b"")
 
+    def test_a_file_whose_bytes_do_not_change_is_left_alone(self):
+        self.room.write("both", b"undo\nset CC gcc\n")
+        for words in (
+            ("empty", "Makefile"),
+            ("-e", "set CC gcc", "Makefile"),
+            ("-e", "set CC clang\nundo", "Makefile"),
+            ("--backup", "~", "empty", "Makefile"),
+        ):
+            self.assert_stays(silent(0), "edit", "-i", *words)
+        self.assert_stays(REFUSED, "edit", "-ki", "both", "Makefile")
+
+    def test_a_file_of_any_size_is_compared_to_its_end(self):
+        for size in (0, 1, 8_191, 8_192, 8_193, 16_384, 100_000):
+            text = TEXT + b"#" * size
+            self.room.write("Makefile", text)
+            self.assert_stays(silent(0), "edit", "-i", "empty", "Makefile")
+            self.assert_run(silent(0), "edit", "-i", "-e", "assign bottom X = 1", "Makefile")
+            self.assert_holds("Makefile", text + (b"\n" if size else b"") + b"X = 1\n")
+            self.assert_run(silent(0), "edit", "-i", "-e", "unset X", "Makefile")
+            self.assert_holds("Makefile", text + (b"\n" if size else b""))
+
     def test_the_mode_stays(self):
         for mode in (0o755, 0o640, 0o600, 0o444, 0o666, 0o777):
             self.room.write("Makefile", TEXT, mode=mode)
@@ -216,6 +237,8 @@ class InPlace(RoomCase):
         for words in (
             ("edit", "-i", "script"),
             ("edit", "-i", "-e", "undo"),
+            ("edit", "-i", "script", "-"),
+            ("edit", "-i", "-e", "undo", "-"),
             ("edit", "-i", "-o", "out", "script", "Makefile"),
             ("edit", "-i", "-o", "Makefile", "-e", "undo", "Makefile"),
             ("edit", "-i", "-i", "script", "Makefile"),

@@ -105,10 +105,10 @@ class Manual(RoomCase):
         for command in ("edit", "vars", "rules", "check", "caveats", "explain", "help"):
             self.assertIn(f".Cm {command}\n", synopsis)
         shown = self.room.run("--help").stdout.decode() + self.room.run("edit", "--help").stdout.decode()
-        for short, long in re.findall(r"^  -(\w), --([\w-]+)", shown, re.M):
+        for short, long in re.findall(r"^  (?:-(\w),|   ) --([\w-]+)", shown, re.M):
             if short != "h":
-                option = re.compile(rf"^\.It Fl {short}.* Fl -{long}\b", re.M)
-                self.assertRegex(page(), option)
+                called = f"{short}.* Fl -{long}" if short else f"-{long}"
+                self.assertRegex(page(), re.compile(rf"^\.It Fl {called}\b", re.M))
 
     def test_the_manual_page_has_every_message(self):
         text = re.sub(r" ?\b(?:Ar|No) ", " ", page())

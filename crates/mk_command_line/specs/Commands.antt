@@ -73,6 +73,13 @@ in_place_rule = record (new_rule (codes "in-place")) {
   is_free = false;
 }
 
+-- --backup SUFFIX
+abbrev pub backup_rule : Rule
+backup_rule = record (new_rule (codes "backup")) {
+  long = Some (codes "backup");
+  value_names = 1;
+}
+
 -- -e COMMAND, --expression COMMAND, once or more
 abbrev pub expression_rule : Rule
 expression_rule = record (new_rule (codes "expression")) {
@@ -89,7 +96,8 @@ refusal_rule = record (new_rule (codes "REFUSAL")) { required = true }
 -- ---- the commands
 
 abbrev pub edit_options : List Rule
-edit_options = keep_going_rule ∷ depth_rule ∷ output_rule ∷ in_place_rule ∷ expression_rule ∷ []
+edit_options =
+    keep_going_rule ∷ depth_rule ∷ output_rule ∷ in_place_rule ∷ backup_rule ∷ expression_rule ∷ []
 
 abbrev arguments_of : CommandName → List Rule
 arguments_of Edit = edit_options ++ script_rule ∷ file_rule ∷ []

@@ -1,14 +1,17 @@
 -- What the words of the command line ask for, by what clap finds in them.
 -- Told in docs/mkedit.1.
-use Rattle.std.specs.Prelude.{◌≡◌, ℕ, Bool, true, false, List, Option, Some, None, Result, Ok, codes, option_map, string_bytes, ⊤}
-use Rattle.std.specs.Borrow.{Bor}
+use Rattle.std.specs.Prelude.{◌≡◌, ℕ, Bool, true, false, List, Option, Some, None, Result, Ok, codes, if◌then◌else◌, not, ◌&&◌, ◌==◌, option_and_then, option_map, string_bytes, ⊤}
 use Rattle.std.specs.List.{join_by, list_all}
+use Rattle.std.specs.Str.{bytes_eq}
 use Rattle.std.specs.Str.Parse.{digits_value}
 use Rattle.std.specs.Char.{is_ascii_digit}
 use Rattle.clap.specs.Words.{Row, Text, all_of, first_of, one_of}
+use Rattle.clap.specs.Walk.{is_empty}
 use Rattle.mk_command_line.specs.Commands.{command_named}
 use Rattle.mk_command_line.specs.declared.command_name.CommandName.{CommandName}
 use Rattle.mk_command_line.specs.declared.command_name.CommandName.TheVariants.{Edit, Query, Explain}
+use Rattle.mk_command_line.specs.declared.request.Input.{Input}
+use Rattle.mk_command_line.specs.declared.request.Input.TheVariants as input
 use Rattle.mk_command_line.specs.declared.request.Script.{Script}
 use Rattle.mk_command_line.specs.declared.request.Script.TheVariants as script
 use Rattle.mk_command_line.specs.declared.request.Output.{Output}
@@ -16,6 +19,26 @@ use Rattle.mk_command_line.specs.declared.request.Output.TheVariants as output
 use Rattle.mk_command_line.specs.declared.request.EditWords.{EditWords}
 use Rattle.mk_command_line.specs.declared.request.Request.{Request}
 use Rattle.mk_command_line.specs.declared.request.Request.TheVariants as request
+
+-- ---- inputs
+
+-- the file that an input is, by its name; none if it is standard input
+abbrev pub file_of : Input → Option Text
+file_of input.Standard = None
+file_of (input.File name) = Some name.now
+
+-- the file that a word names; `-` names none, since it is standard input
+abbrev pub file_named : Text → Option Text
+file_named word = if bytes_eq word (codes "-") then None else Some word
+
+-- the input is the makefile that a word names; standard input if there is no word
+abbrev pub IsMakefile : Option Text → Input → Type 0
+IsMakefile word input = file_of input ≡ option_and_then file_named word
+
+-- script and makefile are not both standard input
+abbrev pub AreApart : Script → Input → Type 0
+AreApart (script.From input.Standard) input.Standard = ⊥
+AreApart _ _ = ⊤
 
 -- ---- the words of `edit`; clap has a row for each argument, with its values
 
@@ -34,28 +57,41 @@ IsDepth None depth = ⊥
 -- the lines of -e, and the one or two words that are no option: the script and the makefile.
 -- After -e the one word is the makefile.
 abbrev pub ReadsFrom : Option (List Text) → Option Text → Option Text
-    → Script → Option (Bor Text) → Type 0
+    → Script → Input → Type 0
 ReadsFrom (Some lines) first None (script.Lines text) file =
-    (string_bytes text ≡ join_by (λ line. line) (codes "\n") lines)
-    × (option_map (λ name. name.now) file ≡ first)
-ReadsFrom None (Some first) second (script.File name) file =
-    (name.now ≡ first) × (option_map (λ name. name.now) file ≡ second)
+    (string_bytes text ≡ join_by (λ line. line) (codes "\n") lines) × IsMakefile first file
+ReadsFrom None (Some first) second (script.From from) file =
+    (file_of from ≡ file_named first) × IsMakefile second file
 ReadsFrom _ _ _ _ _ = ⊥
 
--- the value of -o, and the makefile; with -i the text goes to the makefile
-abbrev pub GoesTo : Bool → Option Text → Option (Bor Text) → Output → Type 0
-GoesTo false None file output.Standard = ⊤
-GoesTo false (Some out) file (output.File name) = name.now ≡ out
-GoesTo true out (Some file) (output.InPlace name) = name ≡ file
-GoesTo _ _ _ _ = ⊥
+-- whether a text may be put at the end of a file's name: it is not empty, and has no `/`
+abbrev pub is_suffix : Text → Bool
+is_suffix text = not (is_empty text) && list_all (λ byte. not (byte == 47)) text
+
+-- the suffix of --backup, if there is one
+abbrev pub IsBackup : Option Text → Type 0
+IsBackup None = ⊤
+IsBackup (Some suffix) = is_suffix suffix ≡ true
+
+-- the values of -o and --backup, and the makefile; with -i the text goes to the makefile. Without it
+-- there is no --backup.
+abbrev pub GoesTo : Bool → (out backup : Option Text) → Input → Output → Type 0
+GoesTo false None None file output.Standard = ⊤
+GoesTo false (Some out) None file (output.File name) = name.now ≡ out
+GoesTo true out backup (input.File file) (output.InPlace place) =
+    (place.name ≡ file) × (option_map (λ suffix. suffix.now) place.backup ≡ backup)
+    × IsBackup backup
+GoesTo _ _ _ _ _ = ⊥
 
 pub record AsksEdit (rows : List Row) (words : EditWords) : Type 0 where
   pub keep_going : IsFlag (codes "keep-going") rows words.keep_going
   pub depth : IsDepth (first_of (codes "depth") rows) words.depth
   pub from : ReadsFrom (all_of (codes "expression") rows) (first_of (codes "SCRIPT") rows)
       (first_of (codes "FILE") rows) words.script words.file
+  pub apart : AreApart words.script words.file
   pub to : (in_place : Bool) × IsFlag (codes "in-place") rows in_place
-      × GoesTo in_place (first_of (codes "output") rows) words.file words.output
+      × GoesTo in_place (first_of (codes "output") rows) (first_of (codes "backup") rows)
+      words.file words.output
 
 -- ---- all words
 
@@ -64,7 +100,7 @@ module _ {R E : Type 0} (reads : Text → Result R E → Type 0) where
   abbrev AsksByCommand : Option CommandName → List Row → Request R → Type 0
   AsksByCommand (Some Edit) rows (request.Edit words) = AsksEdit rows words
   AsksByCommand (Some (Query query)) rows (request.Query asked file) =
-      (asked ≡ query) × (option_map (λ name. name.now) file ≡ first_of (codes "FILE") rows)
+      (asked ≡ query) × IsMakefile (first_of (codes "FILE") rows) file
   AsksByCommand (Some Explain) rows (request.Explain refusal) =
       (word : Text) × (first_of (codes "REFUSAL") rows ≡ Some word) × reads word (Ok refusal)
   AsksByCommand _ _ _ = ⊥

@@ -1,7 +1,7 @@
 //! The arguments of the commands, each with the name by which its words are found.
 ghost use Rattle.std.specs.Prelude.{◌≡◌, IfOk, false};
 ghost use Rattle.clap.specs.Words.{rule_of};
-ghost use Rattle.mk_command_line.specs.Commands.{depth_rule, expression_rule, file_rule};
+ghost use Rattle.mk_command_line.specs.Commands.{backup_rule, depth_rule, expression_rule, file_rule};
 ghost use Rattle.mk_command_line.specs.Commands.{in_place_rule, keep_going_rule, output_rule};
 ghost use Rattle.mk_command_line.specs.Commands.{refusal_rule, script_rule};
 
@@ -25,6 +25,8 @@ pub(crate) const OUTPUT: &str = "output";
 
 pub(crate) const IN_PLACE: &str = "in-place";
 
+pub(crate) const BACKUP: &str = "backup";
+
 pub(crate) const EXPRESSION: &str = "expression";
 
 pub(crate) const REFUSAL: &str = "REFUSAL";
@@ -34,7 +36,7 @@ pub(crate) fn file<'a>(alloc: Global) -> Arg<'a>
     ensures rule { rule_of result ≡ file_rule }
     ensures local { result.global ≡ false }
 {
-    Arg::new(alloc, FILE).help("The makefile; standard input where none is named")
+    Arg::new(alloc, FILE).help("The makefile; standard input where it is - or left out")
 }
 
 /// The script.
@@ -43,7 +45,7 @@ pub(crate) fn script<'a>(alloc: Global) -> Result<Arg<'a>, AllocError>
     ensures local { IfOk result (λ arg. arg.global ≡ false) }
 {
     let script = Arg::new(alloc, SCRIPT).required_unless_present(EXPRESSION)?;
-    Ok(script.help("The script: a command a line"))
+    Ok(script.help("The script: a command a line; - is standard input"))
 }
 
 /// Whether the commands after a refused one are done.
@@ -95,6 +97,17 @@ pub(crate) fn in_place<'a>(alloc: Global) -> Result<Arg<'a>, AllocError>
         .action(ArgAction::SetTrue)
         .conflicts_with(OUTPUT)?;
     Ok(in_place.help("FILE gets the text, and is the old file or the new one at every moment"))
+}
+
+/// What the name of the old makefile gets at its end, where the old makefile is kept.
+pub(crate) fn backup<'a>(alloc: Global) -> Arg<'a>
+    ensures rule { rule_of result ≡ backup_rule }
+    ensures local { result.global ≡ false }
+{
+    Arg::new(alloc, BACKUP)
+        .long("backup")
+        .value_name("SUFFIX")
+        .help("With -i, keeps the old file under FILE's name with SUFFIX at its end")
 }
 
 /// The lines of a script that stand on the command line.

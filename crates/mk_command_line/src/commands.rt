@@ -5,7 +5,9 @@ ghost use Rattle.clap.specs.declared.builder.command.Command.TheViews.{out-Comma
 ghost use Rattle.mk_command_line.specs.Commands.{command_app, commands, edit_options, leaf};
 ghost use Rattle.mk_command_line.specs.Commands.{first_command, program_for, program_with, shape_of_command, word_of};
 
-use crate::arguments::{depth, expression, file, in_place, keep_going, output, refusal, script};
+use crate::arguments::{
+    backup, depth, expression, file, in_place, keep_going, output, refusal, script,
+};
 use crate::command_name::{COMMANDS, CommandName, command_named};
 use crate::help;
 use clap::Command;
@@ -40,6 +42,7 @@ fn edit_options<'a>(alloc: Global) -> Result<Command<'a>, AllocError>
         .arg(depth(alloc))?
         .arg(output(alloc))?
         .arg(in_place(alloc)?)?
+        .arg(backup(alloc))?
         .arg(expression(alloc))
 }
 

@@ -19,4 +19,4 @@ mod reading;
 pub mod request;
 
 pub use reading::read_request;
-pub use request::{EditWords, MAX_DEPTH, Output, Query, Request, Script};
+pub use request::{EditWords, InPlace, Input, MAX_DEPTH, Output, Query, Request, Script};

@@ -1,22 +1,28 @@
 //! From the words of the command line to what they ask for.
-ghost use Rattle.std.specs.Prelude.{◌≡◌, Bool, IfErr, IfOk, IfSome, List, codes, false, map, option_map, string_bytes, true, ℕ};
+ghost use Rattle.std.specs.Prelude.{◌≡◌, ◌==◌, not, Bool, IfErr, IfOk, IfSome, List, codes, false, map, option_map, string_bytes, true, ℕ};
 ghost use Rattle.std.specs.Char.{is_ascii_digit};
 ghost use Rattle.std.specs.List.{list_all};
 ghost use Rattle.clap.specs.Words.{all_of, app_of, first_of, found_of, kind_of, rows_of};
 ghost use Rattle.clap.specs.Words.{subcommand_of, subcommand_rows_of, takes};
 ghost use Rattle.clap.specs.declared.error.kind.ErrorKind.TheVariants.{OutOfMemory};
 ghost use Rattle.mk_command_line.specs.Commands.{program_for};
-ghost use Rattle.mk_command_line.specs.Requests.{Asks, AsksEdit, GoesTo, IsDepth, IsFlag};
-ghost use Rattle.mk_command_line.specs.Requests.{ReadsFrom, is_query};
+ghost use Rattle.mk_command_line.specs.Requests.{AreApart, Asks, AsksEdit, GoesTo, IsDepth, IsFlag};
+ghost use Rattle.mk_command_line.specs.Requests.{IsMakefile, ReadsFrom, file_named, file_of};
+ghost use Rattle.mk_command_line.specs.Requests.{IsBackup, is_query, is_suffix};
 
-use crate::arguments::{DEPTH, EXPRESSION, FILE, IN_PLACE, KEEP_GOING, OUTPUT, REFUSAL, SCRIPT};
+use crate::arguments::{
+    BACKUP, DEPTH, EXPRESSION, FILE, IN_PLACE, KEEP_GOING, OUTPUT, REFUSAL, SCRIPT,
+};
 use crate::command_name::{CommandName, command_named};
 use crate::commands::program_for;
-use crate::request::{EditWords, Output, Request, Script};
+use crate::request::{EditWords, InPlace, Input, Output, Request, Script};
 use clap::error::ErrorKind;
 use clap::{ArgMatches, Command};
 use std::alloc::{AllocError, Global};
 use std::str::FromStr;
+
+// The word for standard input.
+const STANDARD: &str = "-";
 
 const BAD_DEPTH: &str = "invalid value for '--depth <DEPTH>': only decimal digits may stand there";
 
@@ -25,7 +31,16 @@ const NO_COMMAND: &str = "a command is required";
 const TWO_FILES: &str =
     "with '--expression <COMMAND>' there is no SCRIPT, so at most one word may stand there, FILE";
 
-const NO_FILE: &str = "with '--in-place' FILE has to be named";
+const NO_FILE: &str =
+    "with '--in-place' FILE has to be the name of a file, and neither '-' nor left out";
+
+const BOTH_STANDARD: &str =
+    "SCRIPT and FILE cannot both be standard input, which FILE is where it is '-' or left out";
+
+const BACKUP_ALONE: &str = "'--backup <SUFFIX>' may stand beside '--in-place' alone";
+
+const BAD_SUFFIX: &str =
+    "invalid value for '--backup <SUFFIX>': it may neither be empty nor have a '/'";
 
 const NO_REFUSAL: &str =
     "invalid value for '<REFUSAL>': it is no number from 1 to 20, and no refusal has this name";
@@ -74,12 +89,43 @@ fn depth_of(matches: &ArgMatches<'_>) -> Option<u32>
     }
 }
 
+// The input that a word names.
+fn input<'a>(word: &'a str) -> Input<'a>
+    ensures { file_of result ≡ file_named word.now }
+{
+    if word == STANDARD {
+        Input::Standard
+    } else {
+        Input::File(word)
+    }
+}
+
+// The makefile that a word names, if there is one.
+fn makefile<'a>(word: Option<&'a str>) -> Input<'a>
+    ensures { IsMakefile (option_map (λ word. word.now) word.entry) result }
+{
+    match word {
+        Some(word) => input(word),
+        None => Input::Standard,
+    }
+}
+
+// Whether script and makefile are both standard input.
+fn are_both_standard(script: &Script<'_>, file: Input<'_>) -> bool
+    ensures { result ≡ false → AreApart script.now file.entry }
+{
+    matches!(
+        (script, file),
+        (Script::From(Input::Standard), Input::Standard)
+    )
+}
+
 // The script and the makefile; None where two files stand beside -e. After -e there is no word for
 // a script, so that the first word is the makefile.
 fn script_and_file<'a>(
     alloc: Global,
     matches: &ArgMatches<'a>,
-) -> Result<Option<(Script<'a>, Option<&'a str>)>, AllocError>
+) -> Result<Option<(Script<'a>, Input<'a>)>, AllocError>
     ensures { IfOk result (λ found. IfSome found (λ both. ReadsFrom
         (all_of (codes "expression") (rows_of (found_of matches.now)))
         (first_of (codes "SCRIPT") (rows_of (found_of matches.now)))
@@ -90,26 +136,59 @@ fn script_and_file<'a>(
     match (values(matches, EXPRESSION), first, second) {
         (Some(commands), file, None) => {
             let lines = commands.join(alloc, "\n")?;
-            Ok(Some((Script::Lines(lines), file)))
+            Ok(Some((Script::Lines(lines), makefile(file))))
         }
-        (None, Some(script), file) => Ok(Some((Script::File(script), file))),
+        (None, Some(script), file) => Ok(Some((Script::From(input(script)), makefile(file)))),
         _ => Ok(None),
     }
 }
 
-// Where the text goes; None where it goes to a makefile that has no name.
-fn output_of<'a>(matches: &ArgMatches<'a>, file: Option<&'a str>) -> Option<Output<'a>>
-    ensures { IfSome result (λ output. (in_place : Bool)
+// Whether a word has no slash.
+fn has_no_slash(word: &str) -> bool
+    ensures { result ≡ list_all (λ byte. not (byte == 47)) word.now }
+{
+    word.bytes().all(|byte| byte != b'/')
+}
+
+// Whether a word may be put at the end of a file's name.
+fn is_suffix(word: &str) -> bool
+    ensures { result ≡ is_suffix word.now }
+{
+    !word.is_empty() && has_no_slash(word)
+}
+
+// The suffix of the name under which the old makefile is kept, if it is; or what is wrong with it.
+fn backup_of<'a>(matches: &ArgMatches<'a>) -> Result<Option<&'a str>, &'static str>
+    ensures { IfOk result (λ suffix. (option_map (λ suffix. suffix.now) suffix
+        ≡ first_of (codes "backup") (rows_of (found_of matches.now)))
+        × IsBackup (first_of (codes "backup") (rows_of (found_of matches.now)))) }
+{
+    let Some(suffix) = value(matches, BACKUP) else {
+        return Ok(None);
+    };
+    if is_suffix(suffix) {
+        Ok(Some(suffix))
+    } else {
+        Err(BAD_SUFFIX)
+    }
+}
+
+// Where the text goes; or why it cannot go there.
+fn output_of<'a>(matches: &ArgMatches<'a>, file: Input<'a>) -> Result<Output<'a>, &'static str>
+    ensures { IfOk result (λ output. (in_place : Bool)
         × IsFlag (codes "in-place") (rows_of (found_of matches.now)) in_place
         × GoesTo in_place (first_of (codes "output") (rows_of (found_of matches.now)))
-        file.entry output) }
+        (first_of (codes "backup") (rows_of (found_of matches.now))) file.entry output) }
 {
-    if is_set(matches, IN_PLACE) {
-        Some(Output::InPlace(file?))
-    } else if let Some(name) = value(matches, OUTPUT) {
-        Some(Output::File(name))
-    } else {
-        Some(Output::Standard)
+    let backup = backup_of(matches)?;
+    match (is_set(matches, IN_PLACE), backup, file) {
+        (true, backup, Input::File(name)) => Ok(Output::InPlace(InPlace { name, backup })),
+        (true, _, Input::Standard) => Err(NO_FILE),
+        (false, Some(_), _) => Err(BACKUP_ALONE),
+        (false, None, _) => match value(matches, OUTPUT) {
+            Some(name) => Ok(Output::File(name)),
+            None => Ok(Output::Standard),
+        },
     }
 }
 
@@ -127,8 +206,12 @@ fn edit_words<'a>(
     let Some((script, file)) = script_and_file(alloc, matches)? else {
         return Err(command.error(ErrorKind::TooManyValues, TWO_FILES)?);
     };
-    let Some(output) = output_of(matches, file) else {
-        return Err(command.error(ErrorKind::MissingRequiredArgument, NO_FILE)?);
+    if are_both_standard(&script, file) {
+        return Err(command.error(ErrorKind::ArgumentConflict, BOTH_STANDARD)?);
+    }
+    let output = match output_of(matches, file) {
+        Ok(output) => output,
+        Err(fault) => return Err(command.error(ErrorKind::ArgumentConflict, fault)?),
     };
     Ok(EditWords {
         keep_going: is_set(matches, KEEP_GOING),
@@ -173,7 +256,9 @@ where
         return Err(command.error(ErrorKind::MissingSubcommand, NO_COMMAND)?);
     };
     match command_named(name) {
-        Some(CommandName::Query(query)) => Ok(Request::Query(query, value(matches, FILE))),
+        Some(CommandName::Query(query)) => {
+            Ok(Request::Query(query, makefile(value(matches, FILE))))
+        }
         Some(CommandName::Explain) => Ok(Request::Explain(explained(command, matches)?)),
         Some(CommandName::Edit) => Ok(Request::Edit(edit_words(alloc, command, matches)?)),
         None => Err(command.error(ErrorKind::MissingSubcommand, NO_COMMAND)?),
@@ -187,8 +272,9 @@ where
 ///
 /// What `clap` finds wrong with them, which has its text, and help or the version where one is
 /// asked for; a depth that is not written in decimal digits alone, or is not from 1 to 10,000; two
-/// files beside a command that `-e` gives; a word that calls no refusal; `-i` beside `-o` or
-/// without FILE. A query that `clap` takes fails for want of memory alone.
+/// files beside a command that `-e` gives; a script and a makefile that are both standard input; a
+/// word that calls no refusal; `-i` beside `-o` or without the name of a file; a suffix that is empty or has a `/`, or that
+/// stands without `-i`. A query that `clap` takes fails for want of memory alone.
 pub fn read_request<'a, R: FromStr + Drop>(
     alloc: Global,
     words: &'a [String],

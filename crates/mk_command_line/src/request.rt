@@ -16,11 +16,20 @@ pub enum Query {
     Caveats,
 }
 
+/// Where bytes come from.
+#[derive(Clone, Copy)]
+pub enum Input<'a> {
+    /// Standard input.
+    Standard,
+    /// The file of this name.
+    File(&'a str),
+}
+
 /// Where the commands of an edit come from.
 #[derive(Drop)]
 pub enum Script<'a> {
-    /// The file of this name.
-    File(&'a str),
+    /// This input.
+    From(Input<'a>),
     /// The command line: these lines.
     Lines(String),
 }
@@ -32,8 +41,18 @@ pub enum Output<'a> {
     Standard,
     /// To the file of this name, which is written in place of what it has.
     File(&'a str),
-    /// To the makefile of this name, which is the old file or the new one at every moment.
-    InPlace(&'a str),
+    /// To the makefile, which is the old file or the new one at every moment.
+    InPlace(InPlace<'a>),
+}
+
+/// A makefile that is edited in place.
+#[derive(Clone, Copy)]
+pub struct InPlace<'a> {
+    /// Its name.
+    pub name: &'a str,
+    /// What the name under which the old file is kept has at its end, if it is kept. It is not
+    /// empty, and has no `/`.
+    pub backup: Option<&'a str>,
 }
 
 /// What the words of `mkedit edit` say.
@@ -47,8 +66,8 @@ pub struct EditWords<'a> {
     pub output: Output<'a>,
     /// Where the commands come from.
     pub script: Script<'a>,
-    /// The name of the makefile; without one it is standard input.
-    pub file: Option<&'a str>,
+    /// The makefile. It is not standard input where the script is.
+    pub file: Input<'a>,
 }
 
 /// What the command line asks for. `R` is what a refusal is for the caller.
@@ -56,8 +75,8 @@ pub struct EditWords<'a> {
 pub enum Request<'a, R> {
     /// A script over a makefile.
     Edit(EditWords<'a>),
-    /// A query, and the makefile's name; without one the makefile is standard input.
-    Query(Query, Option<&'a str>),
+    /// A query, and the makefile.
+    Query(Query, Input<'a>),
     /// What is said of a refusal.
     Explain(R),
 }

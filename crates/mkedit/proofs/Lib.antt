@@ -1,3 +1,5 @@
 -- Lemmas on refusals
 mod RefusalLemmas
 mod UntoldLemmas
+-- Lemmas on sources
+mod ComparisonLemmas

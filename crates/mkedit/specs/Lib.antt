@@ -2,3 +2,4 @@
 -- What the program prints.
 pub mod QueryTexts
 pub mod Explanations
+pub mod Settled

@@ -5,7 +5,7 @@ ghost use Rattle.mk_run.specs.RunEnds.{IsRunOver, TellsFaults, written};
 use crate::files::{CannotOpen, open};
 use crate::in_place::InPlaceFile;
 use crate::out_file::OutFile;
-use mk_command_line::{EditWords, Output, Script};
+use mk_command_line::{EditWords, Input, Output, Script};
 use mk_lines::{ByteSink, ByteSource, StdSink, StdSource};
 use mk_run::{Outcome, run};
 use std::alloc::Allocator;
@@ -72,8 +72,8 @@ fn run_over<R: ByteSource, S: ByteSource>(
             let mut out = OutFile::new(rt, name);
             run_to(rt.alloc(), words, makefile, script, &mut out, &mut report)
         }
-        Output::InPlace(name) => {
-            let mut out = InPlaceFile::new(rt, name);
+        Output::InPlace(place) => {
+            let mut out = InPlaceFile::new(rt, place.name, place.backup);
             let outcome = run_to(rt.alloc(), words, makefile, script, &mut out, &mut report);
             out.close();
             outcome
@@ -94,11 +94,11 @@ fn run_by<'a, S: ByteSource>(
     requires script_works { S.failed script.old ≡ false }
 {
     match words.file {
-        Some(name) => {
+        Input::File(name) => {
             let mut makefile = StdSource::new(open(rt, name)?);
             Ok(run_over(rt, words, &mut makefile, script))
         }
-        None => {
+        Input::Standard => {
             let mut makefile = StdSource::new(rt.stdin());
             Ok(run_over(rt, words, &mut makefile, script))
         }
@@ -112,8 +112,12 @@ fn run_by<'a, S: ByteSource>(
 /// [`CannotOpen`] where one of the two cannot be opened. Nothing is read then.
 pub fn edit<'a>(rt: &HostRuntime, words: &EditWords<'a>) -> Result<Outcome, CannotOpen<'a>> {
     match &words.script {
-        Script::File(name) => {
+        Script::From(Input::File(name)) => {
             let mut script = StdSource::new(open(rt, name)?);
+            run_by(rt, words, &mut script)
+        }
+        Script::From(Input::Standard) => {
+            let mut script = StdSource::new(rt.stdin());
             run_by(rt, words, &mut script)
         }
         Script::Lines(lines) => {

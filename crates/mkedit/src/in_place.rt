@@ -2,26 +2,66 @@
 //!
 //! The text goes into a new file beside the makefile. This file takes the makefile's name when the
 //! text is whole and on the disk. So the name stands for the old file or for the new one at every
-//! moment.
+//! moment. Where the text is the one that the makefile has, the makefile is left alone.
+//!
+//! - `draft`: the new file, and what becomes of it.
+//! - `comparison`: whether its bytes are those of the makefile.
 ghost use Rattle.std.specs.Prelude.{◌≡◌, ◌||◌, ◌≤◌, None, Some, false, is_err, length, IfOk, IfErr, IfSome, IsSomeAnd, OnErr, OnOk};
 ghost use Rattle.mk_lines.specs.Device.{is_refused};
+ghost use Rattle.mkedit.specs.Settled.{IsKeptUnder, draft_of};
 
+mod comparison;
 mod draft;
 
-use draft::{Draft, Placed, Removed};
+use draft::{Draft, Placed, Removed, Unchanged};
 use mk_lines::{ByteSink, Fault, StdSink};
 
-// Makes the text sure, and puts it into the makefile's place. Where one of the two fails, the draft
-// stays one.
-fn put_into_place<'a>(rt: &HostRuntime, draft: Draft<'a>) -> Result<Placed<'a>, Draft<'a>>
+// What became of a draft that was written to its end.
+#[derive(Drop)]
+enum Settled<'a> {
+    // It has the makefile's name.
+    Placed(Placed<'a>),
+    // It had the makefile's bytes.
+    Unchanged(Unchanged<'a>),
+}
+
+// Makes the text sure, and puts it into the makefile's place. The old makefile is kept before, where
+// there is a suffix for it. Where one of these fails, the draft stays one.
+fn put_into_place<'a>(
+    rt: &HostRuntime,
+    draft: Draft<'a>,
+    backup: Option<&'a str>,
+) -> Result<Placed<'a>, Draft<'a>>
     ensures placed { IfOk result (λ placed. placed.draft ≡ draft.entry) }
+    ensures kept { IfOk result (λ placed. placed.kept ≡ backup.entry) }
     ensures draft { IfErr result (λ same. same ≡ draft.entry) }
 {
-    draft.sync()?.rename(rt)
+    let synced = draft.sync()?;
+    match backup {
+        Some(suffix) => synced.keep_old(rt, suffix)?.rename(rt),
+        None => synced.rename(rt),
+    }
+}
+
+// Puts the text into the makefile's place, or leaves the makefile alone where that is its text.
+// Where this fails, the draft stays one.
+fn settle<'a>(
+    rt: &HostRuntime,
+    draft: Draft<'a>,
+    backup: Option<&'a str>,
+) -> Result<Settled<'a>, Draft<'a>>
+    ensures settled { IfOk result (λ settled. draft_of settled ≡ draft.entry) }
+    ensures kept { IfOk result (IsKeptUnder backup.entry) }
+    ensures draft { IfErr result (λ same. same ≡ draft.entry) }
+{
+    match draft.compare(rt) {
+        Some(same) => Ok(Settled::Unchanged(draft.leave(rt, same))),
+        None => Ok(Settled::Placed(put_into_place(rt, draft, backup)?)),
+    }
 }
 
 /// A sink to the makefile of this name. Its flush, which comes once and after the whole text, puts
-/// the new text into the old one's place.
+/// the new text into the old one's place, or leaves the makefile alone where it has this text.
 ///
 /// Without a write or a flush nothing is touched. A fault leaves the makefile as it was.
 ///
@@ -29,24 +69,29 @@ fn put_into_place<'a>(rt: &HostRuntime, draft: Draft<'a>) -> Result<Placed<'a>, 
 pub struct InPlaceFile<'a> {
     rt: &'a HostRuntime,
     name: &'a str,
+    // The suffix of the name under which the old makefile is kept, if it is.
+    backup: Option<&'a str>,
     draft: Option<Draft<'a>>,
-    placed: Option<Placed<'a>>,
+    settled: Option<Settled<'a>>,
     is_failed: bool,
 }
 
 impl<'a> InPlaceFile<'a> {
-    /// A sink to the makefile of this name, which has not failed. It makes no file yet.
-    pub fn new(rt: &'a HostRuntime, name: &'a str) -> InPlaceFile<'a>
+    /// A sink to the makefile of this name, which has not failed. It makes no file yet. With a
+    /// suffix the old makefile is kept under its name with this suffix at its end.
+    pub fn new(rt: &'a HostRuntime, name: &'a str, backup: Option<&'a str>) -> InPlaceFile<'a>
         ensures name { result.name.now ≡ name.now }
+        ensures backup { result.backup ≡ backup.entry }
         ensures closed { result.draft ≡ None }
-        ensures unplaced { result.placed ≡ None }
+        ensures unsettled { result.settled ≡ None }
         ensures works { result.is_failed ≡ false }
     {
         InPlaceFile {
             rt,
             name,
+            backup,
             draft: None,
-            placed: None,
+            settled: None,
             is_failed: false,
         }
     }
@@ -59,8 +104,9 @@ impl<'a> InPlaceFile<'a> {
         let InPlaceFile {
             rt,
             name: _,
+            backup: _,
             draft,
-            placed: _,
+            settled: _,
             is_failed: _,
         } = self;
         match draft {
@@ -76,8 +122,9 @@ impl<'a> InPlaceFile<'a> {
         ensures fault { IfErr result (λ fault. fault ≡ Fault.Write) }
         ensures failed { self.new.is_failed ≡ (self.old.is_failed || is_err result) }
         ensures taken { self.new.draft ≡ None }
-        ensures placed { self.new.placed ≡ self.old.placed }
+        ensures settled { self.new.settled ≡ self.old.settled }
         ensures name { self.new.name ≡ self.old.name }
+        ensures backup { self.new.backup ≡ self.old.backup }
     {
         if let Some(draft) = self.draft.take() {
             return Ok(draft);
@@ -99,10 +146,11 @@ impl ByteSink for InPlaceFile<'_> {
         ensures bound { IfOk result (λ count. count ≤ length text.now) }
         ensures draft { IfSome self.old.draft (λ draft. self.new.draft ≡ Some draft) }
         ensures begun { self.old.draft ≡ None → IfOk result (λ _. IsSomeAnd self.new.draft (λ draft. draft.name.now ≡ self.old.name.now)) }
-        ensures placed { self.new.placed ≡ self.old.placed }
+        ensures settled { self.new.settled ≡ self.old.settled }
         ensures fault { IfErr result (λ fault. fault ≡ Fault.Write) }
         ensures failed { self.new.is_failed ≡ (self.old.is_failed || is_refused result text.now) }
         ensures name { self.new.name ≡ self.old.name }
+        ensures backup { self.new.backup ≡ self.old.backup }
     {
         let draft = self.take_draft()?;
         let answer = StdSink::new(draft.file()).write(text);
@@ -118,23 +166,25 @@ impl ByteSink for InPlaceFile<'_> {
     // Where it fails, a draft that was there stays, for `close`.
     fn flush(&mut self) -> Result<(), Fault>
         ensures closed { OnOk result (self.new.draft ≡ None) }
-        ensures placed { OnOk result (IfSome self.old.draft (λ draft. IsSomeAnd self.new.placed (λ placed. placed.draft ≡ draft))) }
-        ensures begun { self.old.draft ≡ None → OnOk result (IsSomeAnd self.new.placed (λ placed. placed.draft.name.now ≡ self.old.name.now)) }
-        ensures unplaced { OnErr result (self.new.placed ≡ self.old.placed) }
+        ensures settled { OnOk result (IfSome self.old.draft (λ draft. IsSomeAnd self.new.settled (λ settled. draft_of settled ≡ draft))) }
+        ensures begun { self.old.draft ≡ None → OnOk result (IsSomeAnd self.new.settled (λ settled. (draft_of settled).name.now ≡ self.old.name.now)) }
+        ensures kept { OnOk result (IsSomeAnd self.new.settled (IsKeptUnder self.old.backup)) }
+        ensures unsettled { OnErr result (self.new.settled ≡ self.old.settled) }
         ensures draft { OnErr result (IfSome self.old.draft (λ draft. self.new.draft ≡ Some draft)) }
         ensures fault { IfErr result (λ fault. fault ≡ Fault.Write) }
         ensures failed { self.new.is_failed ≡ (self.old.is_failed || is_err result) }
         ensures name { self.new.name ≡ self.old.name }
+        ensures backup { self.new.backup ≡ self.old.backup }
     {
-        let placed = match put_into_place(self.rt, self.take_draft()?) {
-            Ok(placed) => placed,
+        let settled = match settle(self.rt, self.take_draft()?, self.backup) {
+            Ok(settled) => settled,
             Err(draft) => {
                 self.draft = Some(draft);
                 self.is_failed = true;
                 return Err(Fault::Write);
             }
         };
-        self.placed = Some(placed);
+        self.settled = Some(settled);
         Ok(())
     }
 

@@ -5,6 +5,7 @@
 //! - `query`: what a makefile has, by [`mk_queries`].
 //! - `explain`: why a command is refused; `explanations` has the texts.
 //! - `files`: files beside the standard streams.
+//! - `noted`: readers and writers that remember why they failed.
 //! - `out_file`: the file that a text goes to; `in_place`: the makefile itself.
 //! - `ending`: the message and the status.
 #![tactic(auto)]
@@ -15,6 +16,7 @@ mod explain;
 mod explanations;
 mod files;
 mod in_place;
+mod noted;
 mod out_file;
 mod query;
 

@@ -7,10 +7,11 @@ ghost use Rattle.mk_lines.specs.Device.{AppendsPrefix};
 ghost use Rattle.mk_tree.specs.LocatedLines.{located_text};
 ghost use Rattle.mk_tree.specs.Documents.{IsFaithful, IsTooDeep};
 ghost use Rattle.mk_run.specs.RunEnds.{PutsOut, PutsOutIf, ReadsOnce};
-ghost use Rattle.mkedit.specs.QueryTexts.{query_text};
+ghost use Rattle.mkedit.specs.QueryTexts.{query_outcome, query_text};
 
 use crate::files::{CannotOpen, open};
-use mk_command_line::Query;
+use crate::noted::Noted;
+use mk_command_line::{Input, Query};
 use mk_lines::source::{BUFFER, MAX_TEXT, read_all};
 use mk_lines::{ByteSink, ByteSource, Fault, StdSink, StdSource};
 use mk_queries::{caveats, check, rules, vars};
@@ -18,6 +19,7 @@ use mk_run::Outcome;
 use mk_session::Session;
 use mk_tree::Doc;
 use std::alloc::Allocator;
+use std::io::{ErrorKind, Read};
 use std::mem;
 
 // A session that is only looked at: the least depth there is.
@@ -105,26 +107,39 @@ where
     }
 }
 
-/// Answers what the makefile of this name is asked for, on standard output; without a name, what
-/// standard input is asked for.
+// How a query ends whose print ended so. Where nobody reads the output any more, the query is done.
+fn query_outcome(outcome: Outcome, is_left: bool) -> Outcome
+    ensures { result ≡ query_outcome outcome is_left }
+{
+    match outcome {
+        Outcome::Write if is_left => Outcome::Done,
+        outcome => outcome,
+    }
+}
+
+// Answers on standard output, and says how that ended.
+fn print_out<R: Read + Drop>(rt: &HostRuntime, query: Query, makefile: R) -> Outcome {
+    let mut makefile = StdSource::new(makefile);
+    let mut out = Noted::new(rt.stdout());
+    let outcome = print(
+        rt.alloc(),
+        query,
+        &mut makefile,
+        &mut StdSink::new(&mut out),
+    );
+    let is_left = matches!(out.error(), Some(ErrorKind::BrokenPipe));
+    query_outcome(outcome, is_left)
+}
+
+/// Answers what the makefile is asked for, on standard output. Where nobody reads that to its end, it
+/// ends as where all was read.
 ///
 /// # Errors
 ///
 /// [`CannotOpen`] where it cannot be opened.
-pub fn ask<'a>(
-    rt: &HostRuntime,
-    query: Query,
-    file: Option<&'a str>,
-) -> Result<Outcome, CannotOpen<'a>> {
-    let mut out = StdSink::new(rt.stdout());
+pub fn ask<'a>(rt: &HostRuntime, query: Query, file: Input<'a>) -> Result<Outcome, CannotOpen<'a>> {
     match file {
-        Some(name) => {
-            let mut makefile = StdSource::new(open(rt, name)?);
-            Ok(print(rt.alloc(), query, &mut makefile, &mut out))
-        }
-        None => {
-            let mut makefile = StdSource::new(rt.stdin());
-            Ok(print(rt.alloc(), query, &mut makefile, &mut out))
-        }
+        Input::File(name) => Ok(print_out(rt, query, open(rt, name)?)),
+        Input::Standard => Ok(print_out(rt, query, rt.stdin())),
     }
 }

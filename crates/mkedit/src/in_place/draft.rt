@@ -6,13 +6,18 @@
 //! | Type | Made by | Says |
 //! |---|---|---|
 //! | [`Draft`] | [`Draft::begin`] | there is a new file under a name of its own |
-//! | [`Synced`] | [`Draft::sync`] | the draft's bytes are on the disk |
+//! | [`Synced`] | [`Draft::sync`], [`Synced::keep_old`] | the draft's bytes are on the disk; and the old makefile is kept under another name too |
 //! | [`Placed`] | [`Synced::rename`] | after that, the draft took the makefile's name |
-//! | [`Removed`] | [`Draft::remove`] | the draft's own name was taken away in place of that |
-ghost use Rattle.std.specs.Prelude.{◌≡◌, true, IfOk, IfErr};
+//! | [`Unchanged`] | [`Draft::leave`] | the draft has the makefile's bytes, and its own name was taken away |
+//! | [`Removed`] | [`Draft::remove`] | the draft's own name was taken away in place of all that |
+ghost use Rattle.std.specs.Prelude.{◌≡◌, ◌++◌, None, Some, false, true, IfOk, IfErr, string_bytes};
 ghost use Rattle.std.specs.Fs.{asks_create_new, asks_write};
+ghost use Rattle.std.specs.Path.{path_buf_bytes};
 
+use super::comparison::{SameBytes, same_bytes};
 use crate::files::beside_standard_streams;
+use mk_lines::StdSource;
+use std::alloc::AllocError;
 use std::fs::{File, Metadata, OpenOptions};
 use std::io::ErrorKind;
 use std::os::unix::fs::{MetadataExt, OpenOptionsExt, fchown};
@@ -40,12 +45,22 @@ pub struct Draft<'a> {
 #[derive(Drop)]
 pub struct Synced<'a> {
     draft: Draft<'a>,
+    // The suffix of the name under which the old makefile is kept.
+    kept: Option<&'a str>,
 }
 
 /// What was a draft, and has the makefile's name.
 #[derive(Drop)]
 pub struct Placed<'a> {
     draft: Draft<'a>,
+    kept: Option<&'a str>,
+}
+
+/// What was a draft with the bytes that the makefile has, and was given up for that.
+#[derive(Drop)]
+pub struct Unchanged<'a> {
+    removed: Removed<'a>,
+    same: SameBytes,
 }
 
 /// What was a draft, and was given up.
@@ -66,12 +81,17 @@ fn new_file_options() -> OpenOptions
     options
 }
 
+// A name in the makefile's folder, of those that are tried.
+fn name_beside(rt: &HostRuntime, makefile: &PathBuf, number: u32) -> Result<PathBuf, AllocError> {
+    let name = format!(in rt.alloc(); ".mkedit-{number}.tmp")?;
+    makefile.with_file_name(rt.alloc(), name.as_str())
+}
+
 // Makes a new file in the makefile's folder, under the first name that is free.
 fn new_file_beside(rt: &HostRuntime, makefile: &PathBuf) -> io::Result<(PathBuf, File)> {
     let options = new_file_options();
     for number in 0..NAMES {
-        let name = format!(in rt.alloc(); ".mkedit-{number}.tmp")?;
-        let path = makefile.with_file_name(rt.alloc(), name.as_str())?;
+        let path = name_beside(rt, makefile, number)?;
         match options.open(rt, &path) {
             Ok(file) => return Ok((path, file)),
             Err(error) if error.kind() == ErrorKind::AlreadyExists => {}
@@ -90,6 +110,91 @@ fn with_attributes(old: &Metadata, file: File) -> io::Result<File> {
     }
     file.set_permissions(old.permissions())?;
     Ok(file)
+}
+
+// Gives a new file the bytes and the attributes of the makefile, and waits until they are on the disk.
+fn copy_into(rt: &HostRuntime, makefile: &PathBuf, file: File) -> io::Result<()> {
+    let old = fs::metadata(rt, makefile)?;
+    let file = with_attributes(&old, beside_standard_streams(file)?)?;
+    let mut old = beside_standard_streams(File::open(rt, makefile)?)?;
+    io::copy(&mut old, &mut &file)?;
+    file.sync_all()
+}
+
+// Makes a copy of the makefile in its folder, under the first name that is free.
+fn copy_beside(rt: &HostRuntime, makefile: &PathBuf) -> io::Result<PathBuf> {
+    let (path, file) = new_file_beside(rt, makefile)?;
+    match copy_into(rt, makefile, file) {
+        Ok(()) => Ok(path),
+        Err(error) => {
+            let _ = fs::remove_file(rt, &path);
+            Err(error)
+        }
+    }
+}
+
+// Gives the makefile a second name in its folder, the first one that is free. Where the system gives
+// a file no second name, a copy gets it.
+fn second_name_beside(rt: &HostRuntime, makefile: &PathBuf) -> io::Result<PathBuf> {
+    for number in 0..NAMES {
+        let path = name_beside(rt, makefile, number)?;
+        match fs::hard_link(rt, makefile, &path) {
+            Ok(()) => return Ok(path),
+            Err(error) if error.kind() == ErrorKind::AlreadyExists => {}
+            Err(_) => return copy_beside(rt, makefile),
+        }
+    }
+    Err(io::Error::from(ErrorKind::AlreadyExists))
+}
+
+// Whether a path names the makefile's own file, and no link to it.
+fn is_same_file(rt: &HostRuntime, makefile: &PathBuf, path: &str) -> bool {
+    match (fs::metadata(rt, makefile), fs::symlink_metadata(rt, path)) {
+        (Ok(old), Ok(found)) => old.dev() == found.dev() && old.ino() == found.ino(),
+        _ => false,
+    }
+}
+
+// The path of the makefile with a suffix at its end.
+fn path_with_suffix(
+    rt: &HostRuntime,
+    makefile: &PathBuf,
+    suffix: &str,
+) -> Result<String, AllocError>
+    ensures { IfOk result (λ path. string_bytes path ≡ path_buf_bytes makefile.now ++ suffix.now) }
+{
+    let mut path = String::from_str(rt.alloc(), makefile.as_path().as_str())?;
+    path.push_str(suffix)?;
+    Ok(path)
+}
+
+// Gives the makefile's file this path too, which it takes from any other file in one step. A name
+// that is the file's own already stays: to rename a file to itself would leave both names.
+fn keep_under(rt: &HostRuntime, makefile: &PathBuf, path: &str) -> io::Result<()> {
+    if is_same_file(rt, makefile, path) {
+        return Ok(());
+    }
+    let second = second_name_beside(rt, makefile)?;
+    match fs::rename(rt, &second, path) {
+        Ok(()) => Ok(()),
+        Err(error) => {
+            let _ = fs::remove_file(rt, &second);
+            Err(error)
+        }
+    }
+}
+
+// Keeps the makefile under its path with a suffix at its end, too.
+fn keep_old(rt: &HostRuntime, makefile: &PathBuf, suffix: &str) -> io::Result<()> {
+    let path = path_with_suffix(rt, makefile, suffix)?;
+    keep_under(rt, makefile, path.as_str())
+}
+
+// Opens a file to be read.
+fn source(rt: &HostRuntime, path: &PathBuf) -> io::Result<StdSource<File>>
+    ensures { IfOk result (λ source. source.is_failed ≡ false) }
+{
+    Ok(StdSource::new(beside_standard_streams(File::open(rt, path)?)?))
 }
 
 impl<'a> Draft<'a> {
@@ -128,17 +233,37 @@ impl<'a> Draft<'a> {
         &self.file
     }
 
+    /// Compares the draft with the makefile as it is. Files that cannot be read are not the same.
+    pub fn compare(&self, rt: &HostRuntime) -> Option<SameBytes> {
+        let mut old = source(rt, &self.makefile).ok()?;
+        let mut new = source(rt, &self.path).ok()?;
+        same_bytes(&mut old, &mut new).ok()?
+    }
+
+    /// Gives up a draft that has the makefile's bytes, and leaves the makefile alone.
+    pub fn leave(self, rt: &HostRuntime, same: SameBytes) -> Unchanged<'a>
+        ensures { result.removed.draft ≡ self.entry }
+    {
+        Unchanged {
+            removed: self.remove(rt),
+            same,
+        }
+    }
+
     /// Waits until the draft's bytes are on the disk.
     ///
     /// # Errors
     ///
     /// The draft itself, where the system does not say so.
     pub fn sync(self) -> Result<Synced<'a>, Draft<'a>>
-        ensures synced { IfOk result (λ synced. synced.draft ≡ self.entry) }
+        ensures synced { IfOk result (λ synced. (synced.draft ≡ self.entry) × (synced.kept ≡ None)) }
         ensures draft { IfErr result (λ draft. draft ≡ self.entry) }
     {
         match self.file.sync_all() {
-            Ok(()) => Ok(Synced { draft: self }),
+            Ok(()) => Ok(Synced {
+                draft: self,
+                kept: None,
+            }),
             Err(_) => Err(self),
         }
     }
@@ -153,18 +278,39 @@ impl<'a> Draft<'a> {
 }
 
 impl<'a> Synced<'a> {
+    /// Keeps the old makefile under its name with this suffix at its end, too: in place of another
+    /// file of that name, and in one step. The makefile stays.
+    ///
+    /// # Errors
+    ///
+    /// The draft, where the system refuses. The makefile is as it was then, and so is a file of that
+    /// name.
+    pub fn keep_old(self, rt: &HostRuntime, suffix: &'a str) -> Result<Synced<'a>, Draft<'a>>
+        ensures kept { IfOk result (λ synced. (synced.draft ≡ self.entry.draft) × (synced.kept ≡ Some suffix.entry)) }
+        ensures draft { IfErr result (λ draft. draft ≡ self.entry.draft) }
+    {
+        let draft = self.draft;
+        match keep_old(rt, &draft.makefile, suffix) {
+            Ok(()) => Ok(Synced {
+                draft,
+                kept: Some(suffix),
+            }),
+            Err(_) => Err(draft),
+        }
+    }
+
     /// Gives the draft the makefile's name, in one step. The old file has no name any more.
     ///
     /// # Errors
     ///
     /// The draft, where the system refuses. The makefile is as it was then.
     pub fn rename(self, rt: &HostRuntime) -> Result<Placed<'a>, Draft<'a>>
-        ensures placed { IfOk result (λ placed. placed.draft ≡ self.entry.draft) }
+        ensures placed { IfOk result (λ placed. (placed.draft ≡ self.entry.draft) × (placed.kept ≡ self.entry.kept)) }
         ensures draft { IfErr result (λ draft. draft ≡ self.entry.draft) }
     {
-        let draft = self.draft;
+        let Synced { draft, kept } = self;
         match fs::rename(rt, &draft.path, &draft.makefile) {
-            Ok(()) => Ok(Placed { draft }),
+            Ok(()) => Ok(Placed { draft, kept }),
             Err(_) => Err(draft),
         }
     }

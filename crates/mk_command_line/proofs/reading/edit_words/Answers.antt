@@ -5,5 +5,6 @@ returns c = record {
   keep_going = c.is_set.ensures;
   depth = c.in-Some.ensures;
   from = rw c.in-Some-2.is at c.in_ok-script.ensures;
-  to = c.in-Some-output_of.ensures;
+  apart = c.are_both_standard.ensures c.if-are_both_standard.false;
+  to = c.in-Ok.ensures;
 }
