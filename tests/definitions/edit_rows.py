@@ -118,6 +118,7 @@ def antt_edit(fields):
     name = {
         b"set": "SetValue",
         b"append": "AppendValue",
+        b"add": "AddWord",
         b"unset": "RemoveAssign",
         b"unrule": "RemoveRule",
         b"undepend": "RemovePrereq",
@@ -176,7 +177,7 @@ IMPORTS = [
     ("Rattle.mk_edit_language.specs.Edits", ["Bottom", "BeforeVar", "AfterVar", "BeforeRule"]),
     (
         "Rattle.mk_edit_language.specs.Edits",
-        ["SetValue", "AppendValue", "AddAssign", "RemoveAssign", "AddRule", "RemoveRule", "AddPrereq", "RemovePrereq"]
+        ["SetValue", "AppendValue", "AddWord", "AddAssign", "RemoveAssign", "AddRule", "RemoveRule", "AddPrereq", "RemovePrereq"]
         + ["AddRecipe", "SetRecipe", "RemoveRecipe", "RenameTarget"],
     ),
     ("Rattle.mk_rows.proofs.edits.Outcomes", ["outcome", "account", "span"]),

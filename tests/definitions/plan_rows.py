@@ -7,7 +7,7 @@ runs each row through the library, and prints which rows it answers in another w
     plan_rows.py            the rows, which the crate keeps as its file stdin
     plan_rows.py --answer   what the program prints where no row differs, its file stdout
 
-The tables are tests/cases/edits/corners.tsv, tests/cases/edits/random.tsv, tests/cases/runs.tsv and
+The tables are corners.tsv, random.tsv and words.tsv of tests/cases/edits, tests/cases/runs.tsv and
 tests/cases/random-runs.tsv; a name given last, as `corners`, takes that table alone. The rows whose
 script or command line has a fault, so that no command runs, are left out (status 2), and the queries,
 which are no edits.
@@ -44,6 +44,7 @@ CASES = Path(__file__).resolve().parent.parent / "cases"
 TABLES = {
     "corners": CASES / "edits" / "corners.tsv",
     "random": CASES / "edits" / "random.tsv",
+    "words": CASES / "edits" / "words.tsv",
     "runs": CASES / "runs.tsv",
     "random-runs": CASES / "random-runs.tsv",
 }

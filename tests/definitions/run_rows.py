@@ -33,7 +33,7 @@ IMPORTS = [
     ("Rattle.mk_edit_language.specs.Edits", ["Edit", "Bottom", "BeforeVar", "AfterVar", "BeforeRule"]),
     (
         "Rattle.mk_edit_language.specs.Edits",
-        ["SetValue", "AppendValue", "AddAssign", "RemoveAssign", "AddRule", "RemoveRule", "AddPrereq", "RemovePrereq"]
+        ["SetValue", "AppendValue", "AddWord", "AddAssign", "RemoveAssign", "AddRule", "RemoveRule", "AddPrereq", "RemovePrereq"]
         + ["AddRecipe", "SetRecipe", "RemoveRecipe", "RenameTarget"],
     ),
     ("Rattle.mk_history.specs.Machine", ["Command", "Apply", *CALLS.values()]),

@@ -37,6 +37,7 @@ FIELD = re.compile(rb'[ \t]*(?:"((?:[^"\\]|\\["\\])*)"|([^ \t"][^ \t]*))(?=[ \t]
 EDITS = {
     b"set": ("SetValue", [], 2),
     b"append": ("AppendValue", [], 2),
+    b"add": ("AddWord", [], 2),
     b"unset": ("RemoveAssign", [], 1),
     b"unrule": ("RemoveRule", [], 1),
     b"depend": ("AddPrereq", [False], 2),
@@ -181,7 +182,8 @@ def antt_nth(nth):
 
 
 # Where the number of the line stands that an edit means.
-NTH_FIRST = {"SetValue", "AppendValue", "RemoveAssign", "RemoveRule", "RemovePrereq", "AddRecipe", "SetRecipe", "RemoveRecipe"}
+NTH_FIRST = {"SetValue", "AppendValue", "AddWord", "RemoveAssign", "RemoveRule", "RemovePrereq"}
+NTH_FIRST |= {"AddRecipe", "SetRecipe", "RemoveRecipe"}
 
 
 def antt_command(name, *arguments):
@@ -216,7 +218,7 @@ IMPORTS = [
     ("Rattle.mk_edit_language.specs.Edits", ["Bottom", *PLACES.values()]),
     (
         "Rattle.mk_edit_language.specs.Edits",
-        ["SetValue", "AppendValue", "AddAssign", "RemoveAssign", "AddRule", "RemoveRule", "AddPrereq", "RemovePrereq"]
+        ["SetValue", "AppendValue", "AddWord", "AddAssign", "RemoveAssign", "AddRule", "RemoveRule", "AddPrereq", "RemovePrereq"]
         + ["AddRecipe", "SetRecipe", "RemoveRecipe", "RenameTarget"],
     ),
     ("Rattle.mk_history.specs.Machine", ["Apply", *CALLS.values()]),

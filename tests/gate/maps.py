@@ -2,7 +2,7 @@
 
 A map is the lines such as these, which may be cut at a blank:
 
-    //! - [`planning`]: `plan`, one call for all twelve edits.
+    //! - [`planning`]: `plan`, one call for all edits.
 """
 
 import re

@@ -350,6 +350,7 @@ class Editor:
 FIELDS = {
     "set": lambda it: it.for_name(it.value),
     "append": lambda it: it.for_name(lambda name: it.value(name) or b"more"),
+    "add": lambda it: it.for_name(lambda _: it.word()),
     "unset": lambda it: it.for_name(),
     "assign": Editor.assign,
     "rule": Editor.rule,

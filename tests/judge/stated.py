@@ -12,7 +12,7 @@ from tests.lib import reading
 from .expected import Item
 from .values import shown
 
-OF_VARIABLES = ("set", "append", "unset", "assign")
+OF_VARIABLES = ("set", "append", "add", "unset", "assign")
 
 
 def field(text):
@@ -172,6 +172,7 @@ def rename(of, _, old, new):
 CHANGES = {
     "set": set_value,
     "append": append,
+    "add": append,
     "unset": unset,
     "assign": assign,
     "rule": rule,

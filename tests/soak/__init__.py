@@ -4,7 +4,7 @@ The judge shares no line with the program. It reads makefiles by tests/lib/readi
 arguments by the programs of tests/definitions, which were written from the rules in words.
 
     document.py    a makefile: its lines with their places, and the parts that edits mean
-    edits.py       the twelve edits: when they are refused, what they replace, their stated change
+    edits.py       the edits: when they are refused, what they replace, their stated change
     session.py     undo, redo and groups
     judge.py       what a run and a query have to print
     vocabulary.py  the words that makefiles and scripts are made of

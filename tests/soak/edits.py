@@ -1,4 +1,4 @@
-"""The twelve edits, from docs/EDITS.md: when they are refused, what they replace, their stated change.
+"""The edits, from docs/EDITS.md: when they are refused, what they replace, their stated change.
 
 Each edit is a class with the fields that script_rows.py gives a command. plan() tests the causes of
 refusal in their order, and hands out the spans of the edit and the reading that it states.
@@ -6,7 +6,7 @@ refusal in their order, and hands out the spans of the edit and the reading that
 
 from typing import NamedTuple
 
-from argument_rows import is_closed, is_command, is_name, is_target, is_value, is_word
+from argument_rows import is_closed, is_command, is_name, is_target, is_value, is_word, texts_of_units
 from line_rows import is_open
 from tests.lib import reading
 
@@ -163,6 +163,28 @@ class AppendValue(OfVariable):
         takes_space_in = document.ends_in_fold(line)
         items = items_of(doc.lines)
         items[at] = (*items[at][:-1], old + (self.value if takes_space_in else added))
+        return [Span(end, end, added)], items
+
+
+def is_value_word(text):
+    """Whether a text may be a word of a value."""
+    return text != b"" and is_value(text) and not any(map(reading.is_blank, texts_of_units(text)))
+
+
+class AddWord(OfVariable):
+    def fields(self):
+        return [("name", self.name, is_name), ("word", self.value, is_value_word)]
+
+    def plan_in(self, doc):
+        at = self.find(doc)
+        line = doc.lines[at]
+        old = line.parts[-1]
+        refuse(7, self.value in reading.texts(reading.units(old)))
+        refuse(11, not is_closed(old) or document.ends_in_fold(line))
+        _, end, _ = document.value_places(line)
+        added = b" " + self.value if old else self.value
+        items = items_of(doc.lines)
+        items[at] = (*items[at][:-1], old + added)
         return [Span(end, end, added)], items
 
 
@@ -440,6 +462,7 @@ class RenameTarget(Edit):
 KINDS = (
     SetValue,
     AppendValue,
+    AddWord,
     AddAssign,
     RemoveAssign,
     AddRule,

@@ -5,10 +5,11 @@ is reached, so that many edits are accepted.
 """
 
 from argument_rows import is_name, is_target, is_word
-from tests.lib.reading import PREFIX_NAME
+from tests.lib.reading import PREFIX_NAME, texts, units
 
 from . import document
 from .drawing import Drawing
+from .edits import is_value_word
 from .judge import meaning_of_line, obey
 from .session import Session
 from .vocabulary import (
@@ -24,7 +25,7 @@ from .vocabulary import (
 )
 
 # The edits with their weights, by what they need in the makefile.
-OF_NAMES = {b"set": 10, b"append": 8, b"unset": 9}
+OF_NAMES = {b"set": 10, b"append": 8, b"add": 7, b"unset": 9}
 OF_RULES = {
     b"unrule": 10,
     b"depend": 7,
@@ -201,6 +202,16 @@ class Scripts(Drawing):
 
     def append(self):
         return self.of_name(b"append", self.value() or self.one([b"v", b"v", b""]))
+
+    def word_of(self, name, share):
+        """With this chance a word of a value of this variable, else any word."""
+        values = [self.document.lines[at].parts[-1] for at in self.document.assignments(name)]
+        words = [it for value in values for it in texts(units(value)) if is_value_word(it)]
+        return self.bad_or(self.one(words) if words and self.chance(share) else self.one(WORDS))
+
+    def add(self):
+        name = self.name()
+        return [*self.number(len(self.document.assignments(name))), b"add", name, self.word_of(name, 0.2)]
 
     def unset(self):
         return self.of_name(b"unset")

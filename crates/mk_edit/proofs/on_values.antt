@@ -2,3 +2,4 @@
 pub mod ValuePlaces
 pub mod SetValuePlans
 pub mod AppendValuePlans
+pub mod AddWordPlans

@@ -14,3 +14,4 @@ pub mod RenameTargetEffects
 pub mod RenameTargetPatches
 -- Edits of a value
 pub mod ValueEdits
+pub mod RangeEdits

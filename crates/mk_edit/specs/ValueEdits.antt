@@ -1,4 +1,4 @@
--- The edits that set a value or append to it, and the value of a document's line.
+-- The edits of a value, and the value of a document's line.
 -- Told in docs/EDITS.md, "Variables".
 use Rattle.std.specs.Prelude.{◌≡◌, ℕ, List, [], ◌∷◌, Option, if◌then◌else◌}
 use Rattle.mk_lines.specs.Ranges.{text_at}
@@ -6,7 +6,7 @@ use Rattle.mk_class.specs.ListTests.{is_empty}
 use Rattle.mk_class.specs.declared.class.Class as class
 use Rattle.mk_class.specs.declared.class.Class.TheVariants as variants
 use Rattle.mk_tree.specs.LocatedLines.{LocatedLine, text_of_line}
-use Rattle.mk_edit_language.specs.Edits.{Edit, SetValue, AppendValue}
+use Rattle.mk_edit_language.specs.Edits.{Edit, SetValue, AppendValue, AddWord}
 
 -- an edit sets a variable to this value
 pub record IsSetValue (e : Edit) (value : List ℕ) : Type 0 where
@@ -19,6 +19,12 @@ pub record IsAppendValue (e : Edit) (value : List ℕ) : Type 0 where
   pub nth : Option ℕ
   pub name : List ℕ
   pub is : e ≡ AppendValue nth name value
+
+-- an edit puts this word after a variable's value
+pub record IsAddWord (e : Edit) (word : List ℕ) : Type 0 where
+  pub nth : Option ℕ
+  pub name : List ℕ
+  pub is : e ≡ AddWord nth name word
 
 -- the text of the value of an assignment's line of this joined text and class; the empty text for
 -- any other line

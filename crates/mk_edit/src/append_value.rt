@@ -6,6 +6,7 @@ ghost use Rattle.mk_edit_language.specs.EditViews.{edit_of};
 ghost use Rattle.mk_edit_parts.specs.LocatedParts.{IsClassed};
 ghost use Rattle.mk_edit_parts.specs.Seeking.{IsLineKnown};
 ghost use Rattle.mk_edit.specs.Planned.{Plans};
+ghost use Rattle.mk_edit.specs.RangeEdits.{PutsAfterValue};
 ghost use Rattle.mk_edit.specs.ValueEdits.{IsAppendValue, space_after, value_text_located};
 
 use crate::moves::replace_line;
@@ -13,7 +14,7 @@ use mk_class::{Class, Meter};
 use mk_edit_language::{Edit, Refusal};
 use mk_edit_parts::find::find;
 use mk_edit_parts::range::value_range;
-use mk_edit_parts::seek::Sought;
+use mk_edit_parts::seek::{Found, Sought};
 use mk_lines::is_closed;
 use mk_lines::source::MAX_TEXT;
 use mk_patch::Patch;
@@ -46,19 +47,42 @@ pub(crate) fn plan_append_value<A: Allocator + Copy>(
     if !is_closed(old) {
         return Err(Refusal::OpenValue);
     }
-    let space = space_after(old);
-    if doc.size() + space.len() + value.len() > MAX_TEXT {
+    plan_put_after(alloc, doc, edit, found, value, meter)
+}
+
+/// Plans an edit that puts a text after the value of the line at a place, if no cause holds before
+/// [`Refusal::TooLong`].
+///
+/// # Errors
+///
+/// [`Refusal::TooLong`] if the result is too long. Otherwise [`Refusal::NoMemory`] if a growth was
+/// refused.
+pub(crate) fn plan_put_after<A: Allocator + Copy>(
+    alloc: A,
+    doc: &Doc<A>,
+    edit: &Edit<A>,
+    found: Found,
+    text: &[u8],
+    meter: &mut Meter,
+) -> Result<Patch<A>, Refusal>
+    requires faithful { IsFaithful doc.now }
+    requires puts { PutsAfterValue (edit_of edit.now) doc.now found text.now }
+    ensures { Plans (edit_of edit.now) doc.now meter.old meter.new result }
+{
+    let line = doc.line(found.at);
+    let space = space_after(value_text(line));
+    if doc.size() + space.len() + text.len() > MAX_TEXT {
         return Err(Refusal::TooLong);
     }
     let range = value_range(line, false);
-    let Ok(bytes) = with_put_in(alloc, line.bytes(), range.end, space, value) else {
+    let Ok(bytes) = with_put_in(alloc, line.bytes(), range.end, space, text) else {
         return Err(Refusal::NoMemory);
     };
     replace_line(alloc, doc, found, bytes, meter)
 }
 
-// The text of the value of an assignment's line.
-fn value_text<A: Allocator>(line: &Line<A>) -> &[u8]
+/// The text of the value of an assignment's line.
+pub(crate) fn value_text<A: Allocator>(line: &Line<A>) -> &[u8]
     requires { IsClassed (line_view line.now) }
     ensures { result.now ≡ value_text_located (line_view line.now) }
 {

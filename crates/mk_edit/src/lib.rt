@@ -4,7 +4,7 @@
 //! `mk_edit_parts` has the edits as Rust types, the line that each edit means, and the bytes of the
 //! lines that edits write.
 //!
-//! - [`planning`]: `plan`, one call for all twelve edits, and `plan_with`, for a caller who knows
+//! - [`planning`]: `plan`, one call for all edits, and `plan_with`, for a caller who knows
 //!   where the edit's line stands, or which windows of the document a rename concerns.
 //!
 //! The other modules are the crate's own, lowest first:
@@ -21,6 +21,7 @@
 //! - `remove_prereq`: a prerequisite taken out, planned.
 //! - `set_value`: another value, planned.
 //! - `append_value`: a text appended to a value, planned.
+//! - `add_word`: a word put after a value, planned.
 //! - `remove_assign`: the removal of an assignment.
 //! - `rename_target_places`: the lines that a rename exchanges and their places, noted.
 //! - `rename_target_effect`: what a rename finds among the lines and does to them.
@@ -32,6 +33,7 @@
 mod add_line;
 mod add_prereq;
 mod add_recipe;
+mod add_word;
 mod append_value;
 mod header;
 mod insertion;

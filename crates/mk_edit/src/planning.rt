@@ -9,6 +9,7 @@ ghost use Rattle.mk_edit.specs.Planned.{Plans};
 use crate::add_line::plan_add_line;
 use crate::add_prereq::plan_add_prereq;
 use crate::add_recipe::plan_add_recipe;
+use crate::add_word::plan_add_word;
 use crate::append_value::plan_append_value;
 use crate::remove_assign::plan_remove_assign;
 use crate::remove_prereq::plan_remove_prereq;
@@ -73,6 +74,7 @@ pub fn plan_with<A: Allocator + Copy>(
         Edit::AppendValue { value, .. } => plan_append_value(
             alloc, doc, edit, sought, value, meter,
         ),
+        Edit::AddWord { word, .. } => plan_add_word(alloc, doc, edit, sought, word, meter),
         Edit::AddAssign { .. } | Edit::AddRule { .. } => plan_add_line(
             alloc, doc, edit, sought, meter,
         ),

@@ -8,3 +8,4 @@ pub mod SetValueEmptyLemmas
 pub mod LastFoldLemmas
 pub mod BlankAdded
 pub mod AppendValueLemmas
+pub mod AddWordLemmas

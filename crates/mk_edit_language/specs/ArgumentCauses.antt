@@ -2,12 +2,13 @@
 -- Told in docs/EDITS.md, "Refusals".
 use Rattle.std.specs.Prelude.{ℕ, Bool, true, false, not, ◌&&◌, ◌||◌, List, [], ◌∷◌, ◌++◌, Option, Some, None}
 use Rattle.std.specs.List.{list_any}
-use Rattle.mk_lines.specs.Words.{words_in}
+use Rattle.mk_lines.specs.Units.{units}
+use Rattle.mk_lines.specs.Words.{words_in, is_gap}
 use Rattle.mk_class.specs.ListTests.{is_empty}
 use Rattle.mk_class.specs.Keywords.{is_reserved_word}
 use Rattle.mk_class.specs.RecipePrefix.{is_prefix_name}
 use Rattle.mk_class.specs.Arguments.{is_value, is_word, is_target, is_name, is_command}
-use Rattle.mk_edit_language.specs.Edits.{Place, Bottom, BeforeVar, AfterVar, BeforeRule, Edit, SetValue, AppendValue, AddAssign, RemoveAssign, AddRule, RemoveRule, AddPrereq, RemovePrereq, AddRecipe, SetRecipe, RemoveRecipe, RenameTarget}
+use Rattle.mk_edit_language.specs.Edits.{Place, Bottom, BeforeVar, AfterVar, BeforeRule, Edit, SetValue, AppendValue, AddWord, AddAssign, RemoveAssign, AddRule, RemoveRule, AddPrereq, RemovePrereq, AddRecipe, SetRecipe, RemoveRecipe, RenameTarget}
 use Rattle.mk_edit_language.specs.Causes.{where_holds}
 use Rattle.mk_edit_language.specs.declared.refusal.Field.{Field}
 use Rattle.mk_edit_language.specs.declared.refusal.Field.TheVariants as field
@@ -40,12 +41,20 @@ are_targets t = not (is_empty (words_in t)) && not (list_any (λ w. not (is_targ
 abbrev pub are_words : List ℕ → Bool
 are_words t = not (list_any (λ w. not (is_word w)) (words_in t))
 
+-- whether an argument may be a word of a value: it is a value, and one word by itself, so it is not
+-- empty and none of its units is a single blank
+abbrev pub is_value_word : List ℕ → Bool
+is_value_word w =
+    is_value w && (not (is_empty w) && not (list_any (is_gap (λ b. b)) (units (λ b. b) w)))
+
 -- the fields of an edit in their order
 abbrev pub field_tests : Edit → List FieldTest
 field_tests (SetValue nth n v) =
     Tested field.Name (is_name n) ∷ Tested field.Value (is_value v) ∷ []
 field_tests (AppendValue nth n v) =
     Tested field.Name (is_name n) ∷ Tested field.Value (is_value v && not (is_empty v)) ∷ []
+field_tests (AddWord nth n w) =
+    Tested field.Name (is_name n) ∷ Tested field.Word (is_value_word w) ∷ []
 field_tests (AddAssign p n f v) =
     Tested field.Place (is_place p) ∷ Tested field.Name (is_name n)
     ∷ Tested field.Value (is_value v) ∷ []
@@ -81,6 +90,7 @@ place_names p = []
 abbrev pub names : Edit → List (List ℕ)
 names (SetValue nth n v) = n ∷ []
 names (AppendValue nth n v) = n ∷ []
+names (AddWord nth n w) = n ∷ []
 names (AddAssign p n f v) = n ∷ place_names p
 names (RemoveAssign nth n) = n ∷ []
 names (AddRule p ts c ws) = place_names p

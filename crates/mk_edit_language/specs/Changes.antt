@@ -19,7 +19,7 @@ use Rattle.mk_class.specs.declared.rule.Separator.TheVariants.{SingleColon, Doub
 use Rattle.mk_tree.specs.Documents.{text_of}
 use Rattle.mk_tree.specs.Items.{Item, Assign, TargetAssign, Header, Recipe, Sets, items, header_item}
 use Rattle.mk_tree.specs.LineTexts.{StandingLine}
-use Rattle.mk_edit_language.specs.Edits.{Edit, SetValue, AppendValue, AddAssign, RemoveAssign, AddRule, RemoveRule, AddPrereq, RemovePrereq, AddRecipe, SetRecipe, RemoveRecipe, RenameTarget}
+use Rattle.mk_edit_language.specs.Edits.{Edit, SetValue, AppendValue, AddWord, AddAssign, RemoveAssign, AddRule, RemoveRule, AddPrereq, RemovePrereq, AddRecipe, SetRecipe, RemoveRecipe, RenameTarget}
 use Rattle.mk_edit_language.specs.Addresses.{Variable, Rule, found}
 use Rattle.mk_edit_language.specs.Stretches.{Stretch, insertion, removal, recipe_found}
 use Rattle.mk_edit_language.specs.ValueSpans.{set_value_span}
@@ -130,6 +130,8 @@ change_of t ls (SetValue nth n v) =
     where_found (with_value (value_set t v)) (found ls (Variable nth n))
 change_of t ls (AppendValue nth n v) =
     where_found (with_value (λ at. value_appended v)) (found ls (Variable nth n))
+change_of t ls (AddWord nth n w) =
+    where_found (with_value (λ at. value_appended w)) (found ls (Variable nth n))
 change_of t ls (AddAssign p n f v) =
     where_found (with_item (new_assign n f v)) (insertion ls (AddAssign p n f v))
 change_of t ls (RemoveAssign nth n) = where_found without_items (removal ls (RemoveAssign nth n))

@@ -10,7 +10,7 @@ use Rattle.mk_class.specs.Classes.Class.{Header}
 use Rattle.mk_class.specs.ClassedLines.{ClassedLine}
 use Rattle.mk_tree.specs.Documents.{text_of}
 use Rattle.mk_tree.specs.LineTexts.{StandingLine}
-use Rattle.mk_edit_language.specs.Edits.{Edit, SetValue, AppendValue, AddAssign, RemoveAssign, AddRule, RemoveRule, AddPrereq, RemovePrereq, AddRecipe, SetRecipe, RemoveRecipe, RenameTarget}
+use Rattle.mk_edit_language.specs.Edits.{Edit, SetValue, AppendValue, AddWord, AddAssign, RemoveAssign, AddRule, RemoveRule, AddPrereq, RemovePrereq, AddRecipe, SetRecipe, RemoveRecipe, RenameTarget}
 use Rattle.mk_edit_language.specs.Addresses.{Variable, Rule, found}
 use Rattle.mk_edit_language.specs.Stretches.{Stretch, insertion, removal, recipe_found}
 use Rattle.mk_edit_language.specs.NewLines.{new_line_span}
@@ -56,6 +56,8 @@ spans_of t ls (SetValue nth n v) =
     where_found (value_span (set_value_span v)) (found ls (Variable nth n))
 spans_of t ls (AppendValue nth n v) =
     where_found (value_span (append_value_span v)) (found ls (Variable nth n))
+spans_of t ls (AddWord nth n w) =
+    where_found (value_span (append_value_span w)) (found ls (Variable nth n))
 spans_of t ls (AddAssign p n f v) =
     where_found (new_line_span t (AddAssign p n f v)) (insertion ls (AddAssign p n f v))
 spans_of t ls (RemoveAssign nth n) = where_found removed_span (removal ls (RemoveAssign nth n))

@@ -1,4 +1,4 @@
--- The twelve edits, and the places of new lines, as data.
+-- The edits, and the places of new lines, as data.
 -- Told in docs/EDITS.md, "The script" and "Addresses".
 use Rattle.std.specs.Prelude.{ℕ, Bool, List, Option}
 use Rattle.mk_class.specs.declared.assignment.Flavor.{Flavor}
@@ -19,6 +19,7 @@ pub data Place : Type 0 where
 pub data Edit : Type 0 where
   SetValue : (nth : Option ℕ) → (name value : List ℕ) → Edit
   AppendValue : (nth : Option ℕ) → (name value : List ℕ) → Edit
+  AddWord : (nth : Option ℕ) → (name word : List ℕ) → Edit
   AddAssign : (place : Place) → (name : List ℕ) → (flavor : Flavor) → (value : List ℕ) → Edit
   RemoveAssign : (nth : Option ℕ) → (name : List ℕ) → Edit
   AddRule : (place : Place) → (targets : List ℕ) → (separator : RuleSeparator) → (prereqs : List ℕ) → Edit

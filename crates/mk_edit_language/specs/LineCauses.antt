@@ -6,34 +6,44 @@ use Rattle.mk_lines.specs.Limits.{max_text}
 use Rattle.mk_lines.specs.Lists.{concat}
 use Rattle.mk_lines.specs.LogicalLines.{is_open}
 use Rattle.mk_lines.specs.Cells.{Cell, joined_byte}
+use Rattle.mk_lines.specs.CellFaults.{is_fold}
 use Rattle.mk_lines.specs.Units.{is_closed}
 use Rattle.mk_lines.specs.Pieces.{Replacement, replaced}
 use Rattle.mk_class.specs.ListTests.{is_empty, last_passes}
+use Rattle.mk_class.specs.Assignments.{Assignment}
 use Rattle.mk_class.specs.Classes.{Class}
 use Rattle.mk_class.specs.Classes.Class.{Assign}
 use Rattle.mk_class.specs.ClassedLines.{ClassedLine}
 use Rattle.mk_class.specs.declared.context.RuleFlag.{RuleFlag}
 use Rattle.mk_class.specs.declared.context.RuleFlag.TheVariants.{Off, Rule}
-use Rattle.mk_edit_language.specs.Edits.{Place, Bottom, Edit, AppendValue, AddAssign, AddRule}
+use Rattle.mk_edit_language.specs.Edits.{Place, Bottom, Edit, AppendValue, AddWord, AddAssign, AddRule}
 use Rattle.mk_edit_language.specs.Addresses.{Variable, found}
 use Rattle.mk_edit_language.specs.Stretches.{Stretch, insertion, removal}
 use Rattle.mk_tree.specs.Documents.{context_of}
 use Rattle.mk_tree.specs.Leaning.{leans}
-use Rattle.mk_edit_language.specs.RuleCauses.{class_found}
+use Rattle.mk_edit_language.specs.RuleCauses.{class_found, assignment_passes}
 use Rattle.mk_edit_language.specs.Causes.{where_holds}
 use Rattle.mk_edit_language.specs.declared.refusal.Refusal.{Refusal}
 use Rattle.mk_edit_language.specs.declared.refusal.Refusal.TheVariants.{OpenValue, OpenLine, OpenDefine, Leans, TooLong}
 
--- ---- OpenValue: the value to append to is not closed
+-- ---- OpenValue: the value to append to is not closed, or a new word would be read together with its
+-- end
 
 -- whether an assignment is found and its value is not closed
 abbrev pub has_open_value : Option (Class Cell) → Bool
 has_open_value (Some (Assign a p)) = not (is_closed joined_byte (concat a.value))
 has_open_value k = false
 
+-- whether the last cell of a value is a fold
+abbrev pub ends_in_fold : Assignment Cell → Bool
+ends_in_fold a = last_passes is_fold (concat a.value)
+
 abbrev pub open_value : List ClassedLine → Edit → Option Refusal
 open_value ls (AppendValue nth n v) =
     where_holds (has_open_value (class_found (found ls (Variable nth n)))) OpenValue
+open_value ls (AddWord nth n w) =
+    let k = class_found (found ls (Variable nth n)) in
+    where_holds (has_open_value k || assignment_passes ends_in_fold k) OpenValue
 open_value ls e = None
 
 -- ---- OpenLine: a new line would follow a last line that is open

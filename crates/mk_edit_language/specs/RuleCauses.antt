@@ -1,17 +1,18 @@
--- The causes that rules and their words decide: Absent, Already, Taken, SharedRule and Straddles.
+-- The causes that rules decide, and the words of rules and of values: Absent, Already, Taken, SharedRule and Straddles.
 -- Told in docs/EDITS.md, "Refusals".
 use Rattle.std.specs.Prelude.{ℕ, Bool, true, false, not, ◌||◌, nat_lt, List, [], length, Option, Some, None, is_some}
 use Rattle.std.specs.List.{list_any}
 use Rattle.mk_lines.specs.Cells.{Cell, joined_byte}
 use Rattle.mk_class.specs.Texts.{is_one_of, word_texts}
+use Rattle.mk_class.specs.Assignments.{Assignment}
 use Rattle.mk_class.specs.Headers
 use Rattle.mk_class.specs.Classes.{Class, is_conditional}
-use Rattle.mk_class.specs.Classes.Class.{Header}
+use Rattle.mk_class.specs.Classes.Class.{Assign, Header}
 use Rattle.mk_class.specs.ClassedLines.{ClassedLine}
 use Rattle.mk_tree.specs.RecipeLines.{recipe_run}
 use Rattle.mk_tree.specs.LineTexts.{StandingLine}
-use Rattle.mk_edit_language.specs.Edits.{Edit, AddPrereq, RemovePrereq, RemoveRule, AddRecipe, SetRecipe, RemoveRecipe, RenameTarget}
-use Rattle.mk_edit_language.specs.Addresses.{Rule, found, targets_of, is_a_target}
+use Rattle.mk_edit_language.specs.Edits.{Edit, AddWord, AddPrereq, RemovePrereq, RemoveRule, AddRecipe, SetRecipe, RemoveRecipe, RenameTarget}
+use Rattle.mk_edit_language.specs.Addresses.{Variable, Rule, found, targets_of, is_a_target}
 use Rattle.mk_edit_language.specs.Stretches.{recipe_found}
 use Rattle.mk_edit_language.specs.Causes.{where_holds}
 use Rattle.mk_edit_language.specs.declared.refusal.Refusal.{Refusal}
@@ -32,6 +33,15 @@ abbrev pub header_passes : (Headers.Header Cell → Bool) → Option (Class Cell
 header_passes p (Some (Header h)) = p h
 header_passes p k = false
 
+-- whether an assignment is found and passes the test
+abbrev pub assignment_passes : (Assignment Cell → Bool) → Option (Class Cell) → Bool
+assignment_passes p (Some (Assign a s)) = p a
+assignment_passes p k = false
+
+-- whether a word is one of the words of a value
+abbrev pub has_value_word : List ℕ → Assignment Cell → Bool
+has_value_word w a = is_one_of w (word_texts joined_byte a.value)
+
 -- ---- Absent: the word is no prerequisite; there is no recipe line of this number
 
 -- whether a word is among the normal prerequisites of a header, and among the order-only ones
@@ -50,9 +60,11 @@ absent ls (SetRecipe nth t k c) = where_holds (not (is_some (recipe_found ls nth
 absent ls (RemoveRecipe nth t k) = where_holds (not (is_some (recipe_found ls nth t k))) Absent
 absent ls e = None
 
--- ---- Already: the word is in that list of prerequisites
+-- ---- Already: the word is in that list of prerequisites, or in the value
 
 abbrev pub already : List ClassedLine → Edit → Option Refusal
+already ls (AddWord nth n w) =
+    where_holds (assignment_passes (has_value_word w) (class_found (found ls (Variable nth n)))) Already
 already ls (AddPrereq true nth t w) =
     where_holds (header_passes (is_order_only w) (rule_class_found ls nth t)) Already
 already ls (AddPrereq false nth t w) =

@@ -1,4 +1,4 @@
-//! The twelve edits, the places of new lines, and the separators of new rules.
+//! The edits, the places of new lines, and the separators of new rules.
 //!
 //! An edit owns its texts. Contracts see it as a value of the definitions (`edit_of`).
 //!
@@ -70,6 +70,16 @@ pub enum Edit<A: Allocator = Global> {
         name: Vec<u8, A>,
         /// The text, which is not empty.
         value: Vec<u8, A>,
+    },
+    /// Puts a word after a variable's value, with a space between them if the value is not empty.
+    /// The word is none of the value's words yet.
+    AddWord {
+        /// Which of the assignments of this name, from 1.
+        nth: Option<u32>,
+        /// The name of the variable.
+        name: Vec<u8, A>,
+        /// The new word: a value that is not empty, without a blank outside a reference.
+        word: Vec<u8, A>,
     },
     /// Puts in the line of an assignment.
     AddAssign {

@@ -1,7 +1,7 @@
 //! The language of edits: what each edit is, which spans of the text it replaces, what it does to the
 //! reading, and why it may be refused.
 //!
-//! - [`edit`]: the twelve edits, the places of new lines, and the separators of new rules.
+//! - [`edit`]: the edits, the places of new lines, and the separators of new rules.
 //! - [`refusal`]: why an edit, or another call on an edited document, is refused.
 //! - [`laws`]: theorems on the definitions of edits.
 #![tactic(auto)]

@@ -4,4 +4,5 @@ pub mod on_finding
 pub mod on_new_lines
 pub mod on_recipes
 pub mod on_prerequisites
+pub mod on_values
 pub mod on_renaming

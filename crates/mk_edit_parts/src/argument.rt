@@ -1,19 +1,21 @@
 //! The causes of refusal that the fields of an edit decide by themselves.
 ghost use Rattle.std.specs.Prelude.{◌≡◌, ◌||◌, ◌&&◌, ◌∷◌, [], not};
 ghost use Rattle.std.specs.List.{list_any};
-ghost use Rattle.mk_class.specs.Arguments.{is_target, is_value, is_word};
+ghost use Rattle.mk_class.specs.Arguments.{is_name, is_target, is_value, is_word};
 ghost use Rattle.mk_class.specs.Keywords.{is_reserved_word};
 ghost use Rattle.mk_class.specs.ListTests.{is_empty};
 ghost use Rattle.mk_class.specs.RecipePrefix.{is_prefix_name};
-ghost use Rattle.mk_edit_language.specs.ArgumentCauses.{Tested, are_targets, are_words, bad_argument, first_failed, is_place, names, place_names, place_targets, targets};
-ghost use Rattle.mk_lines.specs.Words.{words_in};
+ghost use Rattle.mk_edit_language.specs.ArgumentCauses.{Tested, are_targets, are_words, bad_argument, first_failed, is_place, is_value_word, names, place_names, place_targets, targets};
+ghost use Rattle.mk_lines.specs.Units.{units};
+ghost use Rattle.mk_lines.specs.Words.{is_gap, words_in};
 ghost use Rattle.mk_edit_language.specs.EditViews.{edit_of, place_of};
+ghost use Rattle.mk_edit_language.specs.declared.refusal.Field.TheVariants as field;
 ghost use Rattle.mk_edit_parts.specs.AddressViews.{field_refusal};
 
 use crate::text::is_prefix_name;
 use mk_class::{is_command, is_name, is_reserved_word, is_target, is_value, is_word};
 use mk_edit_language::{Edit, Field, Place};
-use mk_lines::split_first_word;
+use mk_lines::{split_first_unit, split_first_word};
 use std::alloc::Allocator;
 
 /// The first field of an edit that fails its test: the cause `BadArgument`.
@@ -25,11 +27,10 @@ pub fn bad_field<A: Allocator>(edit: &Edit<A>) -> Option<Field>
             Some(Field::Place)
         }
         Edit::SetValue { name, value, .. } | Edit::AddAssign { name, value, .. } => {
-            first_failed(Field::Name, is_name(name), Field::Value, is_value(value))
+            bad_name_or(name, Field::Value, is_value(value))
         }
-        Edit::AppendValue { name, value, .. } => {
-            first_failed(Field::Name, is_name(name), Field::Value, is_tail(value))
-        }
+        Edit::AppendValue { name, value, .. } => bad_name_or(name, Field::Value, is_tail(value)),
+        Edit::AddWord { name, word, .. } => bad_name_or(name, Field::Word, is_value_word(word)),
         Edit::RemoveAssign { name, .. } => failed(Field::Name, is_name(name)),
         Edit::AddRule {
             targets,
@@ -80,11 +81,56 @@ fn first_failed(one: Field, one_passes: bool, other: Field, other_passes: bool) 
     }
 }
 
+// The name of a variable if it fails its test, or else another field if that does.
+fn bad_name_or(name: &[u8], other: Field, passes: bool) -> Option<Field>
+    ensures { field_refusal result
+        ≡ first_failed (Tested field.Name (is_name name.now) ∷ Tested other passes ∷ []) }
+{
+    first_failed(Field::Name, is_name(name), other, passes)
+}
+
 // Whether a text may go behind a value: it is a value, and not empty.
 fn is_tail(text: &[u8]) -> bool
     ensures { result ≡ (is_value text.now && not (is_empty text.now)) }
 {
     is_value(text) && !text.is_empty()
+}
+
+// Whether a text may be a word of a value: a value that is one word by itself.
+fn is_value_word(text: &[u8]) -> bool
+    ensures { result ≡ is_value_word text.now }
+{
+    is_value(text) && is_one_word(text)
+}
+
+// Whether a text that begins and ends with no blank is one word: it is not empty, and no unit of it
+// is a single blank.
+fn is_one_word(text: &[u8]) -> bool
+    ensures { result
+        ≡ (not (is_empty text.now) && not (list_any (is_gap (λ b. b)) (units (λ b. b) text.now))) }
+{
+    !text.is_empty() && !has_gap(text)
+}
+
+// Whether a text has a unit that is a single blank.
+fn has_gap(text: &[u8]) -> bool
+    ensures { result ≡ list_any (is_gap (λ b. b)) (units (λ b. b) text.now) }
+{
+    let mut rest = text;
+    'units: while let Some((unit, after)) = split_first_unit(rest) {
+        if is_gap(unit) {
+            return true;
+        }
+        rest = after;
+    }
+    false
+}
+
+// Whether a unit is a single blank.
+fn is_gap(unit: &[u8]) -> bool
+    ensures { result ≡ is_gap (λ b. b) unit.now }
+{
+    matches!(unit, [b' ' | b'\t'])
 }
 
 // Whether the name or the target of a place passes its test.
@@ -143,6 +189,7 @@ pub fn is_reserved<A: Allocator>(edit: &Edit<A>) -> bool
     match edit {
         Edit::SetValue { name, .. }
         | Edit::AppendValue { name, .. }
+        | Edit::AddWord { name, .. }
         | Edit::RemoveAssign { name, .. } => is_prefix_name(name),
         Edit::AddAssign { place, name, .. } => is_prefix_name(name) || is_reserved_place(place),
         Edit::AddRule { place, targets, .. } => has_reserved_word(targets)

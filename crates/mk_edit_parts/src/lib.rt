@@ -13,7 +13,8 @@
 //! - [`find`]: where an edit applies, after the causes that come before its own.
 //! - [`lean`]: whether lines lean on the flag before them.
 //! - [`place`]: places further down in a document.
-//! - [`range`]: where the value of a line stands, and bytes with a range replaced.
+//! - [`range`]: where the value of a line stands, whether it ends in a fold, and bytes with a range
+//!   replaced.
 //! - [`line_end`]: the line ends of new lines.
 //! - [`new_line`]: the text of new lines.
 //! - [`prerequisite`]: the prerequisites in the line of a rule.

@@ -32,6 +32,19 @@ pub fn append_value<'a>(
     })
 }
 
+/// Puts a word after the value of a variable.
+pub fn add_word<'a>(
+    heap: Heap<'a>,
+    name: &[u8],
+    word: &[u8],
+) -> Result<Edit<Heap<'a>>, AllocError> {
+    Ok(Edit::AddWord {
+        nth: None,
+        name: Vec::from_slice(heap, name)?,
+        word: Vec::from_slice(heap, word)?,
+    })
+}
+
 /// Puts the line of an assignment at the end.
 pub fn add_assign<'a>(
     heap: Heap<'a>,

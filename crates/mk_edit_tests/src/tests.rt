@@ -6,8 +6,8 @@ use crate::checks::{
     Heap, check_accepted, check_refused, check_refused_rename, document, growths_of_plan,
 };
 use crate::edits::{
-    add_assign, add_prereq, add_recipe, add_rule, append_value, remove_assign, remove_prereq,
-    remove_recipe, remove_rule, rename_target, set_recipe, set_value,
+    add_assign, add_prereq, add_recipe, add_rule, add_word, append_value, remove_assign,
+    remove_prereq, remove_recipe, remove_rule, rename_target, set_recipe, set_value,
 };
 use mk_class::{Flavor, Meter};
 use mk_edit::{Edit, Field, Refusal, RuleSeparator, plan};
@@ -32,6 +32,15 @@ fn a_text_is_appended_to_a_value(rt: HostRuntime) -> Result<(), Fail> {
     let heap = Watched::new(rt.alloc());
     let edit = append_value(&heap, b"X", b"b");
     check_accepted(&heap, b"X = a\n", edit, b"X = a b\n")
+}
+
+#[test]
+fn a_word_is_put_after_a_value(rt: HostRuntime) -> Result<(), Fail> {
+    let heap = Watched::new(rt.alloc());
+    let edit = add_word(&heap, b"F", b"-g");
+    check_accepted(&heap, b"F = -O2 # c\n", edit, b"F = -O2 -g # c\n")?;
+    let edit = add_word(&heap, b"F", b"-g");
+    check_accepted(&heap, b"F =\n", edit, b"F =-g\n")
 }
 
 #[test]
@@ -218,8 +227,19 @@ fn shared_and_split_rules_are_refused(rt: HostRuntime) -> Result<(), Fail> {
 }
 
 #[test]
+fn words_of_values_are_refused(rt: HostRuntime) -> Result<(), Fail> {
+    let heap = Watched::new(rt.alloc());
+    let edit = add_word(&heap, b"F", b"a b");
+    check_refused(&heap, b"F = x\n", edit, Refusal::BadArgument(Field::Word))?;
+    let edit = add_word(&heap, b"F", b"-g");
+    check_refused(&heap, b"F = -O2 -g\n", edit, Refusal::Already)
+}
+
+#[test]
 fn open_ends_are_refused(rt: HostRuntime) -> Result<(), Fail> {
     let heap = Watched::new(rt.alloc());
+    let edit = add_word(&heap, b"F", b"b");
+    check_refused(&heap, b"F = a$\\\n\n", edit, Refusal::OpenValue)?;
     let edit = append_value(&heap, b"X", b"${)#}");
     check_refused(&heap, b"X = $(foo\n", edit, Refusal::OpenValue)?;
     let edit = add_assign(&heap, b"Y", Flavor::Recursive, b"1");

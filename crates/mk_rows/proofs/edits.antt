@@ -3,3 +3,4 @@ mod Outcomes
 mod WorkedEdits
 mod RandomEdits
 mod CornerEdits
+mod WordEdits

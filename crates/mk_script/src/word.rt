@@ -18,6 +18,8 @@ pub(crate) enum EditWord {
     Set,
     /// `append`.
     Append,
+    /// `add`.
+    Add,
     /// `unset`.
     Unset,
     /// `assign`.
@@ -63,6 +65,8 @@ pub(crate) fn edit_word(word: Field<'_>) -> Option<EditWord>
         Some(EditWord::Set)
     } else if word.is(b"append") {
         Some(EditWord::Append)
+    } else if word.is(b"add") {
+        Some(EditWord::Add)
     } else if word.is(b"unset") {
         Some(EditWord::Unset)
     } else if word.is(b"assign") {

@@ -73,10 +73,15 @@ fn variable_edit(rt: &HostRuntime, numbers: &mut Numbers) -> Result<Edit, AllocE
     let nth = nth(numbers);
     let name = numbers.one_of(rt, &NAMES)?;
     let value = numbers.one_of(rt, &VALUES)?;
-    Ok(match numbers.below(4) {
+    Ok(match numbers.below(5) {
         0 => Edit::SetValue { nth, name, value },
         1 => Edit::AppendValue { nth, name, value },
-        2 => Edit::AddAssign {
+        2 => Edit::AddWord {
+            nth,
+            name,
+            word: value,
+        },
+        3 => Edit::AddAssign {
             place: place(rt, numbers)?,
             name,
             flavor: flavor(numbers),

@@ -35,6 +35,21 @@ pub fn append_value<A: Allocator + Copy>(
     })
 }
 
+/// Puts a word after the value of a variable.
+pub fn add_word<A: Allocator + Copy>(
+    alloc: A,
+    name: &[u8],
+    word: &[u8],
+) -> Result<Edit<A>, AllocError> {
+    let name = Vec::from_slice(alloc, name)?;
+    let word = Vec::from_slice(alloc, word)?;
+    Ok(Edit::AddWord {
+        nth: None,
+        name,
+        word,
+    })
+}
+
 /// Puts `NAME := VALUE` at the end.
 pub fn add_assign<A: Allocator + Copy>(
     alloc: A,

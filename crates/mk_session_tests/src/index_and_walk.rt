@@ -37,6 +37,7 @@ const CALLS: &[Step] = &[
     Step::SetValue(b"A", b"2"),
     Step::SetValue(b"C", b"2"),
     Step::AppendValue(b"M", b"3"),
+    Step::AddWord(b"M", b"4"),
     Step::AddAssign(b"D", b"5"),
     Step::AddRule(b"new", b"mid"),
     Step::AddOrderPrereq(b"mid", b"new"),
@@ -64,11 +65,12 @@ const CALLS: &[Step] = &[
 ];
 
 // Edits of each kind. Some of them are refused after some of the calls.
-const EDITS: [Step; 18] = [
+const EDITS: [Step; 19] = [
     Step::SetValue(b"A", b"7"),
     Step::SetValue(b"B", b"7"),
     Step::SetValue(b"C", b"7"),
     Step::AppendValue(b"M", b"7"),
+    Step::AddWord(b"M", b"4"),
     Step::AddAssign(b"E", b"7"),
     Step::RemoveAssign(b"D"),
     Step::AddRule(b"last", b"a"),
@@ -223,9 +225,10 @@ fn refused_in_turn<'a>(
 }
 
 // An edit of each kind, each of which is accepted.
-const ACCEPTED: [Step; 12] = [
+const ACCEPTED: [Step; 13] = [
     Step::SetValue(b"C", b"2"),
     Step::AppendValue(b"M", b"3"),
+    Step::AddWord(b"M", b"4"),
     Step::AddAssign(b"D", b"5"),
     Step::RemoveAssign(b"A"),
     Step::AddRule(b"new", b"mid"),

@@ -66,7 +66,7 @@ fn run_calls(
 ) -> Result<u32, Fail> {
     let session = opened(rt, rt.alloc(), text, depth)?;
     let mut machine = TextMachine::open(rt, text, depth)?;
-    for _ in 0..50 {
+    for _ in 0..60 {
         run_call(rt, numbers, session, &mut machine)?;
     }
     Ok(machine.edits())

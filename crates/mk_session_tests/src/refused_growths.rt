@@ -264,7 +264,7 @@ fn each_refused_growth_of_a_begin_changes_nothing(rt: HostRuntime) -> Result<(),
 type Refused = (&'static [u8], Step, Refusal);
 
 // One of each kind at least.
-const REFUSED_EDITS: [Refused; 13] = [
+const REFUSED_EDITS: [Refused; 14] = [
     (
         b"ifdef A\nCC=x\nelse\nCC=y\nendif\n",
         Step::SetValue(b"CC", b"z"),
@@ -273,6 +273,11 @@ const REFUSED_EDITS: [Refused; 13] = [
     (
         b"X = $(foo\n",
         Step::AppendValue(b"X", b"${)#}"),
+        Refusal::OpenValue,
+    ),
+    (
+        b"F = -g a$\\\n\n",
+        Step::AddWord(b"F", b"b"),
         Refusal::OpenValue,
     ),
     (b"X = a\\", Step::AddAssign(b"Y", b"1"), Refusal::OpenLine),

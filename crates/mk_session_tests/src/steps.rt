@@ -1,7 +1,7 @@
 //! Calls of a session as constants, each with its answer, and sessions that are asked for them.
 use crate::edits::{
-    add_assign, add_order_prereq, add_recipe, add_rule, append_value, remove_assign, remove_prereq,
-    remove_recipe, remove_rule, rename_target, set_recipe, set_value,
+    add_assign, add_order_prereq, add_recipe, add_rule, add_word, append_value, remove_assign,
+    remove_prereq, remove_recipe, remove_rule, rename_target, set_recipe, set_value,
 };
 use crate::texts::is_as_parsed;
 use mk_lines::Fault;
@@ -16,6 +16,8 @@ pub enum Step {
     SetValue(&'static [u8], &'static [u8]),
     /// Name and text.
     AppendValue(&'static [u8], &'static [u8]),
+    /// Name and word.
+    AddWord(&'static [u8], &'static [u8]),
     /// Name and value.
     AddAssign(&'static [u8], &'static [u8]),
     /// Name.
@@ -52,6 +54,7 @@ impl Step {
         let edit = match self {
             Step::SetValue(name, value) => set_value(alloc, name, value),
             Step::AppendValue(name, value) => append_value(alloc, name, value),
+            Step::AddWord(name, word) => add_word(alloc, name, word),
             Step::AddAssign(name, value) => add_assign(alloc, name, value),
             Step::RemoveAssign(name) => remove_assign(alloc, name),
             Step::AddRule(targets, prereqs) => add_rule(alloc, targets, prereqs),

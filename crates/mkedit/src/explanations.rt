@@ -13,7 +13,8 @@ its end, and no reference that is not closed, such as `$(X`. With `append` it is
 `target`, `word`, `old` and `new` are one word each, without a blank outside a reference. `targets`
 and `prereqs` are such words, and `targets` is not empty. Outside a reference no word has a `#`,
 colon, semicolon, equals sign, vertical bar, backslash or lone `$`, and each reference is closed. No
-target ends in `&`. `place` has such a name or such a target in it.
+target ends in `&`. `place` has such a name or such a target in it. With `add`, `word` is a word of a
+value: it is what `value` has to be, and is not empty.
 `line` does not end in a backslash. No field has a CR or a NUL.
 
 Example: the script
@@ -115,7 +116,7 @@ and no edit reaches it. Edit it by hand.
 ";
 
 const ALREADY: &str = "\
-The word stands already in the list of prerequisites to which the command adds it.
+The word stands already in the list of prerequisites, or in the value, to which the command adds it.
 
 Example: over
     hello: main.o
@@ -176,7 +177,7 @@ Edit by hand, or use `recipe-set` and `recipe-del`, which are not refused.
 const OPEN_VALUE: &str = "\
 The value to append to has a reference that is not closed, or ends in a lone `$` or a lone
 backslash. The new text would become a part of that reference, or would be read together with that
-byte.
+byte. With `add`, the value may not end in a fold either.
 
 Example: over
     SOURCES = $(wildcard *.c

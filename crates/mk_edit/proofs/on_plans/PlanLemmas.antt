@@ -10,7 +10,7 @@ use Rattle.mk_tree.specs.Documents.{IsFaithful, document_lines, context_of}
 use Rattle.mk_tree.specs.LineTexts.{line_in}
 use Rattle.mk_tree.specs.LocatedLines.{LocatedLine, located_line, located_lines, located_text, size_of}
 use Rattle.mk_tree.proofs.on_documents.DocumentLemmas.{faithful-own}
-use Rattle.mk_edit_language.specs.Edits.{Edit, SetValue, AppendValue, AddAssign, AddRule, AddPrereq, RemovePrereq, AddRecipe, SetRecipe}
+use Rattle.mk_edit_language.specs.Edits.{Edit, SetValue, AppendValue, AddWord, AddAssign, AddRule, AddPrereq, RemovePrereq, AddRecipe, SetRecipe}
 use Rattle.mk_edit_language.specs.Stretches.{Stretch, between, insertion, touched_by}
 use Rattle.mk_edit_language.specs.Costs.{cost, size}
 use Rattle.mk_edit_language.specs.EditedLines.{edited_bytes, new_line_bytes}
@@ -94,6 +94,7 @@ pub record ChangesOne (t : List ℕ) (e : Edit) : Type 0 where
 pub changes-one : (t : List ℕ) (e : Edit) (rs : List Replacement) (s : Stretch) (m : List ℕ) → touched_by (classed_lines t) e ≡ Some s → 0 < length s.lines → edited_bytes t e s rs ≡ m ∷ [] → ChangesOne t e
 changes-one t (SetValue nth n v) rs s m h few k = record { cost_is = refl; size_is = refl }
 changes-one t (AppendValue nth n v) rs s m h few k = record { cost_is = refl; size_is = refl }
+changes-one t (AddWord nth n w) rs s m h few k = record { cost_is = refl; size_is = refl }
 changes-one t (AddPrereq order nth g w) rs s m h few k = record { cost_is = refl; size_is = refl }
 changes-one t (RemovePrereq nth g w) rs s m h few k = record { cost_is = refl; size_is = refl }
 changes-one t (SetRecipe nth g n c) rs s m h few k = record { cost_is = refl; size_is = refl }

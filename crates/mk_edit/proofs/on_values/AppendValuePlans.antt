@@ -1,12 +1,14 @@
 -- An edit that appends to a closed value puts a text in the place of an empty range of a line.
-use Rattle.std.proofs.Common.{◌≡◌, refl, sym, ap, ◌∙◌, subst, arith, ℕ, ◌+◌, List, [], ◌∷◌, ◌++◌, Bool, true, false, if◌then◌else◌, not, map, length, append_assoc, take, drop, Option, Some, None, option_map}
+use Rattle.std.proofs.Common.{◌≡◌, refl, sym, ap, ◌∙◌, subst, arith, ℕ, ◌+◌, ◌<◌, List, [], ◌∷◌, ◌++◌, Bool, true, false, if◌then◌else◌, not, map, length, append_assoc, take, drop, Option, Some, None, option_map}
 use Rattle.std.specs.Prelude.{slice_get, Err}
 use Rattle.mk_lines.specs.Lists.{concat}
 use Rattle.mk_lines.specs.Cells.{Cell, joined_byte}
 use Rattle.mk_lines.specs.Units.{is_closed, units}
 use Rattle.mk_lines.proofs.on_units.UnitLemmas.{is_closed-map}
+use Rattle.mk_lines.specs.Words.{words_in}
 use Rattle.mk_lines.specs.declared.split.Span.{Span}
 use Rattle.mk_class.specs.ListTests.{is_empty}
+use Rattle.mk_class.specs.Texts.{word_texts}
 use Rattle.mk_class.specs.TextClasses.{itself}
 use Rattle.mk_class.specs.Assignments.{Assignment}
 use Rattle.mk_class.specs.Classes.{Class}
@@ -17,6 +19,7 @@ use Rattle.mk_tree.specs.Documents.{IsFaithful, text_of}
 use Rattle.mk_tree.specs.LocatedLines.{LocatedLine, located_text}
 use Rattle.mk_tree.specs.LineTexts.{StandingLine}
 use Rattle.mk_edit_language.specs.Edits.{Edit, AppendValue}
+use Rattle.mk_edit_language.specs.Addresses.{Variable, address, found}
 use Rattle.mk_edit_language.specs.Stretches.{this_line}
 use Rattle.mk_edit_language.specs.RuleCauses.{class_found}
 use Rattle.mk_edit_language.specs.LineCauses.{has_open_value, open_value}
@@ -26,28 +29,30 @@ use Rattle.mk_edit_language.specs.EditSpans.{where_found}
 use Rattle.mk_edit_language.specs.Refusals.{spans}
 use Rattle.mk_edit_language.specs.declared.refusal.Refusal.TheVariants.{OpenValue}
 use Rattle.mk_edit_language.proofs.on_values.SetValueLemmas.{not_prefix}
-use Rattle.mk_edit_parts.specs.Found.{IsAddressed}
+use Rattle.mk_edit_parts.specs.Found.{IsAddressed, IsPlaceOf}
 use Rattle.mk_edit_parts.specs.LineRanges.{value_range_located}
+use Rattle.mk_edit_parts.proofs.on_prerequisites.WordRangeLemmas.{part-words}
 use Rattle.mk_edit.specs.ValueEdits.{IsAppendValue, value_text_located, space_after}
 use Rattle.mk_edit_parts.specs.declared.seek.Found.{Found}
 use Rattle.mk_edit_parts.proofs.CauseLemmas.{passed, holds, refused}
 use Rattle.mk_edit.proofs.on_plans.CausePlans.{addressed-own}
-use Rattle.mk_edit.proofs.on_plans.RangePlans.{IsRangeEdit}
-use Rattle.mk_edit.proofs.on_values.ValuePlaces.{IsValueRange, IsValuePlace, value-place, assignment-located}
+use Rattle.mk_edit.specs.RangeEdits.{IsRangeEdit, end_of, PutsAfterValue}
+use Rattle.mk_edit.proofs.on_values.ValuePlaces.{IsValueRange, IsValuePlace, value-place, assignment-located, variable-place}
 
 -- ---- the text of the value
 
--- the text of an assignment's value tells whether the value is empty, and whether it is closed
-record IsValueText (a : Assignment Cell) (text : List ℕ) : Type 0 where
+-- the text of an assignment's value tells whether the value is empty, whether it is closed, and its words
+pub record IsValueText (a : Assignment Cell) (text : List ℕ) : Type 0 where
   pub empty_is : is_empty text ≡ is_empty a.value
   pub closed_is : is_closed (λ b. b) text ≡ is_closed joined_byte (concat a.value)
+  pub words_are : words_in text ≡ word_texts joined_byte a.value
 
 empty-units : (us : List (List Cell)) (text : List ℕ) → text ≡ map joined_byte (concat us) → units itself text ≡ map (map joined_byte) us → is_empty text ≡ is_empty us
 empty-units [] text h k = ap is_empty h
 empty-units (u ∷ us) (b ∷ text) h k = refl
 empty-units (u ∷ us) [] h k = absurd (cc)
 
-value-text : (ls : List LocatedLine) (nth : Option ℕ) (n : List ℕ) (f : Found) (l : LocatedLine) (b : Bool) (r : Span) (text : List ℕ) → (P : IsValuePlace ls nth n f l b r) → text ≡ value_text_located l → IsValueText P.assigned text
+pub value-text : (ls : List LocatedLine) (nth : Option ℕ) (n : List ℕ) (f : Found) (l : LocatedLine) (b : Bool) (r : Span) (text : List ℕ) → (P : IsValuePlace ls nth n f l b r) → text ≡ value_text_located l → IsValueText P.assigned text
 value-text ls nth n f l b r text P h =
     let a = P.assigned in
     let m = P.spot.line.bytes in
@@ -58,7 +63,21 @@ value-text ls nth n f l b r text P h =
     record {
       empty_is = empty-units a.value text is (ap (units itself) shown ∙ V.units_are);
       closed_is = ap (is_closed (λ b. b)) is ∙ is_closed-map joined_byte (λ b. b) (concat a.value);
+      words_are = ap words_in shown ∙ part-words _ _ _ _ a.value V;
     }
+
+-- what is known of the line at a place is known of it wherever it is seen
+pub puts-after : (e : Edit) (ls : List LocatedLine) (f : Found) (v : List ℕ) (l : LocatedLine) (text : List ℕ) → f.at < length ls → IsPlaceOf ls f → Some l ≡ slice_get ls f.at → text ≡ value_text_located l
+    → IsRangeEdit e ls f.at l (end_of (value_range_located false l)) (space_after text ++ v) → PutsAfterValue e ls f v
+puts-after e ls f v l text w p g k r = record {
+  within = w;
+  place = p;
+  range = λ m i.
+      let same : Some l ≡ Some m = g ∙ sym i in
+      let one : l ≡ m = cc in
+      subst (λ z. IsRangeEdit e ls f.at z (end_of (value_range_located false z)) (space_after (value_text_located z) ++ v)) one
+      (subst (λ z. IsRangeEdit e ls f.at l (end_of (value_range_located false l)) (space_after z ++ v)) k r);
+}
 
 -- ---- AppendValue
 
@@ -83,10 +102,6 @@ pub append_value-open : (e : Edit) (ls : List LocatedLine) (v : List ℕ) (f : F
 append_value-open e ls v f l text h S A g k o =
     subst (λ z. spans (located_text ls) z ≡ Err OpenValue) (sym S.is) (open_of ls S.nth S.name v f l text h (subst (λ z. IsAddressed z ls f) S.is A) g k o)
 
--- the range is the value's end
-abbrev pub end_of : Span → Span
-end_of r = record { start = r.end; end = r.end }
-
 spaced : (b : Bool) (v : List ℕ) → (if b then v else 32 ∷ v) ≡ (if b then [] else 32 ∷ []) ++ v
 spaced true v = refl
 spaced false v = refl
@@ -98,6 +113,17 @@ append_value_span-range l a v text at r R T =
     let w : (if is_empty a.value then v else 32 ∷ v) ≡ space_after text ++ v = ap (λ b. if b then v else 32 ∷ v) (sym T.empty_is) ∙ spaced (is_empty text) v in
     ap (λ (q : ℕ). record { start = q; end = q; new = if is_empty a.value then v else 32 ∷ v }) i ∙ ap (λ (z : List ℕ). record { start = at + r.end; end = at + r.end; new = z }) w
 
+-- the span of a text put after a value
+pub append_value-spans : (ls : List LocatedLine) (nth : Option ℕ) (n v : List ℕ) (f : Found) (l : LocatedLine) (r : Span) (text : List ℕ) → (P : IsValuePlace ls nth n f l false r) → text ≡ value_text_located l
+    → where_found (value_span (append_value_span v)) (found (classed_lines (located_text ls)) (Variable nth n))
+    ≡ record { start = length (text_of P.spot.above) + r.end; end = length (text_of P.spot.above) + r.end; new = space_after text ++ v } ∷ []
+append_value-spans ls nth n v f l r text P w =
+    let s = P.spot in
+    let base = length (text_of s.above) in
+    ap (where_found (value_span (append_value_span v))) P.found_is
+    ∙ (ap (assignment_span (append_value_span v) base) P.class_is
+    ∙ ap (λ z. z ∷ []) (append_value_span-range s.line.bytes P.assigned v text base r P.range (value-text ls nth n f l false r text P w)))
+
 append_value-range_of : (ls : List LocatedLine) (nth : Option ℕ) (n v : List ℕ) (f : Found) (l : LocatedLine) (r : Span) (text : List ℕ) → IsFaithful ls → IsAddressed (AppendValue nth n v) ls f → Some l ≡ slice_get ls f.at
     → r ≡ value_range_located false l → text ≡ value_text_located l → is_closed (λ b. b) text ≡ true → IsRangeEdit (AppendValue nth n v) ls f.at l (end_of r) (space_after text ++ v)
 append_value-range_of ls nth n v f l r text h A g k w o =
@@ -106,9 +132,7 @@ append_value-range_of ls nth n v f l r text h A g k w o =
     let e = AppendValue nth n v in
     let P = value-place ls nth n f l false r h A.is_there A.is_one (not_prefix n A.not_reserved) A.meant g k in
     let s = P.spot in
-    let base = length (text_of s.above) in
     let bytes : l.bytes ≡ s.line.bytes = ap (λ (z : LocatedLine). z.bytes) P.line_is in
-    let T = value-text ls nth n f l false r text P w in
     record {
       spot = s;
       place_is = P.place_is;
@@ -117,17 +141,22 @@ append_value-range_of ls nth n v f l r text h A g k w o =
       bytes_are = sym bytes;
       rises = omega arith;
       within = omega (arith, ap length bytes, P.range.within);
-      spans_are =
-          ap (where_found (value_span (append_value_span v))) P.found_is
-          ∙ (ap (assignment_span (append_value_span v) base) P.class_is ∙ ap (λ z. z ∷ []) (append_value_span-range s.line.bytes P.assigned v text base r P.range T));
+      spans_are = append_value-spans ls nth n v f l r text P w;
       causes_are =
           addressed-own e ls f _ A (passed (open_value cs e) _ _ (append_value-open_value ls nth n v f l false r text P w ∙ ap (λ q. where_holds (not q) OpenValue) o) refl);
     }
 
-pub append_value-range : (e : Edit) (ls : List LocatedLine) (v : List ℕ) (f : Found) (l : LocatedLine) (r : Span) (text : List ℕ) → IsFaithful ls → IsAppendValue e v → IsAddressed e ls f → Some l ≡ slice_get ls f.at
+append_value-range : (e : Edit) (ls : List LocatedLine) (v : List ℕ) (f : Found) (l : LocatedLine) (r : Span) (text : List ℕ) → IsFaithful ls → IsAppendValue e v → IsAddressed e ls f → Some l ≡ slice_get ls f.at
     → r ≡ value_range_located false l → text ≡ value_text_located l → is_closed (λ b. b) text ≡ true → IsRangeEdit e ls f.at l (end_of r) (space_after text ++ v)
 append_value-range e ls v f l r text h S A g k w o =
     subst (λ z. IsRangeEdit z ls f.at l (end_of r) (space_after text ++ v)) (sym S.is) (append_value-range_of ls S.nth S.name v f l r text h (subst (λ z. IsAddressed z ls f) S.is A) g k w o)
+
+-- an edit that appends to a closed value puts a text after it
+pub append_value-puts : (e : Edit) (ls : List LocatedLine) (v : List ℕ) (f : Found) (l : LocatedLine) (text : List ℕ) → IsFaithful ls → IsAppendValue e v → IsAddressed e ls f → Some l ≡ slice_get ls f.at
+    → text ≡ value_text_located l → is_closed (λ b. b) text ≡ true → PutsAfterValue e ls f v
+append_value-puts e ls v f l text h S A g k o =
+    let P = variable-place e ls f S.nth S.name h (ap address S.is) A in
+    puts-after e ls f v l text P.within P.place g k (append_value-range e ls v f l (value_range_located false l) text h S A g refl k o)
 
 -- the line with a space and the text put in there
 pub appended-line : (m bytes space text v : List ℕ) (at : ℕ) → m ≡ take at bytes ++ (space ++ (v ++ drop at bytes)) → space ≡ space_after text → m ≡ take at bytes ++ ((space_after text ++ v) ++ drop at bytes)

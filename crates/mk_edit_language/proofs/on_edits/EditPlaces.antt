@@ -6,7 +6,7 @@ use Rattle.mk_class.specs.ClassedLines.{ClassedLine}
 use Rattle.mk_tree.specs.RecipeLines.{recipe_run, after_recipe}
 use Rattle.mk_tree.proofs.on_changes.RecipeRunLemmas.{recipe_run-after}
 use Rattle.mk_tree.specs.LineTexts.{StandingLine}
-use Rattle.mk_edit_language.specs.Edits.{Place, Bottom, BeforeVar, AfterVar, BeforeRule, Edit, SetValue, AppendValue, AddAssign, RemoveAssign, AddRule, RemoveRule, AddPrereq, RemovePrereq, AddRecipe, SetRecipe, RemoveRecipe, RenameTarget}
+use Rattle.mk_edit_language.specs.Edits.{Place, Bottom, BeforeVar, AfterVar, BeforeRule, Edit, SetValue, AppendValue, AddWord, AddAssign, RemoveAssign, AddRule, RemoveRule, AddPrereq, RemovePrereq, AddRecipe, SetRecipe, RemoveRecipe, RenameTarget}
 use Rattle.mk_edit_language.specs.Addresses.{Address, Variable, Rule, assigns, is_rule_for, found}
 use Rattle.mk_edit_language.specs.Stretches.{Stretch, this_line, before_line, after_line, bottom, whole_rule, after_rule, recipe_found, place_found, insertion, removal, IsStretchOf}
 use Rattle.mk_edit_language.proofs.on_lines.SpotLemmas.{picked-is, recipe-found}
@@ -73,6 +73,7 @@ insertion-stretch ls (AddRule p ts c ws) s h = place-stretch ls p s h
 insertion-stretch ls (AddRecipe nth g c) s h = mapped (IsStretchOf ls) after_rule (found ls (Rule nth g)) (λ x i. after_rule-stretch ls x (found-spot ls (Rule nth g) x i)) s h
 insertion-stretch ls (SetValue nth n v) s h = absurd (cc)
 insertion-stretch ls (AppendValue nth n v) s h = absurd (cc)
+insertion-stretch ls (AddWord nth n w) s h = absurd (cc)
 insertion-stretch ls (RemoveAssign nth n) s h = absurd (cc)
 insertion-stretch ls (RemoveRule nth g) s h = absurd (cc)
 insertion-stretch ls (AddPrereq o nth g w) s h = absurd (cc)
@@ -88,6 +89,7 @@ removal-stretch ls (RemoveRule nth g) s h = mapped (IsStretchOf ls) whole_rule (
 removal-stretch ls (RemoveRecipe nth g k) s h = mapped (IsStretchOf ls) this_line (recipe_found ls nth g k) (λ x i. this-stretch ls x (recipe_found-spot ls nth g k x i)) s h
 removal-stretch ls (SetValue nth n v) s h = absurd (cc)
 removal-stretch ls (AppendValue nth n v) s h = absurd (cc)
+removal-stretch ls (AddWord nth n w) s h = absurd (cc)
 removal-stretch ls (AddAssign p n f v) s h = absurd (cc)
 removal-stretch ls (AddRule p ts c ws) s h = absurd (cc)
 removal-stretch ls (AddPrereq o nth g w) s h = absurd (cc)

@@ -22,7 +22,7 @@ use Rattle.mk_tree.proofs.on_documents.LinesInText.{line-in_text, context_of-las
 use Rattle.mk_tree.specs.NewLineEnds.{above_ended, missing_line_end}
 use Rattle.mk_tree.proofs.on_changes.RecipeRunLemmas.{recipe_run-stays, rule-agrees, assign-agrees, recipe-agrees}
 use Rattle.mk_tree.specs.LineTexts.{StandingLine}
-use Rattle.mk_edit_language.specs.Edits.{Edit, Place, SetValue, AppendValue, AddAssign, RemoveAssign, AddRule, RemoveRule, AddPrereq, RemovePrereq, AddRecipe, SetRecipe, RemoveRecipe}
+use Rattle.mk_edit_language.specs.Edits.{Edit, Place, SetValue, AppendValue, AddWord, AddAssign, RemoveAssign, AddRule, RemoveRule, AddPrereq, RemovePrereq, AddRecipe, SetRecipe, RemoveRecipe}
 use Rattle.mk_edit_language.specs.Addresses.{Variable, Rule, found}
 use Rattle.mk_edit_language.specs.Stretches.{Stretch, this_line, whole_rule, between, insertion, removal, touched_by}
 use Rattle.mk_edit_language.specs.NewLines.{assign_text, new_text, new_line_span}
@@ -40,6 +40,7 @@ use Rattle.mk_edit_language.proofs.on_lines.LineReplaced.{IsLineReplaced, replac
 use Rattle.mk_edit_language.proofs.on_values.SetValueLemmas.{not_prefix}
 use Rattle.mk_edit_language.proofs.on_values.LastFoldLemmas.{set_value-replaced}
 use Rattle.mk_edit_language.proofs.on_values.AppendValueLemmas.{append_value-line, closed-found}
+use Rattle.mk_edit_language.proofs.on_values.AddWordLemmas.{word-added, no_empty-word}
 use Rattle.mk_edit_language.proofs.on_prerequisites.NewWords.{word-is_new}
 use Rattle.mk_edit_language.proofs.on_prerequisites.HeaderEdits.{word_spans-header}
 use Rattle.mk_edit_language.proofs.on_prerequisites.AddPrereqLemmas.{add_prereq-line}
@@ -157,6 +158,17 @@ append_value-keeps nth n (b ∷ v) t rs h =
     let closed = closed-found t n nth F (where_holds-none _ _ A.value_closed) in
     value-keeps t n nth e rs (append_value_span (b ∷ v)) _ F (append_value-rises (b ∷ v)) h A.spans_are
     (append_value-line t s.above s.line s.below F.assigned b v F.whole F.class_is F.no_prefix i.0 closed F.assigned.value refl) (ap (option_map this_line) F.found_is) refl refl (omega arith) (omega arith)
+
+-- a word put after a value
+pub add_word-keeps : (nth : Option ℕ) (n w t : List ℕ) (rs : List Replacement) → spans t (AddWord nth n w) ≡ Ok rs → AreOthersKept t (AddWord nth n w) rs
+add_word-keeps nth n [] t rs h = absurd (no_empty-word t n nth rs (accepted t (AddWord nth n []) rs h))
+add_word-keeps nth n (b ∷ w) t rs h =
+    let A = accepted t (AddWord nth n (b ∷ w)) rs h in
+    let W = word-added t n (b ∷ w) nth rs A in
+    let F = W.found_value in
+    let s = F.spot in
+    value-keeps t n nth (AddWord nth n (b ∷ w)) rs (append_value_span (b ∷ w)) _ F (append_value-rises (b ∷ w)) h A.spans_are
+    (append_value-line t s.above s.line s.below F.assigned b w F.whole F.class_is F.no_prefix W.value W.closed F.assigned.value refl) (ap (option_map this_line) F.found_is) refl refl (omega arith) (omega arith)
 
 -- a recipe line with another command
 pub set_recipe-keeps : (nth : Option ℕ) (g : List ℕ) (k : ℕ) (c t : List ℕ) (rs : List Replacement) → spans t (SetRecipe nth g k c) ≡ Ok rs → AreOthersKept t (SetRecipe nth g k c) rs

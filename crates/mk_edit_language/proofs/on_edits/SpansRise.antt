@@ -30,7 +30,7 @@ use Rattle.mk_tree.specs.Documents.{text_of, context_of}
 use Rattle.mk_tree.proofs.on_documents.LinesInText.{line-in_text, run-in_text, AreClassed, AreClassed-class, AreClassed-tail, AreClassed-lines}
 use Rattle.mk_tree.proofs.on_documents.DocumentLemmas.{text_of-classed_lines}
 use Rattle.mk_tree.specs.LineTexts.{StandingLine}
-use Rattle.mk_edit_language.specs.Edits.{Edit, SetValue, AppendValue, AddAssign, RemoveAssign, AddRule, RemoveRule, AddPrereq, RemovePrereq, AddRecipe, SetRecipe, RemoveRecipe, RenameTarget}
+use Rattle.mk_edit_language.specs.Edits.{Edit, SetValue, AppendValue, AddWord, AddAssign, RemoveAssign, AddRule, RemoveRule, AddPrereq, RemovePrereq, AddRecipe, SetRecipe, RemoveRecipe, RenameTarget}
 use Rattle.mk_edit_language.specs.Addresses.{Variable, Rule, found}
 use Rattle.mk_edit_language.specs.Stretches.{Stretch, insertion, removal, recipe_found, IsStretchOf}
 use Rattle.mk_edit_language.specs.NewLines.{new_line_span}
@@ -303,6 +303,8 @@ spans-rise t (SetValue nth n v) = rise-found t (value_span (set_value_span v)) (
     (λ s i. rise-spot t s (assignment_span (set_value_span v)) (found-spot (classed_lines t) (Variable nth n) s i) (rise-value (set_value_span v) (set_value-rises v)))
 spans-rise t (AppendValue nth n v) = rise-found t (value_span (append_value_span v)) (found (classed_lines t) (Variable nth n))
     (λ s i. rise-spot t s (assignment_span (append_value_span v)) (found-spot (classed_lines t) (Variable nth n) s i) (rise-value (append_value_span v) (append_value-rises v)))
+spans-rise t (AddWord nth n w) = rise-found t (value_span (append_value_span w)) (found (classed_lines t) (Variable nth n))
+    (λ s i. rise-spot t s (assignment_span (append_value_span w)) (found-spot (classed_lines t) (Variable nth n) s i) (rise-value (append_value_span w) (append_value-rises w)))
 spans-rise t (AddAssign p n f v) = rise-found t (new_line_span t (AddAssign p n f v)) (insertion (classed_lines t) (AddAssign p n f v))
     (λ s i. rise-inserted t (AddAssign p n f v) s (insertion-stretch (classed_lines t) (AddAssign p n f v) s i))
 spans-rise t (RemoveAssign nth n) = rise-found t removed_span (removal (classed_lines t) (RemoveAssign nth n)) (λ s i. rise-removed t s (removal-stretch (classed_lines t) (RemoveAssign nth n) s i))

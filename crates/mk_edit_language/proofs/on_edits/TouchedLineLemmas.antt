@@ -6,7 +6,7 @@ use Rattle.mk_lines.specs.Pieces.{Replacement}
 use Rattle.mk_class.specs.ClassedLines.{classed_lines}
 use Rattle.mk_tree.specs.Documents.{text_of}
 use Rattle.mk_tree.specs.LineTexts.{StandingLine}
-use Rattle.mk_edit_language.specs.Edits.{Edit, SetValue, AppendValue, AddAssign, RemoveAssign, AddRule, RemoveRule, AddPrereq, RemovePrereq, AddRecipe, SetRecipe, RemoveRecipe, RenameTarget}
+use Rattle.mk_edit_language.specs.Edits.{Edit, SetValue, AppendValue, AddWord, AddAssign, RemoveAssign, AddRule, RemoveRule, AddPrereq, RemovePrereq, AddRecipe, SetRecipe, RemoveRecipe, RenameTarget}
 use Rattle.mk_edit_language.specs.Addresses.{Variable, Rule, found}
 use Rattle.mk_edit_language.specs.Stretches.{Stretch, this_line, bottom, insertion, removal, recipe_found, IsStretchOf}
 use Rattle.mk_edit_language.specs.NewLines.{new_line_span}
@@ -57,6 +57,8 @@ few-of_one t (SetValue nth n v) p = few-found t (SetValue nth n v) (value_span (
     (λ s i. let w = found-spot (classed_lines t) (Variable nth n) s i in few-spot t (SetValue nth n v) (value_span (set_value_span v) s) s w (value-rises t s (set_value_span v) w (set_value-rises v)) (omega arith))
 few-of_one t (AppendValue nth n v) p = few-found t (AppendValue nth n v) (value_span (append_value_span v)) (found (classed_lines t) (Variable nth n))
     (λ s i. let w = found-spot (classed_lines t) (Variable nth n) s i in few-spot t (AppendValue nth n v) (value_span (append_value_span v) s) s w (value-rises t s (append_value_span v) w (append_value-rises v)) (omega arith))
+few-of_one t (AddWord nth n v) p = few-found t (AddWord nth n v) (value_span (append_value_span v)) (found (classed_lines t) (Variable nth n))
+    (λ s i. let w = found-spot (classed_lines t) (Variable nth n) s i in few-spot t (AddWord nth n v) (value_span (append_value_span v) s) s w (value-rises t s (append_value_span v) w (append_value-rises v)) (omega arith))
 few-of_one t (AddAssign q n f v) p = few-found t (AddAssign q n f v) (new_line_span t (AddAssign q n f v)) (insertion (classed_lines t) (AddAssign q n f v))
     (λ s i. few-inserted t (AddAssign q n f v) s (insertion-stretch (classed_lines t) (AddAssign q n f v) s i))
 few-of_one t (AddRule q ts c ws) p = few-found t (AddRule q ts c ws) (new_line_span t (AddRule q ts c ws)) (insertion (classed_lines t) (AddRule q ts c ws))

@@ -3,9 +3,9 @@ use Rattle.std.proofs.Common.{◌≡◌, refl, [], Some, None, true, false}
 use Rattle.std.specs.Prelude.{codes}
 use Rattle.mk_class.specs.declared.assignment.Flavor.TheVariants.{Recursive, Simple}
 use Rattle.mk_edit_language.specs.declared.edit.RuleSeparator.TheVariants.{Single, Double}
-use Rattle.mk_edit_language.specs.declared.refusal.Refusal.TheVariants.{BadArgument, Reserved, RecipePrefix, NoSuch, Ambiguous, Absent, Taken, SharedRule, Straddles, OpenValue, OpenLine, OpenDefine, Leans}
+use Rattle.mk_edit_language.specs.declared.refusal.Refusal.TheVariants.{BadArgument, Reserved, RecipePrefix, NoSuch, Ambiguous, Absent, Already, Taken, SharedRule, Straddles, OpenValue, OpenLine, OpenDefine, Leans}
 use Rattle.mk_edit_language.specs.Edits.{Bottom, BeforeVar, AfterVar, BeforeRule}
-use Rattle.mk_edit_language.specs.Edits.{SetValue, AppendValue, AddAssign, RemoveAssign, AddRule, RemoveRule, AddPrereq, RemovePrereq, AddRecipe, SetRecipe, RemoveRecipe, RenameTarget}
+use Rattle.mk_edit_language.specs.Edits.{SetValue, AppendValue, AddWord, AddAssign, RemoveAssign, AddRule, RemoveRule, AddPrereq, RemovePrereq, AddRecipe, SetRecipe, RemoveRecipe, RenameTarget}
 use Rattle.mk_rows.proofs.edits.Outcomes.{outcome}
 use Rattle.mk_rows.proofs.edits.Outcomes.{Becomes, Refused}
 use Rattle.mk_edit_language.specs.declared.refusal.Field.TheVariants as field
@@ -390,3 +390,18 @@ row_nth_before_a_place = refl
 
 row_recipe_line_zero_is_refused : outcome (codes "a:\n\tx\n") (RemoveRecipe None (codes "a") 0) ≡ Refused Absent
 row_recipe_line_zero_is_refused = refl
+
+row_add_puts_a_word_after_the_value : outcome (codes "F = -O2\n") (AddWord None (codes "F") (codes "-g")) ≡ Becomes (codes "F = -O2 -g\n")
+row_add_puts_a_word_after_the_value = refl
+
+row_add_of_a_word_that_is_there_is_refused : outcome (codes "F = -O2 -g\n") (AddWord None (codes "F") (codes "-g")) ≡ Refused Already
+row_add_of_a_word_that_is_there_is_refused = refl
+
+row_add_to_an_empty_value_writes_no_space : outcome (codes "F =\n") (AddWord None (codes "F") (codes "-g")) ≡ Becomes (codes "F =-g\n")
+row_add_to_an_empty_value_writes_no_space = refl
+
+row_add_of_two_words_is_refused : outcome (codes "F = x\n") (AddWord None (codes "F") (codes "a b")) ≡ Refused (BadArgument field.Word)
+row_add_of_two_words_is_refused = refl
+
+row_add_after_a_dollar_and_a_fold_is_refused : outcome (codes "F = a$\\\n\n") (AddWord None (codes "F") (codes "b")) ≡ Refused OpenValue
+row_add_after_a_dollar_and_a_fold_is_refused = refl

@@ -12,7 +12,7 @@ pub struct Script {
 }
 
 /// Each command, each place, operator and separator, numbers, quotes and line ends.
-pub static SCRIPTS: [Script; 15] = [
+pub static SCRIPTS: [Script; 16] = [
     Script {
         text: b"",
         commands: b"",
@@ -32,6 +32,11 @@ pub static SCRIPTS: [Script; 15] = [
         text: b"append X b\nunset X",
         commands: b"1 AppendValue -|X|b\n2 RemoveAssign -|X\n",
         growths: 4,
+    },
+    Script {
+        text: b"add F -g\nnth 2 \"add\" F \"-O2\"",
+        commands: b"1 AddWord -|F|-g\n2 AddWord 2|F|-O2\n",
+        growths: 5,
     },
     Script {
         text: b"\n# c\r\n nth 2\tset X \"\" \r\nundo\r\n",

@@ -91,6 +91,9 @@ fn put_edit<A: Allocator>(
         Edit::AppendValue { nth, name, value } => {
             put_named(alloc, out, b"AppendValue", *nth, &[name, value])
         }
+        Edit::AddWord { nth, name, word } => {
+            put_named(alloc, out, b"AddWord", *nth, &[name, word])
+        }
         Edit::AddAssign {
             place,
             name,

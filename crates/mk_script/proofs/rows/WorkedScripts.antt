@@ -5,7 +5,7 @@ use Rattle.bstr.specs.Text.{line_len, lines_from}
 use Rattle.mk_class.specs.declared.assignment.Flavor.TheVariants.{Recursive, Simple}
 use Rattle.mk_edit_language.specs.declared.edit.RuleSeparator.TheVariants.{Single, Double}
 use Rattle.mk_edit_language.specs.Edits.{Bottom, BeforeVar, AfterVar, BeforeRule}
-use Rattle.mk_edit_language.specs.Edits.{SetValue, AppendValue, AddAssign, RemoveAssign, AddRule, RemoveRule, AddPrereq, RemovePrereq, AddRecipe, SetRecipe, RemoveRecipe, RenameTarget}
+use Rattle.mk_edit_language.specs.Edits.{SetValue, AppendValue, AddWord, AddAssign, RemoveAssign, AddRule, RemoveRule, AddPrereq, RemovePrereq, AddRecipe, SetRecipe, RemoveRecipe, RenameTarget}
 use Rattle.mk_history.specs.Machine.{Apply, Undo, Redo, Begin, End, Cancel}
 use Rattle.mk_script.proofs.on_scripts.ReaderLemmas.{on_line, read_script}
 
@@ -448,3 +448,15 @@ row_nth_twice_is_no_command = refl
 row_recipe_line_zero_is_refused : read_script (codes "recipe-del a 0") ≡ Ok (on_line 1 (Apply (RemoveRecipe None (codes "a") 0)) ∷ [])
 unfolding line_len lines_from
 row_recipe_line_zero_is_refused = refl
+
+row_add_puts_a_word_after_the_value : read_script (codes "add F -g") ≡ Ok (on_line 1 (Apply (AddWord None (codes "F") (codes "-g"))) ∷ [])
+unfolding line_len lines_from
+row_add_puts_a_word_after_the_value = refl
+
+row_add_of_two_words_is_refused : read_script (codes "add F \"a b\"") ≡ Ok (on_line 1 (Apply (AddWord None (codes "F") (codes "a b"))) ∷ [])
+unfolding line_len lines_from
+row_add_of_two_words_is_refused = refl
+
+row_add_after_a_dollar_and_a_fold_is_refused : read_script (codes "add F b") ≡ Ok (on_line 1 (Apply (AddWord None (codes "F") (codes "b"))) ∷ [])
+unfolding line_len lines_from
+row_add_after_a_dollar_and_a_fold_is_refused = refl
