@@ -1,4 +1,1 @@
-mod WorkedScripts
 mod RowMeanings
-mod RandomScripts
-mod CornerScripts
