@@ -28,7 +28,7 @@ is_met other = false
 -- ---- one step
 
 -- What an answer of the session machine comes to: what is shown after it; or its refusal.
-abbrev Answer : Type 0
+abbrev pub Answer : Type 0
 Answer = Result (Shown (List ℕ)) (machine.Refusal Refusal)
 
 -- What a step comes to: what is shown after it; or the refusal that is told, with the number of its
@@ -78,7 +78,7 @@ step_end (Chain first second others) s = chain_end first (second ∷ others) s
 
 -- A step tries this command, from what is shown before it. In a chain each edit above it is passed
 -- over.
-abbrev ChainTries : (first : EditAt) → (others : List EditAt) → (before : Shown (List ℕ))
+abbrev pub ChainTries : (first : EditAt) → (others : List EditAt) → (before : Shown (List ℕ))
     → Command Edit → Type 0
 ChainTries e [] s c = c ≡ Apply e.edit
 ChainTries e (o ∷ others) s c =

@@ -1,6 +1,6 @@
 -- What the steps of a run promise each other.
 -- Told in docs/ARCHITECTURE.md, "From bytes to bytes".
-use Rattle.std.specs.Prelude.{◌≡◌, ℕ, Bool, true, false, List, Option, Result, Ok, Err}
+use Rattle.std.specs.Prelude.{◌≡◌, ℕ, Bool, true, false, if◌then◌else◌, List, Option, Result, Ok, Err}
 use Rattle.mk_tree.specs.Documents.{IsTooDeep}
 use Rattle.mk_edit_language.specs.Edits.{Edit}
 use Rattle.mk_edit_language.specs.declared.refusal.Refusal.{Refusal}
@@ -11,7 +11,7 @@ use Rattle.mk_history.specs.Shown.{Shown}
 use Rattle.mk_session.specs.Sessions.{Seen, seen_opened, answer, session_refusal}
 use Rattle.mk_session.specs.Calls.{takes_memory}
 use Rattle.mk_script.specs.Scripts.{Step, IsScript, HasNoCommand}
-use Rattle.mk_run.specs.ObeyedSteps.{Tries, step_end, obeyed_steps}
+use Rattle.mk_run.specs.ObeyedSteps.{StepEnd, is_met, Tries, step_end, obeyed_steps}
 use Rattle.mk_run.specs.Runs.{IsTooLong, result_after}
 use Rattle.mk_run.specs.RunEnds.{HasText, Written, IsOut, IsPrefixOut, GoesOn, IsWhole, IsCut, IsLeft, IsLeftRefused, IsLeftShort, IsLeftUnreported, IsLeftCut}
 use Rattle.mk_run.specs.declared.step.RefusedCommand.{RefusedCommand}
@@ -65,29 +65,40 @@ StopsMakefile bytes failed outcome = ⊥
 
 -- ---- one step
 
--- A step was refused, and the refusal is to be told with the number of its line; nothing has changed.
-pub record IsStepRefused (step : Step) (refused : RefusedCommand) (old new : Shown (List ℕ))
+-- A step comes to a refusal that is to be told with the number of its line; nothing has changed.
+pub record IsStepRefused (end : StepEnd) (refused : RefusedCommand) (old new : Shown (List ℕ))
     : Type 0 where
   pub cause : machine.Refusal Refusal
-  pub refused_is : step_end step old ≡ Err (refused.line, cause)
+  pub end_is : end ≡ Err (refused.line, cause)
   pub told : refused.refusal ≡ session_refusal cause
   pub same : new ≡ old
 
--- A command that the step tries found no memory; nothing has changed.
-pub record IsStepShort (step : Step) (old new : Shown (List ℕ)) : Type 0 where
+-- A command that a step tries found no memory; nothing has changed.
+pub record IsStepShort (IsTried : Command Edit → Type 0) (old new : Shown (List ℕ)) : Type 0 where
   pub command : Command Edit
   pub after : Shown (List ℕ)
-  pub tries : Tries step old command
+  pub tried : IsTried command
   pub takes : takes_memory command ≡ true
   pub granted : answer command old ≡ Ok after
   pub same : new ≡ old
 
--- A step was obeyed: it is done, or a refusal is to be told, or a command found no memory.
+-- A step that comes to this end, and tries these commands, was obeyed: it is done, or its refusal is
+-- to be told, or a command found no memory.
+abbrev pub ComesTo : StepEnd → (IsTried : Command Edit → Type 0) → Result (Unit {0}) RefusedCommand
+    → (old new : Shown (List ℕ)) → Type 0
+ComesTo end IsTried (Ok u) old new = end ≡ Ok new
+ComesTo end IsTried (Err refused) old new =
+    ((refused.refusal ≡ refusal.NoMemory → ⊥) → IsStepRefused end refused old new)
+    × (refused.refusal ≡ refusal.NoMemory → IsStepShort IsTried old new)
+
+-- a step was obeyed
 abbrev pub IsObeyed : Step → Result (Unit {0}) RefusedCommand → (old new : Shown (List ℕ)) → Type 0
-IsObeyed step (Ok u) old new = step_end step old ≡ Ok new
-IsObeyed step (Err refused) old new =
-    ((refused.refusal ≡ refusal.NoMemory → ⊥) → IsStepRefused step refused old new)
-    × (refused.refusal ≡ refusal.NoMemory → IsStepShort step old new)
+IsObeyed step result old new = ComesTo (step_end step old) (λ c. Tries step old c) result old new
+
+-- what an answer that ends a chain comes to: there is no refusal if there is nothing to do
+abbrev pub chain_answer : (line : ℕ) → Result (Unit {0}) Refusal → Result (Unit {0}) RefusedCommand
+chain_answer n (Ok u) = Ok u
+chain_answer n (Err r) = if is_met r then Ok tt else Err (record { line = n; refusal = r })
 
 -- ---- the steps
 

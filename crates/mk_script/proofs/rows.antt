@@ -1,1 +1,5 @@
+mod WorkedScripts
 mod RowMeanings
+mod RandomScripts
+mod CornerScripts
+mod AlternativeScripts

@@ -8,7 +8,7 @@ ghost use Rattle.mk_script.specs.ReaderAnswers.{Adds, Pushes};
 use crate::command::{is_skipped, read_command, read_edit_line};
 use crate::fault::LineFault;
 use crate::fields::first_field;
-use crate::step::{NumberedCommand, NumberedEdit, Step};
+use crate::step::{Chain, NumberedCommand, NumberedEdit, Step};
 use bstr::ByteSlice;
 use std::alloc::Allocator;
 use thiserror::Error;
@@ -95,12 +95,12 @@ fn add_alternative<A: Allocator + Copy>(
     let Some(last) = steps.pop() else {
         return Err(LineFault::NotACommand);
     };
-    let Some(mut chain) = last.into_chain(alloc) else {
+    let Some((first, mut others)) = last.into_edits(alloc) else {
         return Err(LineFault::NotACommand);
     };
     let edit = read_edit_line(alloc, rest)?;
-    match chain.others.push(NumberedEdit { line: number, edit }) {
-        Ok(()) => push_step(steps, Step::Chain(chain)),
+    match others.push(NumberedEdit { line: number, edit }) {
+        Ok(()) => push_step(steps, Step::Chain(Chain { first, others })),
         Err(_) => Err(LineFault::NoMemory),
     }
 }

@@ -1,7 +1,5 @@
 //! The steps of a script.
-ghost use Rattle.std.specs.Prelude.{◌≡◌, map, false, MatchOption};
-ghost use Rattle.mk_script.specs.Scripts.{chain_of, numbered_edit, step_of};
-ghost use Rattle.mk_script.specs.ReaderAnswers.{takes_alternative};
+ghost use Rattle.std.specs.Prelude.{◌≡◌, ◌<◌, map, false, vec_len, MatchOption};
 
 use mk_command::Command;
 use mk_edit_language::Edit;
@@ -31,8 +29,9 @@ pub struct NumberedEdit<A: Allocator = Global> {
 pub struct Chain<A: Allocator = Global> {
     /// The edit that is tried first.
     pub first: NumberedEdit<A>,
-    /// The alternatives, in the order in which they are tried.
+    /// The alternatives, one or more, in the order in which they are tried.
     pub others: Vec<NumberedEdit<A>, A>,
+    ghost some: { 0 < vec_len others },
 }
 
 /// A step of a script: the commands that a run takes together, and what it makes of a refusal.
@@ -48,23 +47,23 @@ pub enum Step<A: Allocator = Global> {
 }
 
 impl<A: Allocator + Copy> Step<A> {
-    /// The step as a chain that one more alternative can be put behind. `None` if no `or` may stand
-    /// below the step: it is no edit's, or there is a `try`.
-    pub(crate) fn into_chain(self, alloc: A) -> Option<Chain<A>>
+    ghost use Rattle.mk_script.specs.Scripts.{chain_of, numbered_edit, step_of};
+    ghost use Rattle.mk_script.specs.ReaderAnswers.{takes_alternative};
+
+    /// The edit of the step that is tried first, and the alternatives so far. `None` if no `or` may
+    /// stand below the step: it is no edit's, or there is a `try`.
+    pub(crate) fn into_edits(self, alloc: A) -> Option<(NumberedEdit<A>, Vec<NumberedEdit<A>, A>)>
         ensures { MatchOption result (takes_alternative (step_of self) ≡ false)
-            (λ chain. step_of self
-            ≡ chain_of (numbered_edit chain.first) (map numbered_edit chain.others.items)) }
+            (λ edits. step_of self
+            ≡ chain_of (numbered_edit edits.0) (map numbered_edit edits.1.items)) }
     {
         match self {
             Step::Alone(NumberedCommand {
                 line,
                 command: Command::Apply(edit),
-            }) => Some(Chain {
-                first: NumberedEdit { line, edit },
-                others: Vec::new(alloc),
-            }),
+            }) => Some((NumberedEdit { line, edit }, Vec::new(alloc))),
             Step::Alone(_) | Step::Try(_) => None,
-            Step::Chain(chain) => Some(chain),
+            Step::Chain(Chain { first, others }) => Some((first, others)),
         }
     }
 }

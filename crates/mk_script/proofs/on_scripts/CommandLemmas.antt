@@ -1,12 +1,9 @@
 -- Scripts without `try` and `or`.
-use Rattle.std.proofs.Common.{◌≡◌, ℕ, ◌+◌, List, [], ◌∷◌, ◌++◌, refl, sym, ap, ◌∙◌, subst, inl, inr, length, map}
-use Rattle.std.specs.Prelude.{◌⊎◌}
+use Rattle.std.proofs.Common.{ℕ, ◌+◌, List, [], ◌∷◌, refl, inl, inr, map}
 use Rattle.std.specs.List.{AllByRecursion}
-use Rattle.mk_edit_language.specs.Edits.{Edit}
-use Rattle.mk_history.specs.Machine.{Command}
-use Rattle.mk_script.specs.Lines.{script_lines, IsSkipped, HasCommand, Saying, Plain, Says}
-use Rattle.mk_script.specs.Scripts.{CommandAt, Step, Alone, SayingAt, AreSaid, sayings, AreSteps, HasNoCommand}
-use Rattle.mk_script.specs.ScriptsOfCommands.{AreCommands, IsReadable, IsFaultOfCommands}
+use Rattle.mk_script.specs.Lines.{script_lines}
+use Rattle.mk_script.specs.Scripts.{CommandAt, Alone, AreSaid, sayings}
+use Rattle.mk_script.specs.ScriptsOfCommands.{AreCommands, IsReadable}
 use Rattle.mk_script.specs.ScriptLaws.{CommandsAreSteps, FaultsWithoutAlternativesStay}
 use Rattle.mk_script.proofs.on_commands.SayingLemmas.{without-words}
 use Rattle.mk_script.proofs.on_scripts.SaidLemmas.{said-last}

@@ -1,13 +1,12 @@
 -- What lines say, put together as steps.
-use Rattle.std.proofs.Common.{◌≡◌, ℕ, Bool, true, false, List, [], ◌∷◌, ◌++◌, refl, sym, ap, ◌∙◌, subst, inl, inr, map, append_assoc}
+use Rattle.std.proofs.Common.{◌≡◌, ℕ, false, List, [], ◌∷◌, ◌++◌, refl, sym, ap, ◌∙◌, inl, inr, map, append_assoc}
 use Rattle.std.specs.Prelude.{◌⊎◌, Option, Some, None}
 use Rattle.std.proofs.lemmas.List.{append-nil}
 use Rattle.std.proofs.lemmas.Option.{some_pair_parts}
 use Rattle.mk_edit_language.specs.Edits.{Edit}
 use Rattle.mk_history.specs.Machine.{Command, Apply, Undo, Redo, Begin, End, Cancel}
-use Rattle.mk_lines.specs.Lists.{concat}
 use Rattle.mk_script.specs.Lines.{Saying, Plain, Try, Or}
-use Rattle.mk_script.specs.Scripts.{CommandAt, EditAt, Step, Alone, Tried, Chain, SayingAt, or_at, sayings_of, sayings, chain_of}
+use Rattle.mk_script.specs.Scripts.{EditAt, Step, Alone, Tried, Chain, SayingAt, or_at, sayings_of, sayings, chain_of}
 use Rattle.mk_script.specs.ReaderAnswers.{takes_alternative, SayMore}
 
 -- ---- grouping

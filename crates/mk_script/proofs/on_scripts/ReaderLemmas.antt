@@ -4,8 +4,8 @@ use Rattle.std.proofs.Common.{◌≡◌, ℕ, ◌+◌, Bool, true, false, List, 
 use Rattle.std.specs.Prelude.{Option, Some, None, Result, Ok, Err}
 use Rattle.mk_edit_language.specs.Edits.{Edit}
 use Rattle.mk_history.specs.Machine.{Command}
-use Rattle.mk_script.specs.Lines.{script_lines, Saying, Says}
-use Rattle.mk_script.specs.Scripts.{CommandAt, EditAt, Step, Alone, Tried, Chain, sayings, IsScript, HasNoCommand}
+use Rattle.mk_script.specs.Lines.{script_lines, Saying}
+use Rattle.mk_script.specs.Scripts.{EditAt, Step, Alone, Tried, sayings, IsScript, HasNoCommand}
 use Rattle.mk_script.specs.CommandReading.{saying}
 use Rattle.mk_script.specs.ReaderAnswers.{is_skipped, SayMore}
 use Rattle.mk_script.proofs.on_commands.SayingLemmas.{has-saying, saying-written}

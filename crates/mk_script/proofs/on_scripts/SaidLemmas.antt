@@ -1,7 +1,6 @@
 -- Lines that say something, one after the other.
-use Rattle.std.proofs.Common.{◌≡◌, ℕ, ◌+◌, List, [], ◌∷◌, ◌++◌, refl, sym, ap, ◌∙◌, subst, inl, inr, length, arith}
-use Rattle.std.specs.Prelude.{◌⊎◌}
-use Rattle.mk_script.specs.Lines.{IsSkipped, Saying, Says}
+use Rattle.std.proofs.Common.{◌≡◌, ℕ, ◌+◌, List, [], ◌∷◌, ◌++◌, refl, sym, ap, ◌∙◌, inl, inr, length, arith}
+use Rattle.mk_script.specs.Lines.{IsSkipped, Says}
 use Rattle.mk_script.specs.Scripts.{SayingAt, AreSaid}
 use Rattle.mk_script.proofs.on_scripts.LineLemmas.{skipped-says_nothing, one_saying}
 

@@ -4,7 +4,6 @@ use Rattle.std.proofs.lemmas.List.{append-nil}
 use Rattle.mk_script.specs.Lines.{script_lines, IsSkipped, Saying, Says}
 use Rattle.mk_script.specs.Scripts.{Step, SayingAt, AreSaid, sayings, AreSteps, IsScript, IsReached, HasNoCommand}
 use Rattle.mk_script.specs.ReaderAnswers.{SayMore}
-use Rattle.mk_script.proofs.on_scripts.LineLemmas.{one_saying}
 use Rattle.mk_script.proofs.on_scripts.SaidLemmas.{said-skipped, said-more, said-last, said-one}
 
 -- `number` lines of a script are read, the lines `rest` are left, and these are the steps of the lines that are read
