@@ -1,7 +1,7 @@
 -- The steps of a script, which the session machine obeys one after the other: what it makes of a
 -- refusal behind `try`, and in a chain of alternatives.
 -- Told in docs/PROOFS.md, "A run".
-use Rattle.std.specs.Prelude.{◌≡◌, ◌⊎◌, ℕ, Bool, true, false, ◌||◌, if◌then◌else◌, List, [], ◌∷◌, Option, Some, None, Result, Ok, Err}
+use Rattle.std.specs.Prelude.{◌≡◌, ◌⊎◌, ℕ, Bool, true, false, ◌||◌, if◌then◌else◌, List, [], ◌∷◌, Result, Ok, Err}
 use Rattle.mk_edit_language.specs.Edits.{Edit}
 use Rattle.mk_edit_language.specs.declared.refusal.Refusal.{Refusal}
 use Rattle.mk_edit_language.specs.declared.refusal.Refusal.TheVariants as refusal
@@ -9,7 +9,7 @@ use Rattle.mk_history.specs.Machine as machine
 use Rattle.mk_history.specs.Machine.{Command, Apply}
 use Rattle.mk_history.specs.Shown.{Shown}
 use Rattle.mk_session.specs.Sessions.{answer, session_refusal}
-use Rattle.mk_script.specs.Scripts.{CommandAt, EditAt, Step, Alone, Tried, Chain}
+use Rattle.mk_script.specs.Scripts.{EditAt, Step, Alone, Tried, Chain}
 use Rattle.mk_run.specs.ObeyedCommands.{Obeyed, at_rest, after_refusal}
 
 -- ---- idle refusals

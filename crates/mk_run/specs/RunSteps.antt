@@ -11,7 +11,7 @@ use Rattle.mk_history.specs.Shown.{Shown}
 use Rattle.mk_session.specs.Sessions.{Seen, seen_opened, answer, session_refusal}
 use Rattle.mk_session.specs.Calls.{takes_memory}
 use Rattle.mk_script.specs.Scripts.{Step, IsScript, HasNoCommand}
-use Rattle.mk_run.specs.ObeyedSteps.{StepEnd, is_met, Tries, step_end, obeyed_steps}
+use Rattle.mk_run.specs.ObeyedSteps.{StepEnd, is_missing, is_met, Tries, step_end, obeyed_steps}
 use Rattle.mk_run.specs.Runs.{IsTooLong, result_after}
 use Rattle.mk_run.specs.RunEnds.{HasText, Written, IsOut, IsPrefixOut, GoesOn, IsWhole, IsCut, IsLeft, IsLeftRefused, IsLeftShort, IsLeftUnreported, IsLeftCut}
 use Rattle.mk_run.specs.declared.step.RefusedCommand.{RefusedCommand}
@@ -95,6 +95,11 @@ ComesTo end IsTried (Err refused) old new =
 abbrev pub IsObeyed : Step → Result (Unit {0}) RefusedCommand → (old new : Shown (List ℕ)) → Type 0
 IsObeyed step result old new = ComesTo (step_end step old) (λ c. Tries step old c) result old new
 
+-- an answer passes an edit of a chain over
+abbrev pub passes_over : Result (Unit {0}) Refusal → Bool
+passes_over (Ok u) = false
+passes_over (Err r) = is_missing r
+
 -- what an answer that ends a chain comes to: there is no refusal if there is nothing to do
 abbrev pub chain_answer : (line : ℕ) → Result (Unit {0}) Refusal → Result (Unit {0}) RefusedCommand
 chain_answer n (Ok u) = Ok u
@@ -145,5 +150,5 @@ EndsSteps k steps s t failed report out (Refused n) =
 EndsSteps k steps s t failed report out NoMemory = IsLeftShort k steps s t report
 EndsSteps k steps s t failed report out Write =
     IsCut (result_after k (obeyed_steps k steps s)) failed report out
-    × IsLeftCut k failed commands s t
+    × IsLeftCut k failed steps s t
 EndsSteps k steps s t failed report out outcome = ⊥

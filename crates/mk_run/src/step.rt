@@ -1,10 +1,10 @@
 //! One step of a script, obeyed by a session.
 ghost use Rattle.std.specs.Prelude.{◌≡◌, map};
-ghost use Rattle.mk_script.specs.Scripts.{Alone, Tried, chain_of, numbered, numbered_edit, step_of};
-ghost use Rattle.mk_run.specs.ObeyedSteps.{is_met, is_missing};
-ghost use Rattle.mk_run.specs.RunSteps.{IsObeyed, chain_answer};
+ghost use Rattle.mk_script.specs.Scripts.{Alone, Tried, numbered, numbered_edit, step_of};
+ghost use Rattle.mk_run.specs.ObeyedSteps.{ChainTries, chain_end, is_met, is_missing};
+ghost use Rattle.mk_run.specs.RunSteps.{ComesTo, IsObeyed, chain_answer, passes_over};
 
-use mk_script::{Chain, NumberedCommand, NumberedEdit, Step};
+use mk_script::{NumberedCommand, NumberedEdit, Step};
 use mk_session::{Refusal, Session};
 use std::alloc::Allocator;
 
@@ -33,7 +33,7 @@ pub(crate) fn obey_step<A: Allocator + Copy>(
     match step {
         Step::Alone(command) => obey_alone(session, command),
         Step::Try(tried) => obey_try(session, tried),
-        Step::Chain(chain) => obey_chain(session, chain),
+        Step::Chain(chain) => obey_chain(session, &chain.first, &chain.others),
     }
 }
 
@@ -88,19 +88,33 @@ fn obey_try<A: Allocator + Copy>(
 // Obeys a chain: its edits are tried in order, until one is not passed over.
 fn obey_chain<A: Allocator + Copy>(
     session: &mut Session<A>,
-    chain: &Chain<A>,
+    first: &NumberedEdit<A>,
+    others: &[NumberedEdit<A>],
 ) -> Result<(), RefusedCommand>
-    ensures { IsObeyed (chain_of (numbered_edit chain.now.first)
-        (map numbered_edit chain.now.others.items)) result session.old.shown session.new.shown }
+    ensures { ComesTo
+        (chain_end (numbered_edit first.now) (map numbered_edit others.now) session.old.shown)
+        (λ command. ChainTries (numbered_edit first.now) (map numbered_edit others.now)
+        session.old.shown command) result session.old.shown session.new.shown }
 {
-    let mut tried = &chain.first;
-    for other in &chain.others {
-        match session.apply(&tried.edit) {
-            Err(refusal) if is_missing(refusal) => tried = other,
-            answer => return chain_answer(tried.line, answer),
+    let mut tried = first;
+    for other in others {
+        let answer = session.apply(&tried.edit);
+        if !passes_over(answer) {
+            return chain_answer(tried.line, answer);
         }
+        tried = other;
     }
     chain_answer(tried.line, session.apply(&tried.edit))
+}
+
+// Whether an answer passes an edit of a chain over: there is nothing on which it is to be made.
+fn passes_over(answer: Result<(), Refusal>) -> bool
+    ensures { result ≡ passes_over answer }
+{
+    match answer {
+        Ok(()) => false,
+        Err(refusal) => is_missing(refusal),
+    }
 }
 
 // What an answer that ends a chain comes to.

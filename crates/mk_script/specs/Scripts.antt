@@ -99,8 +99,8 @@ abbrev ReachesCommand : (script : List ℕ) → (number : ℕ) → Type 0
 ReachesCommand script number =
     IsReached
     (λ before line.
-        ((saying : Saying) × Says line saying)
-        × ((steps : List Step) × AreSteps (before ++ line ∷ []) steps))
+    ((saying : Saying) × Says line saying)
+    × ((steps : List Step) × AreSteps (before ++ line ∷ []) steps))
     script number
 
 -- ---- what the code gives

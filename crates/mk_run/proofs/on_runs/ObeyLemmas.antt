@@ -1,6 +1,5 @@
 -- The steps of a run, obeyed by a session one after the other.
 use Rattle.std.proofs.Common.{◌≡◌, refl, sym, ap, subst, ◌∙◌, arith, ℕ, suc, zero, ◌+◌, ◌<◌, Bool, true, false, List, [], ◌∷◌, ◌++◌, length, take, drop, map, get_or, Ok, Err, Option}
-use Rattle.std.specs.Prelude.{Result}
 use Rattle.std.specs.Io.KnownBytes.{Appends}
 use Rattle.std.proofs.KnownBytes.{Appends-nil, Appends-trans}
 use Rattle.std.proofs.lemmas.List.{append-nil, length-map, take_more, get_or-map}
@@ -40,6 +39,19 @@ pub mapped-more : {X Y : Type 0} (f : X → Y) (xs : List X) (i : ℕ) (x : X) �
     → take i (map f xs) ++ f x ∷ [] ≡ take (i + 1) (map f xs)
 mapped-more f xs i x below is =
     sym (take_more (map f xs) i (f x) (omega (arith, below, length-map xs f)) ∙ ap (λ y. take i (map f xs) ++ y ∷ []) (mapped-is f xs i x below is))
+
+-- the values from an index on
+pub mapped-drop : {X Y : Type 0} (f : X → Y) (xs : List X) (i : ℕ) (x : X) → i < length xs → x ≡ get_or xs i x → drop i (map f xs) ≡ f x ∷ drop (suc i) (map f xs)
+mapped-drop f [] i x below is = absurd (omega (arith, below))
+mapped-drop f (y ∷ xs) zero x below is = ap (λ z. f z ∷ map f xs) (sym is)
+mapped-drop f (y ∷ xs) (suc i) x below is = mapped-drop f xs i x (omega (arith, below)) is
+
+-- and none behind the last one
+pub mapped-dropped : {X Y : Type 0} (f : X → Y) (xs : List X) (i : ℕ) → (i < length xs → ⊥) → drop i (map f xs) ≡ []
+mapped-dropped f [] zero above = refl
+mapped-dropped f [] (suc i) above = refl
+mapped-dropped f (x ∷ xs) zero above = absurd (above (omega arith))
+mapped-dropped f (x ∷ xs) (suc i) above = mapped-dropped f xs i (λ less. above (omega (arith, less)))
 
 -- ---- one step after the others
 
@@ -154,4 +166,4 @@ module _ (earlier : List Step) (c : Step) (later : List Step) (first x y : Shown
 
 -- no step yet
 pub none-obeyed : (k : Bool) (first last : Shown (List ℕ)) (a : Option (List ℕ)) → last ≡ first → AreObeyed k [] first last 0 (written a a)
-none-obeyed_steps k first last a same = record { goes_on = λ off. refl; number = refl; shown = same; reported = Appends-nil a }
+none-obeyed k first last a same = record { goes_on = λ off. refl; number = refl; shown = same; reported = Appends-nil a }

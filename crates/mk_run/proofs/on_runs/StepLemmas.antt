@@ -1,5 +1,5 @@
 -- One step, obeyed by a session.
-use Rattle.std.proofs.Common.{◌≡◌, refl, sym, ap, subst, ◌∙◌, ℕ, Bool, true, false, cond, List, [], ◌∷◌, inl, inr, Ok, Err}
+use Rattle.std.proofs.Common.{◌≡◌, refl, sym, ap, subst, ◌∙◌, ℕ, Bool, true, false, cond, ◌<◌, List, [], ◌∷◌, length, map, arith, inl, inr, Ok, Err}
 use Rattle.std.specs.Prelude.{Result, ◌||◌}
 use Rattle.mk_edit_language.specs.Edits.{Edit}
 use Rattle.mk_edit_language.specs.declared.refusal.Refusal.{Refusal}
@@ -11,9 +11,9 @@ use Rattle.mk_history.specs.CallSteps.{Granted, Refused, NoMemory, IsStep}
 use Rattle.mk_session.specs.Sessions.{Seen, answer, session_refusal}
 use Rattle.mk_session.specs.Calls.{Reply, IsCall, IsTold, IsAnswered, takes_memory}
 use Rattle.mk_session.proofs.on_sessions.RefusalLemmas.{answer-other}
-use Rattle.mk_script.specs.Scripts.{CommandAt, EditAt, Alone, Tried, Chain, chain_of}
-use Rattle.mk_run.specs.ObeyedSteps.{Answer, StepEnd, is_missing, is_met, unless, alone_end, tried_end, last_end, is_passed, chain_end, step_end, ChainTries, Tries}
-use Rattle.mk_run.specs.RunSteps.{IsStepRefused, IsStepShort, ComesTo, IsObeyed, chain_answer}
+use Rattle.mk_script.specs.Scripts.{CommandAt, EditAt, Alone, Tried, chain_of}
+use Rattle.mk_run.specs.ObeyedSteps.{StepEnd, is_missing, is_met, unless, alone_end, tried_end, last_end, is_passed, chain_end, step_end, ChainTries, Tries}
+use Rattle.mk_run.specs.RunSteps.{ComesTo, IsObeyed, passes_over, chain_answer}
 use Rattle.mk_run.specs.declared.step.RefusedCommand.{RefusedCommand}
 
 -- ---- what a call gave back
@@ -81,9 +81,6 @@ none-comes end c f x y h other ends =
 
 -- ---- a command alone
 
-pub alone-ok : (c : CommandAt) (u : Unit {0}) (x y : Seen) → IsAnswered c.command (Ok u) x y → step_end (Alone c) x.shown ≡ Ok y.shown
-alone-ok c u x y h = ap (λ a. alone_end c.line a) (answered-ok c.command u x y h)
-
 pub alone-err : (c : CommandAt) (f : Refusal) (x y : Seen) → IsAnswered c.command (Err f) x y → IsObeyed (Alone c) (Err (record { line = c.line; refusal = f })) x.shown y.shown
 alone-err c f x y h =
     told-comes (step_end (Alone c) x.shown) (λ d. Tries (Alone c) x.shown d) c.line c.command f x y h refl
@@ -91,19 +88,10 @@ alone-err c f x y h =
 
 -- ---- an edit behind `try`
 
-not_short : (f : Refusal) → (is_missing f || is_met f) ≡ true → f ≡ refusal.NoMemory → ⊥
-not_short f idle none = let no : (is_missing refusal.NoMemory || is_met refusal.NoMemory) ≡ true = subst (λ r. (is_missing r || is_met r) ≡ true) none idle in cc
-
-pub tried-ok : (e : EditAt) (u : Unit {0}) (x y : Seen) → IsAnswered (Apply e.edit) (Ok u) x y → step_end (Tried e) x.shown ≡ Ok y.shown
-tried-ok e u x y h = ap (λ a. tried_end e.line x.shown a) (answered-ok (Apply e.edit) u x y h)
-
 tried-refused : (e : EditAt) (s : Shown (List ℕ)) (f : Refusal) (b : Bool) (q : machine.Refusal Refusal) → (is_missing f || is_met f) ≡ b → answer (Apply e.edit) s ≡ Err q → f ≡ session_refusal q
     → step_end (Tried e) s ≡ unless b e.line s q
 tried-refused e s f b q idle refused told =
     ap (λ a. tried_end e.line s a) refused ∙ ap (λ (c : Bool). unless c e.line s q) (subst (λ r. (is_missing r || is_met r) ≡ b) told idle)
-
-pub tried-idle : (e : EditAt) (f : Refusal) (x y : Seen) → IsAnswered (Apply e.edit) (Err f) x y → (is_missing f || is_met f) ≡ true → step_end (Tried e) x.shown ≡ Ok y.shown
-tried-idle e f x y h idle = none-comes (step_end (Tried e) x.shown) (Apply e.edit) f x y h (not_short f idle) (λ q refused told. tried-refused e x.shown f true q idle refused told)
 
 pub tried-err : (e : EditAt) (f : Refusal) (x y : Seen) → IsAnswered (Apply e.edit) (Err f) x y → (is_missing f || is_met f) ≡ false
     → IsObeyed (Tried e) (Err (record { line = e.line; refusal = f })) x.shown y.shown
@@ -145,32 +133,30 @@ pub passed-none : (first : EditAt) (others : List EditAt) (s : Shown (List ℕ))
 passed-none first others s = record { end_is = refl; tries = λ c t. t }
 
 -- an answer that passes an edit over
-missing-passed : (c : Command Edit) (f : Refusal) (x y : Seen) → IsAnswered c (Err f) x y → is_missing f ≡ true → is_passed (answer c x.shown) ≡ true
-missing-passed c f x y h missing =
-    let r = answered-err c f x y h (λ none. let no : is_missing refusal.NoMemory ≡ true = subst (λ q. is_missing q ≡ true) none missing in cc) in
-    ap (λ a. is_passed a) r.refused ∙ subst (λ q. is_missing q ≡ true) r.told missing
+missing : (c : Command Edit) (r : Result (Unit {0}) Refusal) (x y : Seen) → IsAnswered c r x y → passes_over r ≡ true → (is_passed (answer c x.shown) ≡ true) × (y.shown ≡ x.shown)
+missing c (Ok u) x y h on = absurd (cc)
+missing c (Err f) x y h on =
+    let r = answered-err c f x y h (λ none. let off : is_missing refusal.NoMemory ≡ true = subst (λ q. is_missing q ≡ true) none on in cc) in
+    (ap (λ a. is_passed a) r.refused ∙ subst (λ q. is_missing q ≡ true) r.told on, r.same)
 
-pub missing-same : (c : Command Edit) (f : Refusal) (x y : Seen) → IsAnswered c (Err f) x y → is_missing f ≡ true → y.shown ≡ x.shown
-missing-same c f x y h missing =
-    (answered-err c f x y h (λ none. let no : is_missing refusal.NoMemory ≡ true = subst (λ q. is_missing q ≡ true) none missing in cc)).same
-
-pub passed-next : (first : EditAt) (others : List EditAt) (e o : EditAt) (left : List EditAt) (f : Refusal) (x y : Seen) → IsPassedTo first others x.shown e (o ∷ left)
-    → IsAnswered (Apply e.edit) (Err f) x y → is_missing f ≡ true → IsPassedTo first others x.shown o left
-passed-next first others e o left f x y h answered missing =
-    let passed = missing-passed (Apply e.edit) f x y answered missing in
-    record {
-      end_is = h.end_is ∙ ap (λ (b : Bool). cond b (chain_end o left x.shown) (last_end e.line x.shown (answer (Apply e.edit) x.shown))) passed;
-      tries = λ c t. h.tries c (inr (passed, t));
-    }
+pub passed-next : (first : EditAt) (others : List EditAt) (e o : EditAt) (left : List EditAt) (r : Result (Unit {0}) Refusal) (x y : Seen) → IsPassedTo first others x.shown e (o ∷ left)
+    → IsAnswered (Apply e.edit) r x y → passes_over r ≡ true → IsPassedTo first others y.shown o left × (y.shown ≡ x.shown)
+passed-next first others e o left r x y h answered on =
+    let m = missing (Apply e.edit) r x y answered on in
+    let next : IsPassedTo first others x.shown o left = record {
+      end_is = h.end_is ∙ ap (λ (b : Bool). cond b (chain_end o left x.shown) (last_end e.line x.shown (answer (Apply e.edit) x.shown))) m.0;
+      tries = λ c t. h.tries c (inr (m.0, t));
+    } in
+    (subst (λ (s : Shown (List ℕ)). IsPassedTo first others s o left) (sym m.1) next, m.1)
 
 -- an answer that does not
-stays : (c : Command Edit) (r : Result (Unit {0}) Refusal) (x y : Seen) → IsAnswered c r x y → ((f : Refusal) → r ≡ Err f → is_missing f ≡ false) → is_passed (answer c x.shown) ≡ false
-stays c (Ok u) x y h no = ap (λ a. is_passed a) (answered-ok c u x y h)
-stays c (Err f) x y h no = go h.reply h.told h.call
+stays : (c : Command Edit) (r : Result (Unit {0}) Refusal) (x y : Seen) → IsAnswered c r x y → passes_over r ≡ false → is_passed (answer c x.shown) ≡ false
+stays c (Ok u) x y h off = ap (λ a. is_passed a) (answered-ok c u x y h)
+stays c (Err f) x y h off = go h.reply h.told h.call
   where
     go : (r : Reply) → IsTold (Err f) r → IsCall (c, r) x y → is_passed (answer c x.shown) ≡ false
     go Granted told call = absurd told
-    go (Refused q) told call = ap (λ a. is_passed a) call.step.0 ∙ subst (λ g. is_missing g ≡ false) told (no f refl)
+    go (Refused q) told call = ap (λ a. is_passed a) call.step.0 ∙ subst (λ g. is_missing g ≡ false) told off
     go NoMemory told call = ap (λ a. is_passed a) (call.granted_else refl).1
 
 comes-to : (end other : StepEnd) (IsTried IsOther : Command Edit → Type 0) (r : Result (Unit {0}) RefusedCommand) (s t : Shown (List ℕ)) → other ≡ end → ((c : Command Edit) → IsTried c → IsOther c)
@@ -183,10 +169,10 @@ comes-to end other IsTried IsOther (Err f) s t is tries h = (
 
 -- the answer of an edit that is not passed over ends the chain
 pub chain-ends : (first : EditAt) (others : List EditAt) (e o : EditAt) (left : List EditAt) (r : Result (Unit {0}) Refusal) (x y : Seen) → IsPassedTo first others x.shown e (o ∷ left)
-    → IsAnswered (Apply e.edit) r x y → ((f : Refusal) → r ≡ Err f → is_missing f ≡ false)
+    → IsAnswered (Apply e.edit) r x y → passes_over r ≡ false
     → ComesTo (chain_end first others x.shown) (λ c. ChainTries first others x.shown c) (chain_answer e.line r) x.shown y.shown
-chain-ends first others e o left r x y h answered no =
-    let stopped = stays (Apply e.edit) r x y answered no in
+chain-ends first others e o left r x y h answered off =
+    let stopped = stays (Apply e.edit) r x y answered off in
     comes-to (last_end e.line x.shown (answer (Apply e.edit) x.shown)) (chain_end first others x.shown) (λ c. ChainTries e (o ∷ left) x.shown c) (λ c. ChainTries first others x.shown c)
     (chain_answer e.line r) x.shown y.shown
     (h.end_is ∙ ap (λ (b : Bool). cond b (chain_end o left x.shown) (last_end e.line x.shown (answer (Apply e.edit) x.shown))) stopped) h.tries
@@ -206,3 +192,17 @@ pub chain-obeyed : (first : EditAt) (others : List EditAt) (r : Result (Unit {0}
     → ComesTo (chain_end first others s) (λ c. ChainTries first others s c) r s t → IsObeyed (chain_of first others) r s t
 chain-obeyed first [] r s t some h = absurd (some refl)
 chain-obeyed first (o ∷ others) r s t some h = h
+
+-- the same, from what was shown before the chain
+pub from-first : (first : EditAt) (others : List EditAt) (r : Result (Unit {0}) RefusedCommand) (s t u : Shown (List ℕ)) → s ≡ t
+    → ComesTo (chain_end first others s) (λ c. ChainTries first others s c) r s u → ComesTo (chain_end first others t) (λ c. ChainTries first others t c) r t u
+from-first first others r s t u same h = subst (λ (x : Shown (List ℕ)). ComesTo (chain_end first others x) (λ c. ChainTries first others x c) r x u) same h
+
+-- neither of two
+pub neither : (a b : Bool) → a ≡ false → b ≡ false → (a || b) ≡ false
+neither a b h k = rw (h, k) refl
+
+-- a list that is not empty has values
+pub some-mapped : {X Y : Type 0} (f : X → Y) (xs : List X) → 0 < length xs → map f xs ≡ [] → ⊥
+some-mapped f [] some none = absurd (omega (arith, some))
+some-mapped f (x ∷ xs) some none = absurd (cc)

@@ -50,11 +50,11 @@ means-so_far script n (line ∷ rest) steps h = by_line (is_skipped line) refl (
     by_steps e x f None g on =
         unread script n line rest steps h (λ s. let t = is-skipped line s in cc)
         (λ y says others more.
-            let some = has-saying line y says in
-            let same : y ≡ x = cc in
-            let all : sayings others ≡ sayings steps ++ record { line = n + 1; saying = x } ∷ [] = subst (λ z. SayMore steps (record { line = n + 1; saying = z }) others) same more in
-            let found = ap (λ s. steps_said s) (sym all) ∙ steps-said others in
-            cc)
+        let some = has-saying line y says in
+        let same : y ≡ x = cc in
+        let all : sayings others ≡ sayings steps ++ record { line = n + 1; saying = x } ∷ [] = subst (λ z. SayMore steps (record { line = n + 1; saying = z }) others) same more in
+        let found = ap (λ s. steps_said s) (sym all) ∙ steps-said others in
+        cc)
     by_steps e x f (Some others) g on =
         on others (said-read script n line rest steps others x h (saying-written line x f) (said-steps (sayings steps ++ record { line = n + 1; saying = x } ∷ []) others g))
 

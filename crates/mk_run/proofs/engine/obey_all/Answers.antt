@@ -52,7 +52,7 @@ returns-in-Err-report_refusal-clause-stops g c =
     let i = c.loop-step.step-index in
     let x = c.step-item.result in
     let failed = c.in-Err-report_refusal.ensures.fault in
-    let refused = c.in-Err.ensures.0 c.in_default-told.not-NoMemory in
+    let refused = c.in-Err.ensures.0 c.in_default-refusal.not-NoMemory in
     subst (λ (o : Outcome). StopsSteps c.args.keep_going (map step_of xs) c.args.session.now.shown c.obey_step.new.session.shown (g.P.ByteSink.failed c.report_refusal.new.out) (written (g.P.ByteSink.contents c.args.report.now) (g.P.ByteSink.contents c.report_refusal.new.out)) o)
     (sym (c.from.ensures ∙ ap outcome_of failed.0)) (
       failed.1,
@@ -78,7 +78,7 @@ returns-then-not-keep_going-clause-stops g c =
           (mapped-at step_of xs i x c.loop-step-test.true c.step-item.is)
           (refused-last (take i (map step_of xs)) (step_of x) (drop (suc i) (map step_of xs)) c.args.session.now.shown c.loop-step.session.shown c.obey_step.new.session.shown c.loop-step.refused
           (g.P.ByteSink.contents c.args.report.now) (g.P.ByteSink.contents c.loop-step.report) (g.P.ByteSink.contents c.report_refusal.new.out) c.in-Err.told
-          (c.in-Err.ensures.0 c.in_default-told.not-NoMemory)
+          (c.in-Err.ensures.0 c.in_default-refusal.not-NoMemory)
           c.args.keep_going c.loop-step.invariant.obeyed c.in-Ok.ensures.whole c.if-not-keep_going.true),
     )
 
@@ -95,6 +95,6 @@ loop-step-preserved g c =
           (mapped-more step_of xs i x c.loop-step-test.true c.step-item.is)
           (refused-next (take i (map step_of xs)) (step_of x) [] c.args.session.now.shown c.loop-step.session.shown c.obey_step.new.session.shown c.loop-step.refused
           (g.P.ByteSink.contents c.args.report.now) (g.P.ByteSink.contents c.loop-step.report) (g.P.ByteSink.contents c.report_refusal.new.out) c.in-Err.told
-          (c.in-Err.ensures.0 c.in_default-told.not-NoMemory)
+          (c.in-Err.ensures.0 c.in_default-refusal.not-NoMemory)
           c.args.keep_going c.loop-step.invariant.obeyed c.in-Ok.ensures.whole c.if-not-keep_going.false);
     }
