@@ -204,7 +204,7 @@ last-none (Alone c) n e h = go c.command h
 last-none (Tried d) n e h = refl
 last-none (Chain first second others) n e h = absurd (cc)
 
-pub sayings-append : (steps others : List Step) → sayings (steps ++ others) ≡ sayings steps ++ sayings others
+sayings-append : (steps others : List Step) → sayings (steps ++ others) ≡ sayings steps ++ sayings others
 sayings-append [] others = refl
 sayings-append (step ∷ steps) others = ap (λ s. sayings_of step ++ s) (sayings-append steps others) ∙ sym (append_assoc (sayings_of step) (sayings steps) (sayings others))
 

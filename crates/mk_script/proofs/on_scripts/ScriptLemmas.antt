@@ -54,7 +54,7 @@ all-read script n rest steps h none =
 
 -- ---- the line that is reached
 
-pub reached : (P : (before : List (List ℕ)) → (line : List ℕ) → Type 0) (script : List ℕ) (n : ℕ) (line : List ℕ) (rest : List (List ℕ)) (steps : List Step)
+reached : (P : (before : List (List ℕ)) → (line : List ℕ) → Type 0) (script : List ℕ) (n : ℕ) (line : List ℕ) (rest : List (List ℕ)) (steps : List Step)
     → (h : IsReadSoFar script n (line ∷ rest) steps) → P h.before line → IsReached P script (n + 1)
 reached P script n line rest steps h p =
     record { before = h.before; line = line; after = rest; lines = h.lines; number_is = ap (λ k. k + 1) h.number_is; steps = steps; are = h.are; property = p }

@@ -1,4 +1,4 @@
-use Rattle.std.proofs.Common.{◌≡◌, ◌∙◌, sym, Bool, true, false, Err}
+use Rattle.std.proofs.Common.{◌≡◌, ◌∙◌, sym, false, Err}
 use Rattle.std.specs.Prelude.{◌||◌}
 use Rattle.mk_edit_language.specs.EditViews.{edit_of}
 use Rattle.mk_session.proofs.on_sessions.AnswerLemmas.{edit-answered}
