@@ -1,4 +1,4 @@
-use Rattle.std.proofs.Common.{◌≡◌, ◌∷◌, ◌+◌, ◌∙◌, [], refl, sym, subst, suc, drop, map, List, ℕ, arith}
+use Rattle.std.proofs.Common.{◌≡◌, ◌+◌, ◌∙◌, refl, sym, subst, suc, drop, map, List, ℕ, arith}
 use Rattle.std.specs.Prelude.{Result}
 use Rattle.mk_edit_language.specs.EditViews.{edit_of}
 use Rattle.mk_session.proofs.on_sessions.AnswerLemmas.{edit-answered}
