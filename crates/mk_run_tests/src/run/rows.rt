@@ -131,10 +131,10 @@ pub static CASES: [Case; 47] = [
     Case::KeptGoing(
         100,
         b"c: x\n",
-        b"try depend c x\nundepend c y\nset A 1\nor undepend c x\ntry rename c c\nundo\nundo\n",
+        b"try depend c x\nundepend c y\nset A 1\nor undepend c x\ntry depend c \"a b\"\nundo\nundo\n",
         3,
         b"c: x\n",
-        b"2: refused 6 Absent\n5: refused 8 Taken\n7: refused 16 NothingToUndo\n",
+        b"2: refused 6 Absent\n5: refused 1 BadArgument word\n7: refused 16 NothingToUndo\n",
     ),
     Case::Done(b"CC = gcc # c\n", b"set CC clang", b"CC = clang # c\n"),
     Case::Done(
