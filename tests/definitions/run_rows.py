@@ -17,50 +17,40 @@ A table (row_tables.py) has the columns name, makefile, script, flags, stdout, s
 import re
 import sys
 
-from edit_rows import SEPARATORS, antt_edit, commands_of
-from reading_rows import FLAVORS, antt_list, antt_text
+from reading_rows import FLAVORS, antt_text
 from row_tables import head_of, rows_of_table, unescape
+from script_rows import CALLS, SEPARATORS, antt_list, antt_step, is_edit, meaning_of
 
 # How many edits a run lets undo where the row does not say it.
 DEPTH = 100
-CALLS = {b"undo": "Undo", b"redo": "Redo", b"begin": "Begin", b"end": "End", b"cancel": "Cancel"}
 IMPORTS = [
     ("Rattle.std.proofs.Common", ["◌≡◌", "refl", "ℕ", "Bool", "true", "false", "List", "[]", "◌∷◌", "Option", "Some", "None"]),
     ("Rattle.std.specs.Prelude", ["codes"]),
     ("Rattle.std.specs.Fmt", ["digits"]),
     ("Rattle.mk_class.specs.declared.assignment.Flavor.TheVariants", list(FLAVORS.values())),
     ("Rattle.mk_edit_language.specs.declared.edit.RuleSeparator.TheVariants", list(SEPARATORS.values())),
-    ("Rattle.mk_edit_language.specs.Edits", ["Edit", "Bottom", "BeforeVar", "AfterVar", "BeforeRule"]),
+    ("Rattle.mk_edit_language.specs.Edits", ["Bottom", "BeforeVar", "AfterVar", "BeforeRule"]),
     (
         "Rattle.mk_edit_language.specs.Edits",
         ["SetValue", "AppendValue", "AddWord", "AddAssign", "RemoveAssign", "AddRule", "RemoveRule", "AddPrereq", "RemovePrereq"]
         + ["AddRecipe", "SetRecipe", "RemoveRecipe", "InsertRecipe", "RenameTarget"],
     ),
-    ("Rattle.mk_history.specs.Machine", ["Command", "Apply", *CALLS.values()]),
+    ("Rattle.mk_history.specs.Machine", ["Apply", *CALLS.values()]),
     ("Rattle.mk_history.specs.Shown", ["shown_opened"]),
-    ("Rattle.mk_script.specs.Scripts", ["CommandAt"]),
-    ("Rattle.mk_run.specs.ObeyedCommands", ["obeyed"]),
+    ("Rattle.mk_script.specs.Scripts", ["Step", "Chain"]),
+    ("Rattle.mk_script.proofs.on_scripts.ReaderLemmas", ["on_line", "edit_on", "tried_on"]),
+    ("Rattle.mk_run.specs.ObeyedSteps", ["obeyed_steps"]),
     ("Rattle.mk_run.specs.Runs", ["RunResult", "result_after"]),
     ("Rattle.mk_run.specs.declared.outcome.Outcome", ["Outcome"]),
     ("Rattle.mk_run.specs.declared.outcome.Outcome.TheVariants", ["Done", "Refused"]),
 ]
 HELPERS = """
--- the command in the line of this number
-abbrev at : ℕ → Command Edit → CommandAt
-at n c = record { line = n; command = c }
-
-abbrev came_to : (keep_going : Bool) → (depth : ℕ) → (makefile : List ℕ) → List CommandAt → RunResult
-came_to k depth text commands = result_after k (obeyed k commands (shown_opened depth text))
+abbrev came_to : (keep_going : Bool) → (depth : ℕ) → (makefile : List ℕ) → List Step → RunResult
+came_to k depth text steps = result_after k (obeyed_steps k steps (shown_opened depth text))
 
 abbrev ends : Outcome → (report : List ℕ) → (output : Option (List ℕ)) → RunResult
 ends outcome report output = record { outcome = outcome; report = report; output = output }
 """
-
-
-def antt_command(fields):
-    """A command as a term."""
-    edit = antt_edit(fields)
-    return CALLS[fields[0]] if edit is None else f"(Apply {edit})"
 
 
 def equation_of(row):
@@ -69,12 +59,12 @@ def equation_of(row):
     depth = int(flags[flags.index("-d") + 1]) if "-d" in flags else DEPTH
     goes_on = "-k" in flags
     bytes_of = lambda column: unescape(row[column]).encode("latin-1")
-    commands = antt_list([f"at {number} {antt_command(fields)}" for number, fields in commands_of(bytes_of("script"))])
+    steps = antt_list([antt_step(step) for step in meaning_of(bytes_of("script"))])
     refused = bytes_of("stderr").count(b"\n")
     outcome = f"(Refused {refused})" if refused else "Done"
     output = f"(Some {antt_text(bytes_of('stdout'))})" if goes_on or not refused else "None"
     keep_going = "true" if goes_on else "false"
-    run = f"came_to {keep_going} {depth} {antt_text(bytes_of('makefile'))} {commands}"
+    run = f"came_to {keep_going} {depth} {antt_text(bytes_of('makefile'))} {steps}"
     return f"{run} ≡ ends {outcome} {antt_text(bytes_of('stderr'))} {output}"
 
 
@@ -84,8 +74,8 @@ def chosen(rows):
     for row in rows:
         if row["status"] not in ("0", "1"):
             continue
-        commands = commands_of(unescape(row["script"]).encode("latin-1"))
-        if len(commands) == 1 and commands[0][1][0] not in CALLS:
+        steps = meaning_of(unescape(row["script"]).encode("latin-1"))
+        if len(steps) == 1 and is_edit(steps[0]):
             refusal = re.sub(r"^\d+: ", "", row["stderr"])
             if refusal in seen:
                 continue

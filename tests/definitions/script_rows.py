@@ -12,8 +12,9 @@ has to agree with it.
 tests/gate/rows.py says which files the crate keeps.
 
 A table (row_tables.py) has the columns name and script, and perhaps more; of scripts that are alike the
-first is taken. A meaning is the number of the first line that is no command, or a Python list of
-commands: each the number of its line, the name of the edit or call, and its arguments.
+first is taken. A meaning is the number of the first line that is no command, or a Python list of steps.
+A step is a command: the number of its line, the name of the edit or call, and its arguments; or
+('try', command) for a command behind `try`; or the list of the commands of a chain of alternatives.
 """
 
 import ast
@@ -141,17 +142,43 @@ def command_of(fields):
     return edit_of(nth, word, rest)
 
 
+def edit_command_of(fields):
+    """The command of some fields that is that of an edit."""
+    if len(fields) < 2:
+        raise NoCommand
+    return command_of(fields)
+
+
+def is_edit(step):
+    """Whether a step is an edit's command alone."""
+    return isinstance(step, tuple) and step[0] != "try" and step[1] not in CALLS.values()
+
+
+def add_step(steps, number, fields):
+    """Adds to the steps what the fields of a line say."""
+    if fields[0] == b"try":
+        steps.append(("try", (number, *edit_command_of(fields[1:]))))
+    elif fields[0] != b"or":
+        steps.append((number, *command_of(fields)))
+    elif steps and (is_edit(steps[-1]) or isinstance(steps[-1], list)):
+        other = (number, *edit_command_of(fields[1:]))
+        last = steps[-1]
+        steps[-1] = [*last, other] if isinstance(last, list) else [last, other]
+    else:
+        raise NoCommand
+
+
 def meaning_of(script):
-    """The commands of a script with the numbers of their lines, or the first line that is none."""
-    commands = []
+    """The steps of a script with the numbers of their lines, or the first line that is no command."""
+    steps = []
     for number, line in lines_of(script):
         if line.startswith(b"#") or not line.strip(b" \t"):
             continue
         try:
-            commands.append((number, *command_of(fields_of(line))))
+            add_step(steps, number, fields_of(line))
         except NoCommand:
             return number
-    return commands
+    return steps
 
 
 def stated(meaning):
@@ -164,7 +191,15 @@ def stated(meaning):
             return (part[0], *[texts(it) for it in part[1:]])
         return part.encode("latin-1") if isinstance(part, str) else part
 
-    return [(number, name, *[texts(it) for it in arguments]) for number, name, *arguments in meaning]
+    def step(part):
+        if isinstance(part, list):
+            return [step(it) for it in part]
+        if part[0] == "try":
+            return ("try", step(part[1]))
+        number, name, *arguments = part
+        return (number, name, *[texts(it) for it in arguments])
+
+    return [step(part) for part in meaning]
 
 
 # ---- equations
@@ -203,12 +238,32 @@ def antt_command(name, *arguments):
     return f"(Apply ({name} {' '.join(terms)}))"
 
 
+def antt_edit_on(number, name, *arguments):
+    """An edit in its line as the arguments of a term."""
+    return f"{number} {antt_command(name, *arguments).removeprefix('(Apply ').removesuffix(')')}"
+
+
+def antt_list(terms):
+    """A list of terms as a term."""
+    return "(" + " ∷ ".join([*terms, "[]"]) + ")" if terms else "[]"
+
+
+def antt_step(step):
+    """A step as a term."""
+    if isinstance(step, list):
+        first, second, *others = [f"(edit_on {antt_edit_on(*command)})" for command in step]
+        return f"Chain {first} {second} {antt_list(others)}"
+    if step[0] == "try":
+        return f"tried_on {antt_edit_on(*step[1])}"
+    number, *command = step
+    return f"on_line {number} {antt_command(*command)}"
+
+
 def antt_meaning(meaning):
     """A meaning as a term."""
     if isinstance(meaning, int):
         return f"Err {meaning}"
-    terms = [f"on_line {number} {antt_command(*command)}" for number, *command in meaning]
-    return "Ok " + ("(" + " ∷ ".join(terms + ["[]"]) + ")" if terms else "[]")
+    return "Ok " + antt_list([antt_step(step) for step in meaning])
 
 
 # The modules that a file may need, and their names; it imports those that it has.
@@ -225,7 +280,8 @@ IMPORTS = [
         + ["AddRecipe", "SetRecipe", "RemoveRecipe", "InsertRecipe", "RenameTarget"],
     ),
     ("Rattle.mk_history.specs.Machine", ["Apply", *CALLS.values()]),
-    ("Rattle.mk_script.proofs.on_scripts.ReaderLemmas", ["on_line", "read_script"]),
+    ("Rattle.mk_script.specs.Scripts", ["Chain"]),
+    ("Rattle.mk_script.proofs.on_scripts.ReaderLemmas", ["on_line", "edit_on", "tried_on", "read_script"]),
 ]
 
 

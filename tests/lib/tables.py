@@ -24,6 +24,7 @@ TABLES = (
     "runs",
     "corner-runs",
     "random-runs",
+    "alternatives",
     "edits/corners",
     "edits/random",
     "edits/random-recipes",

@@ -7,14 +7,21 @@ in a folder of its own. Each refusal that a task names has to be one of docs/EDI
 
 import re
 
+from tests.lib.checks import differences
 from tests.lib.documents import DOCS, told_refusals
-from tests.lib.rooms import Room, RoomCase
+from tests.lib.rooms import Room, RoomCase, silent
 from tests.lib.transcripts import Shell
 
 TASK = re.compile(r"^## (.*)\n((?:(?!## ).*\n)*)", re.M)
 BLOCK = re.compile(r"^```(.*)\n((?:(?!```).*\n)*)```\n", re.M)
 REFUSAL = re.compile(r"`(\d+) (\w+)[^`]*`")
-TASKS = 17
+TASKS = 19
+# The tasks whose script changes nothing when it is run over its own result.
+TWICE = (
+    "Set or add",
+    "A script that can be run twice",
+    "A rule that is put in, or whose recipe is emptied",
+)
 
 
 def write_file(room, name, text):
@@ -42,6 +49,25 @@ def check_task(program, text):
             yield "no session"
 
 
+def check_twice(program, text):
+    """What is wrong with the script of a task that is run twice over each of its makefiles."""
+    with Room(program) as room:
+        blocks = [(*head.split(" "), content) for head, content in BLOCK.findall(text) if " " in head]
+        for _, name, content in blocks:
+            write_file(room, name, content)
+        (script,) = [name for kind, name, _ in blocks if kind == "mkedit"]
+        for makefile in [name for kind, name, _ in blocks if kind == "make"]:
+            path = room.folder / makefile
+            texts = [path.read_bytes()]
+            for _ in range(2):
+                yield from differences(room.run("edit", "-i", script, makefile), silent(0))
+                texts.append(path.read_bytes())
+            if texts[1] == texts[0]:
+                yield f"{script} does not change {makefile}"
+            if texts[2] != texts[1]:
+                yield f"{script} changes {makefile} a second time"
+
+
 def unknown_refusals(text):
     """The refusals that are named with another number than in docs/EDITS.md."""
     named = REFUSAL.findall(text)
@@ -49,6 +75,12 @@ def unknown_refusals(text):
 
 
 class Cookbook(RoomCase):
+    def test_scripts_that_can_be_run_twice(self):
+        tasks = dict(TASK.findall((DOCS / "COOKBOOK.md").read_text(encoding="utf-8")))
+        for title in TWICE:
+            with self.subTest(f"docs/COOKBOOK.md: {title}, twice"):
+                self.assert_well(check_twice(self.program, tasks[title]))
+
     def test_each_task_is_done_as_it_stands_there(self):
         tasks = TASK.findall((DOCS / "COOKBOOK.md").read_text(encoding="utf-8"))
         for title, text in tasks:

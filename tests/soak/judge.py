@@ -20,6 +20,12 @@ CALLS = {
 }
 
 
+# The refusals that say that a text is as it is: there is nothing on which the edit is to be made, or
+# nothing that it is to do.
+MISSING = 4
+MET = (6, 7)
+
+
 class Reply(NamedTuple):
     """How a command was answered: its name, the texts before and after it, the plan or the refusal."""
 
@@ -31,7 +37,7 @@ class Reply(NamedTuple):
 
 
 class Verdict(NamedTuple):
-    """The outcome that a run has to have, and the replies to its commands."""
+    """The outcome that a run has to have, and the replies to the commands that it tries."""
 
     outcome: Outcome
     replies: list
@@ -51,10 +57,29 @@ def obey(session, name, *arguments, limit=LIMIT):
     return Reply(name, before, session.text, plan, refusal)
 
 
+def obey_step(session, step, limit=LIMIT):
+    """Obeys a step. Hands out the replies to the commands that it tries, and what is reported, if anything."""
+    if isinstance(step, list):
+        commands, silent = step, MET
+    elif step[0] == "try":
+        commands, silent = [step[1]], (MISSING, *MET)
+    else:
+        commands, silent = [step], ()
+    replies = []
+    for line, name, *arguments in commands:
+        replies.append(obey(session, name, *arguments, limit=limit))
+        refusal = replies[-1].refusal
+        if refusal is None or refusal.number != MISSING:
+            break
+    if refusal is None or refusal.number in silent:
+        return replies, ""
+    return replies, f"{line}: refused {refusal}\n"
+
+
 def meaning_of_line(line):
     """The name and the arguments of the command on a script's line, or None where it has none."""
-    commands = script_rows.meaning_of(line)
-    return commands[0][1:] if commands and not isinstance(commands, int) else None
+    steps = script_rows.meaning_of(line)
+    return steps[0][1:] if steps and not isinstance(steps, int) else None
 
 
 def is_too_deep(text):
@@ -66,22 +91,21 @@ def is_too_deep(text):
 
 def judged(text, script, depth, goes_on, limit=LIMIT):
     """The verdict on a run of a script that is not too long."""
-    commands = script_rows.meaning_of(script)
-    if isinstance(commands, int):
-        message = b"mkedit: script line %d is not a command\n" % commands
+    steps = script_rows.meaning_of(script)
+    if isinstance(steps, int):
+        message = b"mkedit: script line %d is not a command\n" % steps
         return Verdict(Outcome(b"", message, 2), [])
     if len(text) > limit:
         return Verdict(TOO_LONG, [])
     if is_too_deep(text):
         return Verdict(TOO_DEEP, [])
     session, report, replies = Session(text, depth), "", []
-    for line, name, *arguments in commands:
-        replies.append(obey(session, name, *arguments, limit=limit))
-        refusal = replies[-1].refusal
-        if refusal:
-            report += f"{line}: refused {refusal}\n"
-            if not goes_on:
-                return Verdict(Outcome(b"", report.encode(), 1), replies)
+    for step in steps:
+        of_step, told = obey_step(session, step, limit)
+        replies += of_step
+        report += told
+        if told and not goes_on:
+            return Verdict(Outcome(b"", report.encode(), 1), replies)
     return Verdict(Outcome(session.text, report.encode(), 1 if report else 0), replies)
 
 

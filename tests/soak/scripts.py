@@ -9,8 +9,8 @@ from tests.lib.reading import PREFIX_NAME, texts, units
 
 from . import document
 from .drawing import Drawing
-from .edits import is_value_word
-from .judge import meaning_of_line, obey
+from .edits import EDITS, is_value_word
+from .judge import MISSING, meaning_of_line, obey
 from .session import Session
 from .vocabulary import (
     BAD_FIELDS,
@@ -48,8 +48,11 @@ class Scripts(Drawing):
         self.session = Session(text, depth)
         self.document = document.read(text)
         self.end = b"\r\n" if self.chance(0.1) else b"\n"
-        # in some scripts undo, redo and groups are what matters
+        # in some scripts undo, redo and groups are what matters, in some alternatives
         self.is_of_calls = self.chance(0.25)
+        self.is_of_alternatives = self.chance(0.25)
+        # whether `or` may stand in the next line, and whether its command is tried
+        self.takes_alternative = self.is_tried = False
 
     def count(self):
         """How many commands the script has."""
@@ -62,14 +65,32 @@ class Scripts(Drawing):
     def script(self):
         script = b""
         for _ in range(self.count()):
-            line = self.line(self.command())
-            command = meaning_of_line(line)
-            if command:
-                obey(self.session, *command)
-            script += line + self.end + self.filler()
+            script += self.obeyed(self.line(self.command())) + self.end + self.filler()
         if self.chance(0.015):
             script += self.one(NO_COMMANDS) + self.end
         return script[: -len(self.end)] if self.chance(0.2) else script
+
+    def obeyed(self, line):
+        """The line of a command, now and then with `try` or `or` before it, once it is obeyed as it stands there."""
+        command = meaning_of_line(line)
+        word = self.word_before(command)
+        if word:
+            line = self.field(word) + self.one([b" ", b" ", b"\t"]) + line
+        refusal = None
+        if command and (word != b"or" or self.is_tried):
+            refusal = obey(self.session, *command).refusal
+        passed = refusal is not None and refusal.number == MISSING
+        self.is_tried = passed and (word != b"or" or self.is_tried)
+        self.takes_alternative = bool(command) and command[0] in EDITS and word != b"try"
+        return line
+
+    def word_before(self, command):
+        """The word `try` or `or` before an edit's command, or none."""
+        if not command or command[0] not in EDITS:
+            return b""
+        if self.takes_alternative and self.chance(0.5 if self.is_of_alternatives else 0.06):
+            return b"or"
+        return b"try" if self.chance(0.2 if self.is_of_alternatives else 0.04) else b""
 
     def filler(self):
         """A line without a command, now and then."""

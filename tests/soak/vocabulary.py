@@ -60,4 +60,6 @@ NO_COMMANDS = [
     *(b" # c", b"recipe-del a -1", b"nth 4294967296 unset X", b"assign X = 1", b"undo 1", b"\r"),
     *(b"rule bottom a &: b", b"nth 00000000001 unset X", b'set X "\\a"', b"assign bottom X == 1"),
     *(b"nth 1 rename a b", b"nth", b"recipe-set a +1 x", b"unset X Y", b"\xc2\xa0", b'"" X'),
+    *(b"try undo", b"or cancel", b"try", b"or", b"try try unset X", b"or or unset X", b"nth 1 try unset X"),
+    *(b"undo\nor unset X", b"try unset X\nor unset X", b"# c\nor nth 1 end"),
 ]

@@ -2,3 +2,4 @@
 pub mod on_runs
 -- Definitions computed
 mod RunRows
+mod AlternativeRows

@@ -1,4 +1,5 @@
 pub mod CommandLemmas
+pub mod StepLemmas
 pub mod ObeyLemmas
 pub mod EndLemmas
 pub mod ReadLemmas

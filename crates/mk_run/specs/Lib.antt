@@ -4,6 +4,7 @@ pub mod Report
 pub mod Outcome
 -- Runs
 pub mod ObeyedCommands
+pub mod ObeyedSteps
 pub mod Runs
 pub mod RunEnds
 -- Laws

@@ -1,4 +1,5 @@
--- The commands of a script, which the session machine obeys one after the other.
+-- What commands of a script come to, and commands without alternatives, which the session machine
+-- obeys one after the other.
 -- Told in docs/PROOFS.md, "A run".
 use Rattle.std.specs.Prelude.{ℕ, ◌+◌, Bool, true, false, List, [], ◌∷◌, ◌++◌, Result, Ok, Err}
 use Rattle.mk_edit_language.specs.declared.refusal.Refusal.{Refusal}
@@ -18,12 +19,12 @@ pub record Obeyed : Type 0 where
 abbrev pub at_rest : Shown (List ℕ) → Obeyed
 at_rest s = record { report = []; refused = 0; shown = s }
 
--- what commands come to whose first was refused: one refusal more than the others, and its line in
--- front of theirs
-abbrev pub after_refusal : CommandAt → machine.Refusal Refusal → Obeyed → Obeyed
-after_refusal c q others =
+-- what commands come to whose first was refused, in the line of this number: one refusal more than the
+-- others, and its line in front of theirs
+abbrev pub after_refusal : (line : ℕ) → machine.Refusal Refusal → Obeyed → Obeyed
+after_refusal n q others =
     record others {
-      report = report_line c.line (session_refusal q) ++ others.report;
+      report = report_line n (session_refusal q) ++ others.report;
       refused = others.refused + 1;
     }
 
@@ -34,8 +35,8 @@ abbrev pub obeyed_next : (keep_going : Bool) → CommandAt → (before : Shown (
     → (others : Shown (List ℕ) → Obeyed)
     → Result (Shown (List ℕ)) (machine.Refusal Refusal) → Obeyed
 obeyed_next k c s others (Ok new) = others new
-obeyed_next true c s others (Err q) = after_refusal c q (others s)
-obeyed_next false c s others (Err q) = after_refusal c q (at_rest s)
+obeyed_next true c s others (Err q) = after_refusal c.line q (others s)
+obeyed_next false c s others (Err q) = after_refusal c.line q (at_rest s)
 
 -- what commands come to, from what is shown before them
 abbrev pub obeyed : (keep_going : Bool) → List CommandAt → Shown (List ℕ) → Obeyed

@@ -7,12 +7,14 @@ use Rattle.mk_lines.specs.Device.{AppendsPrefix, TakesAtMost, count_if}
 use Rattle.mk_lines.specs.declared.fault.Fault.{Fault}
 use Rattle.mk_lines.specs.declared.fault.Fault.TheVariants as fault
 use Rattle.mk_edit_language.specs.declared.refusal.Refusal.{Refusal}
+use Rattle.mk_edit_language.specs.Edits.{Edit}
 use Rattle.mk_history.specs.Machine as machine
+use Rattle.mk_history.specs.Machine.{Command}
 use Rattle.mk_history.specs.Shown.{Shown, shown_opened}
 use Rattle.mk_session.specs.Sessions.{IsBadDepth, Seen, answer}
 use Rattle.mk_session.specs.Calls.{takes_memory}
-use Rattle.mk_script.specs.Scripts.{CommandAt, IsScript}
-use Rattle.mk_run.specs.ObeyedCommands.{obeyed}
+use Rattle.mk_script.specs.Scripts.{Step, IsScript}
+use Rattle.mk_run.specs.ObeyedSteps.{Tries, step_end, obeyed_steps}
 use Rattle.mk_run.specs.Runs.{RunResult, IsRun, ended, result_after}
 use Rattle.mk_run.specs.declared.outcome.Outcome.{Outcome}
 use Rattle.mk_run.specs.declared.outcome.Outcome.TheVariants.{Done, Refused, BadDepth, NoMemory, Read, Write}
@@ -47,29 +49,31 @@ IsPrefixOut w text = AppendsPrefix w.before w.after text
 abbrev pub GoesOn : (keep_going : Bool) → (refused : ℕ) → Type 0
 GoesOn k n = k ≡ false → n ≡ 0
 
--- One of the commands found no memory. The commands before it were obeyed, and this is their
--- report. The command takes memory, and the machine does not refuse it.
-pub record IsShort (keep_going : Bool) (commands : List CommandAt) (first : Shown (List ℕ))
+-- A command of one of the steps found no memory. The steps before it were obeyed, and this is their
+-- report. The step tries the command, which takes memory, and the machine does not refuse it.
+pub record IsShort (keep_going : Bool) (steps : List Step) (first : Shown (List ℕ))
     (report : List ℕ) : Type 0 where
-  pub earlier : List CommandAt
-  pub command : CommandAt
-  pub later : List CommandAt
+  pub earlier : List Step
+  pub step : Step
+  pub later : List Step
+  pub command : Command Edit
   pub new : Shown (List ℕ)
-  pub commands_are : commands ≡ earlier ++ command ∷ later
-  pub reached : GoesOn keep_going (obeyed keep_going earlier first).refused
-  pub reported : report ≡ (obeyed keep_going earlier first).report
-  pub takes : takes_memory command.command ≡ true
-  pub granted : answer command.command (obeyed keep_going earlier first).shown ≡ Ok new
+  pub steps_are : steps ≡ earlier ++ step ∷ later
+  pub reached : GoesOn keep_going (obeyed_steps keep_going earlier first).refused
+  pub reported : report ≡ (obeyed_steps keep_going earlier first).report
+  pub tries : Tries step (obeyed_steps keep_going earlier first).shown command
+  pub takes : takes_memory command ≡ true
+  pub granted : answer command (obeyed_steps keep_going earlier first).shown ≡ Ok new
 
--- One of the commands of a run that comes to this result found no memory.
+-- A command of a run that comes to this result found no memory.
 pub record IsShortRun (makefile script : List ℕ) (depth : ℕ) (keep_going : Bool)
     (result : RunResult) (report : Written) : Type 0 where
-  pub commands : List CommandAt
+  pub steps : List Step
   pub lines : List ℕ
-  pub are_commands : IsScript script commands
+  pub are_steps : IsScript script steps
   pub result_is : result
-      ≡ result_after keep_going (obeyed keep_going commands (shown_opened depth makefile))
-  pub is_short : IsShort keep_going commands (shown_opened depth makefile) lines
+      ≡ result_after keep_going (obeyed_steps keep_going steps (shown_opened depth makefile))
+  pub is_short : IsShort keep_going steps (shown_opened depth makefile) lines
   pub is_out : IsOut report lines
 
 -- ---- the ends
@@ -115,66 +119,67 @@ pub record IsRunOver (makefile script : Option (List ℕ)) (depth : ℕ) (keep_g
 
 -- ---- the session that is handed back
 
--- All commands were obeyed. What is shown last is what they lead to, with a group that was open
+-- All steps were obeyed. What is shown last is what they lead to, with a group that was open
 -- ended, and its text is what went out.
-pub record IsLeft (keep_going : Bool) (commands : List CommandAt) (first last : Shown (List ℕ))
+pub record IsLeft (keep_going : Bool) (steps : List Step) (first last : Shown (List ℕ))
     (out : Written) : Type 0 where
-  pub shown : last ≡ ended (obeyed keep_going commands first).shown
+  pub shown : last ≡ ended (obeyed_steps keep_going steps first).shown
   pub is_out : IsOut out last.text
 
--- Some commands were refused. Either the run went on, and all commands were obeyed; or what is shown
--- last is what the commands up to the first refused one lead to, which changed nothing.
-abbrev pub IsLeftRefused : (keep_going : Bool) → List CommandAt → (first last : Shown (List ℕ))
+-- Some refusals were told. Either the run went on, and all steps were obeyed; or what is shown last is
+-- what the steps lead to up to the first of which a refusal was told, which changed nothing.
+abbrev pub IsLeftRefused : (keep_going : Bool) → List Step → (first last : Shown (List ℕ))
     → (out : Written) → Type 0
-IsLeftRefused true commands first last out = IsLeft true commands first last out
-IsLeftRefused false commands first last out = last ≡ (obeyed false commands first).shown
+IsLeftRefused true steps first last out = IsLeft true steps first last out
+IsLeftRefused false steps first last out = last ≡ (obeyed_steps false steps first).shown
 
--- One of the commands found no memory. What is shown last is what the commands before it lead to.
-pub record IsLeftShort (keep_going : Bool) (commands : List CommandAt)
+-- A command of one of the steps found no memory. What is shown last is what the steps before it lead
+-- to.
+pub record IsLeftShort (keep_going : Bool) (steps : List Step)
     (first last : Shown (List ℕ)) (report : Written) : Type 0 where
   pub lines : List ℕ
-  pub is_short : IsShort keep_going commands first lines
+  pub is_short : IsShort keep_going steps first lines
   pub is_out : IsOut report lines
-  pub shown : last ≡ (obeyed keep_going is_short.earlier first).shown
+  pub shown : last ≡ (obeyed_steps keep_going is_short.earlier first).shown
 
--- The line on a refused command could not be written. What is shown last is what the commands
--- before it lead to.
-pub record IsLeftUnreported (keep_going : Bool) (commands : List CommandAt)
+-- The line on the refusal that a step comes to could not be written. What is shown last is what the
+-- steps before it lead to.
+pub record IsLeftUnreported (keep_going : Bool) (steps : List Step)
     (first last : Shown (List ℕ)) : Type 0 where
-  pub earlier : List CommandAt
-  pub command : CommandAt
-  pub later : List CommandAt
-  pub cause : machine.Refusal Refusal
-  pub commands_are : commands ≡ earlier ++ command ∷ later
-  pub reached : GoesOn keep_going (obeyed keep_going earlier first).refused
-  pub shown : last ≡ (obeyed keep_going earlier first).shown
-  pub refused : answer command.command last ≡ Err cause
+  pub earlier : List Step
+  pub step : Step
+  pub later : List Step
+  pub told : ℕ × machine.Refusal Refusal
+  pub steps_are : steps ≡ earlier ++ step ∷ later
+  pub reached : GoesOn keep_going (obeyed_steps keep_going earlier first).refused
+  pub shown : last ≡ (obeyed_steps keep_going earlier first).shown
+  pub refused : step_end step last ≡ Err told
 
--- A write or the flush failed: of the report, or of the text after all commands were obeyed.
-abbrev pub IsLeftCut : (keep_going : Bool) → (report_failed : Bool) → List CommandAt
+-- A write or the flush failed: of the report, or of the text after all steps were obeyed.
+abbrev pub IsLeftCut : (keep_going : Bool) → (report_failed : Bool) → List Step
     → (first last : Shown (List ℕ)) → Type 0
-IsLeftCut k true commands first last = IsLeftUnreported k commands first last
-IsLeftCut k false commands first last = last ≡ ended (obeyed k commands first).shown
+IsLeftCut k true steps first last = IsLeftUnreported k steps first last
+IsLeftCut k false steps first last = last ≡ ended (obeyed_steps k steps first).shown
 
--- A session that was opened on the makefile, for the script's commands. Makefile and script are what
--- their readers tell. `Shows` is what the session shows, by the commands and by what was shown
--- before them.
+-- A session that was opened on the makefile, for the script's steps. Makefile and script are what
+-- their readers tell. `Shows` is what the session shows, by the steps and by what was shown before
+-- them.
 pub record IsSessionOf (makefile script : Option (List ℕ)) (depth : ℕ)
-    (Shows : List CommandAt → (first : Shown (List ℕ)) → Type 0) : Type 0 where
+    (Shows : List Step → (first : Shown (List ℕ)) → Type 0) : Type 0 where
   pub makefile_text : List ℕ
   pub script_text : List ℕ
-  pub commands : List CommandAt
+  pub steps : List Step
   pub of_makefile : HasText makefile makefile_text
   pub of_script : HasText script script_text
-  pub are_commands : IsScript script_text commands
-  pub shows : Shows commands (shown_opened depth makefile_text)
+  pub are_steps : IsScript script_text steps
+  pub shows : Shows steps (shown_opened depth makefile_text)
 
 -- Such a session is handed back.
 abbrev pub HandsBack : (makefile script : Option (List ℕ)) → (depth : ℕ)
-    → (Shows : List CommandAt → (first last : Shown (List ℕ)) → Type 0) → Option Seen → Type 0
+    → (Shows : List Step → (first last : Shown (List ℕ)) → Type 0) → Option Seen → Type 0
 HandsBack m s d Shows None = ⊥
 HandsBack m s d Shows (Some session) =
-    IsSessionOf m s d (λ commands first. Shows commands first session.shown)
+    IsSessionOf m s d (λ steps first. Shows steps first session.shown)
 
 -- What a run with this outcome leaves in the place of a session. If no command was reached, it is
 -- what was there before; otherwise it is the session as the commands left it.
@@ -182,14 +187,14 @@ abbrev pub Leaves : (makefile script : Option (List ℕ)) → (depth : ℕ) → 
     → (report_failed : Bool) → (report out : Written) → (before after : Option Seen) → Outcome
     → Type 0
 Leaves m s d k failed report out before after Done =
-    HandsBack m s d (λ commands first last. IsLeft k commands first last out) after
+    HandsBack m s d (λ steps first last. IsLeft k steps first last out) after
 Leaves m s d k failed report out before after (Refused count) =
-    HandsBack m s d (λ commands first last. IsLeftRefused k commands first last out) after
+    HandsBack m s d (λ steps first last. IsLeftRefused k steps first last out) after
 Leaves m s d k failed report out before after Write =
-    HandsBack m s d (λ commands first last. IsLeftCut k failed commands first last) after
+    HandsBack m s d (λ steps first last. IsLeftCut k failed steps first last) after
 Leaves m s d k failed report out before after NoMemory =
     ((after ≡ before) × IsKept report)
-    ⊎ HandsBack m s d (λ commands first last. IsLeftShort k commands first last report) after
+    ⊎ HandsBack m s d (λ steps first last. IsLeftShort k steps first last report) after
 Leaves m s d k failed report out before after outcome = after ≡ before
 
 -- ---- the devices

@@ -1,13 +1,20 @@
 -- What the steps of a run promise each other.
 -- Told in docs/ARCHITECTURE.md, "From bytes to bytes".
-use Rattle.std.specs.Prelude.{◌≡◌, ℕ, Bool, true, false, List, Option}
+use Rattle.std.specs.Prelude.{◌≡◌, ℕ, Bool, true, false, if◌then◌else◌, List, Option, Result, Ok, Err}
 use Rattle.mk_tree.specs.Documents.{IsTooDeep}
+use Rattle.mk_edit_language.specs.Edits.{Edit}
+use Rattle.mk_edit_language.specs.declared.refusal.Refusal.{Refusal}
+use Rattle.mk_edit_language.specs.declared.refusal.Refusal.TheVariants as refusal
+use Rattle.mk_history.specs.Machine as machine
+use Rattle.mk_history.specs.Machine.{Command}
 use Rattle.mk_history.specs.Shown.{Shown}
-use Rattle.mk_session.specs.Sessions.{Seen, seen_opened}
-use Rattle.mk_script.specs.Scripts.{CommandAt, IsScript, HasNoCommand}
-use Rattle.mk_run.specs.ObeyedCommands.{obeyed}
+use Rattle.mk_session.specs.Sessions.{Seen, seen_opened, answer, session_refusal}
+use Rattle.mk_session.specs.Calls.{takes_memory}
+use Rattle.mk_script.specs.Scripts.{Step, IsScript, HasNoCommand}
+use Rattle.mk_run.specs.ObeyedSteps.{StepEnd, is_missing, is_met, Tries, step_end, obeyed_steps}
 use Rattle.mk_run.specs.Runs.{IsTooLong, result_after}
 use Rattle.mk_run.specs.RunEnds.{HasText, Written, IsOut, IsPrefixOut, GoesOn, IsWhole, IsCut, IsLeft, IsLeftRefused, IsLeftShort, IsLeftUnreported, IsLeftCut}
+use Rattle.mk_run.specs.declared.step.RefusedCommand.{RefusedCommand}
 use Rattle.mk_run.specs.declared.outcome.Outcome.{Outcome}
 use Rattle.mk_run.specs.declared.outcome.Outcome.TheVariants.{Done, Refused, NotACommand, TooLong, TooDeep, NoMemory, Read, Write}
 
@@ -19,12 +26,12 @@ pub record Gives (bytes : Option (List ℕ)) (Holds : List ℕ → Type 0) : Typ
 
 -- ---- the script
 
--- what a reader gave is a script of these commands
-pub record GivesCommands (bytes : Option (List ℕ)) (commands : List CommandAt) : Type 0 where
+-- what a reader gave is a script of these steps
+pub record GivesSteps (bytes : Option (List ℕ)) (steps : List Step) : Type 0 where
   pub text : List ℕ
   pub has_text : HasText bytes text
   pub short : IsTooLong text → ⊥
-  pub is_script : IsScript text commands
+  pub is_script : IsScript text steps
 
 -- The reading of a script ended with this outcome; the reader of the script failed only if this is
 -- Read.
@@ -56,50 +63,92 @@ StopsMakefile bytes failed NoMemory = failed ≡ false
 StopsMakefile bytes failed Read = failed ≡ true
 StopsMakefile bytes failed outcome = ⊥
 
--- ---- the commands
+-- ---- one step
 
--- All commands were obeyed, and `refused` of them were refused.
-pub record AreObeyed (keep_going : Bool) (commands : List CommandAt) (first last : Shown (List ℕ))
+-- A step comes to a refusal that is to be told with the number of its line; nothing has changed.
+pub record IsStepRefused (end : StepEnd) (refused : RefusedCommand) (old new : Shown (List ℕ))
+    : Type 0 where
+  pub cause : machine.Refusal Refusal
+  pub end_is : end ≡ Err (refused.line, cause)
+  pub told : refused.refusal ≡ session_refusal cause
+  pub same : new ≡ old
+
+-- A command that a step tries found no memory; nothing has changed.
+pub record IsStepShort (IsTried : Command Edit → Type 0) (old new : Shown (List ℕ)) : Type 0 where
+  pub command : Command Edit
+  pub after : Shown (List ℕ)
+  pub tried : IsTried command
+  pub takes : takes_memory command ≡ true
+  pub granted : answer command old ≡ Ok after
+  pub same : new ≡ old
+
+-- A step that comes to this end, and tries these commands, was obeyed: it is done, or its refusal is
+-- to be told, or a command found no memory.
+abbrev pub ComesTo : StepEnd → (IsTried : Command Edit → Type 0) → Result (Unit {0}) RefusedCommand
+    → (old new : Shown (List ℕ)) → Type 0
+ComesTo end IsTried (Ok u) old new = end ≡ Ok new
+ComesTo end IsTried (Err refused) old new =
+    ((refused.refusal ≡ refusal.NoMemory → ⊥) → IsStepRefused end refused old new)
+    × (refused.refusal ≡ refusal.NoMemory → IsStepShort IsTried old new)
+
+-- a step was obeyed
+abbrev pub IsObeyed : Step → Result (Unit {0}) RefusedCommand → (old new : Shown (List ℕ)) → Type 0
+IsObeyed step result old new = ComesTo (step_end step old) (λ c. Tries step old c) result old new
+
+-- an answer passes an edit of a chain over
+abbrev pub passes_over : Result (Unit {0}) Refusal → Bool
+passes_over (Ok u) = false
+passes_over (Err r) = is_missing r
+
+-- what an answer that ends a chain comes to: there is no refusal if there is nothing to do
+abbrev pub chain_answer : (line : ℕ) → Result (Unit {0}) Refusal → Result (Unit {0}) RefusedCommand
+chain_answer n (Ok u) = Ok u
+chain_answer n (Err r) = if is_met r then Ok tt else Err (record { line = n; refusal = r })
+
+-- ---- the steps
+
+-- All steps were obeyed, and `refused` refusals were told.
+pub record AreObeyed (keep_going : Bool) (steps : List Step) (first last : Shown (List ℕ))
     (refused : ℕ) (report : Written) : Type 0 where
   pub goes_on : GoesOn keep_going refused
-  pub number : refused ≡ (obeyed keep_going commands first).refused
-  pub shown : last ≡ (obeyed keep_going commands first).shown
-  pub reported : IsOut report (obeyed keep_going commands first).report
+  pub number : refused ≡ (obeyed_steps keep_going steps first).refused
+  pub shown : last ≡ (obeyed_steps keep_going steps first).shown
+  pub reported : IsOut report (obeyed_steps keep_going steps first).report
 
--- One of the commands was refused, and ended the run.
-pub record AreEnded (keep_going : Bool) (commands : List CommandAt) (first last : Shown (List ℕ))
+-- A refusal was told, and ended the run.
+pub record AreEnded (keep_going : Bool) (steps : List Step) (first last : Shown (List ℕ))
     (refused : ℕ) (report : Written) : Type 0 where
   pub ends : keep_going ≡ false
   pub one : refused ≡ 1
-  pub number : refused ≡ (obeyed keep_going commands first).refused
-  pub shown : last ≡ (obeyed keep_going commands first).shown
-  pub reported : IsOut report (obeyed keep_going commands first).report
+  pub number : refused ≡ (obeyed_steps keep_going steps first).refused
+  pub shown : last ≡ (obeyed_steps keep_going steps first).shown
+  pub reported : IsOut report (obeyed_steps keep_going steps first).report
 
--- The commands stopped with this outcome; the sink of the report failed only if this is Write.
-abbrev pub StopsCommands : (keep_going : Bool) → List CommandAt → (first last : Shown (List ℕ))
+-- The steps stopped with this outcome; the sink of the report failed only if this is Write.
+abbrev pub StopsSteps : (keep_going : Bool) → List Step → (first last : Shown (List ℕ))
     → (failed : Bool) → (report : Written) → Outcome → Type 0
-StopsCommands k commands s t failed report (Refused n) =
-    (failed ≡ false) × AreEnded k commands s t n report
-StopsCommands k commands s t failed report NoMemory =
-    (failed ≡ false) × IsLeftShort k commands s t report
-StopsCommands k commands s t failed report Write =
+StopsSteps k steps s t failed report (Refused n) =
+    (failed ≡ false) × AreEnded k steps s t n report
+StopsSteps k steps s t failed report NoMemory =
+    (failed ≡ false) × IsLeftShort k steps s t report
+StopsSteps k steps s t failed report Write =
     (failed ≡ true)
-    × IsPrefixOut report (obeyed k commands s).report
-    × IsLeftUnreported k commands s t
-StopsCommands k commands s t failed report outcome = ⊥
+    × IsPrefixOut report (obeyed_steps k steps s).report
+    × IsLeftUnreported k steps s t
+StopsSteps k steps s t failed report outcome = ⊥
 
--- ---- the commands, and the text after them
+-- ---- the steps, and the text after them
 
--- The commands ended the run with this outcome.
-abbrev pub EndsCommands : (keep_going : Bool) → List CommandAt → (first last : Shown (List ℕ))
+-- The steps ended the run with this outcome.
+abbrev pub EndsSteps : (keep_going : Bool) → List Step → (first last : Shown (List ℕ))
     → (report_failed : Bool) → (report out : Written) → Outcome → Type 0
-EndsCommands k commands s t failed report out Done =
-    IsWhole (result_after k (obeyed k commands s)) Done report out × IsLeft k commands s t out
-EndsCommands k commands s t failed report out (Refused n) =
-    IsWhole (result_after k (obeyed k commands s)) (Refused n) report out
-    × IsLeftRefused k commands s t out
-EndsCommands k commands s t failed report out NoMemory = IsLeftShort k commands s t report
-EndsCommands k commands s t failed report out Write =
-    IsCut (result_after k (obeyed k commands s)) failed report out
-    × IsLeftCut k failed commands s t
-EndsCommands k commands s t failed report out outcome = ⊥
+EndsSteps k steps s t failed report out Done =
+    IsWhole (result_after k (obeyed_steps k steps s)) Done report out × IsLeft k steps s t out
+EndsSteps k steps s t failed report out (Refused n) =
+    IsWhole (result_after k (obeyed_steps k steps s)) (Refused n) report out
+    × IsLeftRefused k steps s t out
+EndsSteps k steps s t failed report out NoMemory = IsLeftShort k steps s t report
+EndsSteps k steps s t failed report out Write =
+    IsCut (result_after k (obeyed_steps k steps s)) failed report out
+    × IsLeftCut k failed steps s t
+EndsSteps k steps s t failed report out outcome = ⊥

@@ -8,8 +8,9 @@ use Rattle.mk_history.specs.Machine as machine
 use Rattle.mk_history.specs.Machine.{End}
 use Rattle.mk_history.specs.Shown.{Shown, shown_opened}
 use Rattle.mk_session.specs.Sessions.{IsBadDepth, answer}
-use Rattle.mk_script.specs.Scripts.{CommandAt, IsScript, HasNoCommand}
+use Rattle.mk_script.specs.Scripts.{CommandAt, Step, IsScript, HasNoCommand}
 use Rattle.mk_run.specs.ObeyedCommands.{Obeyed, obeyed}
+use Rattle.mk_run.specs.ObeyedSteps.{obeyed_steps}
 use Rattle.mk_run.specs.declared.outcome.Outcome as o
 use Rattle.mk_run.specs.declared.outcome.Outcome.TheVariants.{Done, Refused, NotACommand, BadDepth, TooLong, TooDeep}
 
@@ -42,7 +43,7 @@ output_after true n text = Some text
 output_after false zero text = Some text
 output_after false (suc n) text = None
 
--- what a run comes to, by what its commands come to
+-- what a run comes to, by what its steps come to
 abbrev pub result_after : (keep_going : Bool) → Obeyed → RunResult
 result_after k did =
     record {
@@ -65,24 +66,37 @@ IsTooLong text = max_text < length text
 abbrev pub InCase : (Case Then Else : Type 0) → Type 0
 InCase Case Then Else = (Case × Then) ⊎ ((Case → ⊥) × Else)
 
--- The run of commands over a makefile comes to this result, by the first case that holds: the
--- makefile is too long, or it is too deep; otherwise each command is obeyed in its turn.
-abbrev pub IsRunOf : List CommandAt → (makefile : List ℕ) → (depth : ℕ) → (keep_going : Bool)
-    → RunResult → Type 0
-IsRunOf commands makefile depth k result =
+-- A run over a makefile, with what it comes to from what is shown of the makefile, by the first case
+-- that holds: the makefile is too long, or it is too deep; otherwise the result is that of what it
+-- comes to.
+abbrev IsRunFrom : (comes_to : Shown (List ℕ) → Obeyed) → (makefile : List ℕ) → (depth : ℕ)
+    → (keep_going : Bool) → RunResult → Type 0
+IsRunFrom comes_to makefile depth k result =
     InCase (IsTooLong makefile) (result ≡ stopped TooLong)
     (InCase (IsTooDeep makefile) (result ≡ stopped TooDeep)
-    (result ≡ result_after k (obeyed k commands (shown_opened depth makefile))))
+    (result ≡ result_after k (comes_to (shown_opened depth makefile))))
+
+-- the run of steps: each is obeyed in its turn
+abbrev pub IsRunOf : List Step → (makefile : List ℕ) → (depth : ℕ) → (keep_going : Bool)
+    → RunResult → Type 0
+IsRunOf steps makefile depth k result =
+    IsRunFrom (λ s. obeyed_steps k steps s) makefile depth k result
+
+-- the run of commands without alternatives: each is obeyed in its turn
+abbrev pub IsRunOfCommands : List CommandAt → (makefile : List ℕ) → (depth : ℕ)
+    → (keep_going : Bool) → RunResult → Type 0
+IsRunOfCommands commands makefile depth k result =
+    IsRunFrom (λ s. obeyed k commands s) makefile depth k result
 
 -- The run of a script over a makefile comes to this result, by the first case that holds: the depth
 -- is bad, or the script is too long, or a line of the script is no command; otherwise it is the run
--- of the script's commands.
+-- of the script's steps.
 abbrev pub IsRun : (makefile script : List ℕ) → (depth : ℕ) → (keep_going : Bool) → RunResult
     → Type 0
 IsRun makefile script depth k result =
     InCase (IsBadDepth depth) (result ≡ stopped BadDepth)
     (InCase (IsTooLong script) (result ≡ stopped TooLong)
     (((line : ℕ) × HasNoCommand script line × (result ≡ stopped (NotACommand line)))
-    ⊎ ((commands : List CommandAt)
-    × IsScript script commands
-    × IsRunOf commands makefile depth k result)))
+    ⊎ ((steps : List Step)
+    × IsScript script steps
+    × IsRunOf steps makefile depth k result)))

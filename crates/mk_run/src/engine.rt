@@ -1,29 +1,30 @@
 //! A script over a makefile: the steps of a run, in their order.
 ghost use Rattle.std.specs.Prelude.{◌≡◌, ◌↔◌, ◌+◌, ◌||◌, ℕ, IsTrue, List, Option, map, false, true, OnOk, IfOk, IfErr, IfSome};
 ghost use Rattle.mk_session.specs.Sessions.{IsBadDepth};
-ghost use Rattle.mk_script.specs.Scripts.{numbered};
+ghost use Rattle.mk_script.specs.Scripts.{step_of};
 ghost use Rattle.mk_run.specs.Outcome.{is_printed, may_report};
 ghost use Rattle.mk_run.specs.Runs.{IsTooLong, ended};
 ghost use Rattle.mk_run.specs.RunEnds.{IsRunOver, Leaves, PutsOut, PutsOutIf, ReadsOnce, TellsFaults, written};
-ghost use Rattle.mk_run.specs.RunSteps.{AreObeyed, EndsCommands, GivesCommands, GivesSession, StopsCommands, StopsMakefile, StopsScript};
+ghost use Rattle.mk_run.specs.RunSteps.{AreObeyed, EndsSteps, GivesSession, GivesSteps, StopsMakefile, StopsScript, StopsSteps};
 
 use crate::outcome::Outcome;
 use crate::report::report_refusal;
+use crate::step::obey_step;
 use mk_history::history::is_bad_depth;
 use mk_lines::source::{BUFFER, MAX_TEXT, read_all};
 use mk_lines::{ByteSink, ByteSource, Fault};
-use mk_script::{NumberedCommand, ScriptFault, parse_script};
+use mk_script::{ScriptFault, Step, parse_script};
 use mk_session::{Command, Edit, Refusal, Session};
 use std::alloc::Allocator;
 
-// The commands of a script. The script is read to its end.
+// The steps of a script. The script is read to its end.
 fn read_script<A: Allocator + Copy, S: ByteSource>(
     alloc: A,
     script: &mut S,
-) -> Result<Vec<NumberedCommand<A>, A>, Outcome>
+) -> Result<Vec<Step<A>, A>, Outcome>
     requires { S.failed script.old ≡ false }
-    ensures commands { IfOk result (λ commands.
-        GivesCommands (S.remaining script.old) (map numbered commands.items)) }
+    ensures steps { IfOk result (λ steps.
+        GivesSteps (S.remaining script.old) (map step_of steps.items)) }
     ensures works { OnOk result (S.failed script.new ≡ false) }
     ensures stops { IfErr result (λ outcome.
         StopsScript (S.remaining script.old) (S.failed script.new) outcome) }
@@ -34,7 +35,7 @@ fn read_script<A: Allocator + Copy, S: ByteSource>(
         Err(fault) => return Err(Outcome::from(fault)),
     };
     match parse_script(alloc, text.as_slice()) {
-        Ok(commands) => Ok(commands),
+        Ok(steps) => Ok(steps),
         Err(ScriptFault::NotACommand(line)) => Err(Outcome::NotACommand(line)),
         Err(ScriptFault::NoMemory) => Err(Outcome::NoMemory),
     }
@@ -66,43 +67,71 @@ fn open_makefile<A: Allocator + Copy, R: ByteSource>(
     }
 }
 
-// From this number of commands on, a script is likely to have the second edit of a variable for
-// which a session makes an index.
-const MANY_COMMANDS: usize = 10;
+// From this number of steps on, a script is likely to have the second edit of a variable for which a
+// session makes an index.
+const MANY_STEPS: usize = 10;
 
-// Obeys the commands in order, and answers how many of them were refused. The line on each refusal
-// is written at once.
+// Tells a session what a long script will ask for. Nothing that is shown changes.
+fn expect_steps<A: Allocator + Copy>(session: &mut Session<A>, steps: &[Step<A>])
+    ensures { session.new.shown ≡ session.old.shown }
+{
+    if steps.len() < MANY_STEPS {
+        return;
+    }
+    session.expect_edits();
+    if have_rename(steps) {
+        session.expect_renames();
+    }
+}
+
+// Whether one of some steps may be a rename.
+fn have_rename<A: Allocator>(steps: &[Step<A>]) -> bool {
+    for step in steps {
+        match step {
+            Step::Alone(numbered) => {
+                if let Command::Apply(Edit::RenameTarget { .. }) = &numbered.command {
+                    return true;
+                }
+            }
+            Step::Try(numbered) => {
+                if let Edit::RenameTarget { .. } = &numbered.edit {
+                    return true;
+                }
+            }
+            Step::Chain(_) => {}
+        }
+    }
+    false
+}
+
+// Obeys the steps in order, and answers how many refusals were told. The line on each refusal is
+// written at once.
 fn obey_all<A: Allocator + Copy, P: ByteSink>(
     session: &mut Session<A>,
-    commands: &[NumberedCommand<A>],
+    steps: &[Step<A>],
     keep_going: bool,
     report: &mut P,
 ) -> Result<u64, Outcome>
     requires { P.failed report.old ≡ false }
     ensures obeyed { IfOk result (λ refused.
-        AreObeyed keep_going (map numbered commands.now) session.old.shown session.new.shown refused
+        AreObeyed keep_going (map step_of steps.now) session.old.shown session.new.shown refused
         (written (P.contents report.old) (P.contents report.new))) }
     ensures works { OnOk result (P.failed report.new ≡ false) }
     ensures stops { IfErr result (λ outcome.
-        StopsCommands keep_going (map numbered commands.now) session.old.shown session.new.shown
+        StopsSteps keep_going (map step_of steps.now) session.old.shown session.new.shown
         (P.failed report.new) (written (P.contents report.old) (P.contents report.new)) outcome) }
     ensures unflushed { P.flushes report.new ≡ P.flushes report.old }
 {
-    if commands.len() >= MANY_COMMANDS {
-        session.expect_edits();
-        if have_rename(commands) {
-            session.expect_renames();
-        }
-    }
+    expect_steps(session, steps);
     let mut refused = 0u64;
-    for numbered in commands {
-        let Err(refusal) = session.obey(&numbered.command) else {
+    for step in steps {
+        let Err(told) = obey_step(session, step) else {
             continue;
         };
-        if let Refusal::NoMemory = refusal {
+        if let Refusal::NoMemory = told.refusal {
             return Err(Outcome::NoMemory);
         }
-        match report_refusal(report, numbered.line, refusal) {
+        match report_refusal(report, told.line, told.refusal) {
             Ok(()) => refused += 1,
             Err(fault) => return Err(Outcome::from(fault)),
         }
@@ -111,16 +140,6 @@ fn obey_all<A: Allocator + Copy, P: ByteSink>(
         }
     }
     Ok(refused)
-}
-
-// Whether one of some commands is a rename.
-fn have_rename<A: Allocator>(commands: &[NumberedCommand<A>]) -> bool {
-    for numbered in commands {
-        if let Command::Apply(Edit::RenameTarget { .. }) = &numbered.command {
-            return true;
-        }
-    }
-    false
 }
 
 // Ends a group that is still open, writes the text out, and flushes it once.
@@ -140,10 +159,10 @@ fn put_out<A: Allocator + Copy, W: ByteSink>(
     }
 }
 
-// Obeys the commands, and writes out the text that they lead to.
+// Obeys the steps, and writes out the text that they lead to.
 fn obey_and_put_out<A, W, P>(
     session: &mut Session<A>,
-    commands: &[NumberedCommand<A>],
+    steps: &[Step<A>],
     keep_going: bool,
     out: &mut W,
     report: &mut P,
@@ -154,7 +173,7 @@ where
     P: ByteSink,
     requires out_works { W.failed out.old ≡ false }
     requires report_works { P.failed report.old ≡ false }
-    ensures ends { EndsCommands keep_going (map numbered commands.now) session.old.shown
+    ensures ends { EndsSteps keep_going (map step_of steps.now) session.old.shown
         session.new.shown (P.failed report.new) (written (P.contents report.old) (P.contents report.new))
         (written (W.contents out.old) (W.contents out.new)) result }
     ensures reached { may_report result ≡ true }
@@ -163,7 +182,7 @@ where
     ensures write { result ≡ Outcome.Write ↔ IsTrue (W.failed out.new || P.failed report.new) }
     ensures report { P.flushes report.new ≡ P.flushes report.old }
 {
-    let refused = match obey_all(session, commands, keep_going, report) {
+    let refused = match obey_all(session, steps, keep_going, report) {
         Ok(refused) => refused,
         Err(early) => return early,
     };
@@ -174,12 +193,12 @@ where
     }
 }
 
-// Runs commands over a makefile, which is read to its end first. The laws hold for each script that
-// has these commands.
-fn run_commands<A, R, W, P>(
+// Runs steps over a makefile, which is read to its end first. The laws hold for each script that has
+// these steps.
+fn run_steps<A, R, W, P>(
     alloc: A,
     makefile: &mut R,
-    commands: &[NumberedCommand<A>],
+    steps: &[Step<A>],
     depth: u32,
     keep_going: bool,
     out: &mut W,
@@ -195,7 +214,7 @@ where
     requires out_works { W.failed out.old ≡ false }
     requires report_works { P.failed report.old ≡ false }
     requires depth { IsBadDepth depth → ⊥ }
-    ensures over { (script : Option (List ℕ)) → GivesCommands script (map numbered commands.now)
+    ensures over { (script : Option (List ℕ)) → GivesSteps script (map step_of steps.now)
         → IsRunOver (R.remaining makefile.old) script depth keep_going
         result (P.failed report.new) (written (P.contents report.old) (P.contents report.new))
         (written (W.contents out.old) (W.contents out.new))
@@ -217,18 +236,19 @@ where
         Err(outcome) => return outcome,
     };
     let session = kept.insert(session);
-    obey_and_put_out(session, commands, keep_going, out, report)
+    obey_and_put_out(session, steps, keep_going, out, report)
 }
 
 /// Runs a script over a makefile. The text after the script's commands goes to `out`, a line on each
 /// refused command goes to `report`, and the session is left in `kept`.
 ///
 /// In this order: the depth is tested; the script is read to its end and parsed whole; the makefile
-/// is read to its end and opened; the commands are obeyed in order; a group that is still open is
+/// is read to its end and opened; the steps are obeyed in order; a group that is still open is
 /// ended; the text is written to `out` and then flushed once. A refused command changes nothing,
-/// and its line is written at once; `report` is not flushed. `depth` is how many edits or groups
-/// can be undone. Without `keep_going` the first refusal ends the run; with it, the other commands
-/// are obeyed too. A reader is read no further once more than 16,777,216 bytes have come.
+/// and its line is written at once; `report` is not flushed. Behind `try` and in a chain some
+/// refusals are none: they are not reported. `depth` is how many edits or groups can be undone.
+/// Without `keep_going` the first refusal that is reported ends the run; with it, the other
+/// commands are obeyed too. A reader is read no further once more than 16,777,216 bytes have come.
 ///
 /// [`Outcome::NoMemory`] comes if a growth was refused. It hides what was not reached before that:
 /// further bytes of a reader, a later line of the script that is no command, how deep the makefile
@@ -302,14 +322,14 @@ where
     if is_bad_depth(depth) {
         return Outcome::BadDepth;
     }
-    let commands = match read_script(alloc, script) {
-        Ok(commands) => commands,
+    let steps = match read_script(alloc, script) {
+        Ok(steps) => steps,
         Err(outcome) => return outcome,
     };
-    run_commands(
+    run_steps(
         alloc,
         makefile,
-        commands.as_slice(),
+        steps.as_slice(),
         depth,
         keep_going,
         out,

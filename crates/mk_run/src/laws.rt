@@ -2,7 +2,7 @@
 //!
 //! They are about the result that the definitions give a run. The clause `law` of
 //! [`run`](crate::run) says that what the code writes is that result.
-ghost use Rattle.mk_run.specs.RunLaws.{EachRunHasAResult, ResultsAreOne, RunsKeepEveryByte};
+ghost use Rattle.mk_run.specs.RunLaws.{EachRunHasAResult, ResultsAreOne, RunsKeepEveryByte, RunsOfCommandsStay};
 
 /// The run of any script over any makefile, at any depth, has one result.
 pub fn runs_have_one_result()
@@ -22,4 +22,12 @@ pub fn runs_have_one_result()
 /// calls.
 pub fn runs_keep_every_byte()
     ensures { RunsKeepEveryByte }
+{}
+
+/// A script without `try` and `or` runs as a list of commands.
+///
+/// Each command is obeyed in its turn, and each refusal is told and counted: what `try` and `or` mean
+/// changes nothing of the report, the output and the outcome of such a script.
+pub fn scripts_of_commands_run_as_commands()
+    ensures { RunsOfCommandsStay }
 {}

@@ -8,12 +8,14 @@
 //! - [`laws`]: what holds for every run.
 //! - `outcome`: how a run ends.
 //! - `report`: the lines on refused commands.
+//! - `step`: one step of a script.
 #![tactic(auto)]
 
 mod engine;
 pub mod laws;
 mod outcome;
 mod report;
+mod step;
 
 pub use engine::run;
 pub use mk_script::{ScriptFault, parse_script};

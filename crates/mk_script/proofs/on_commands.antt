@@ -1,3 +1,4 @@
 pub mod TableLemmas
 pub mod ReadLemmas
 pub mod WrittenLemmas
+pub mod SayingLemmas

@@ -1,5 +1,9 @@
 pub mod LineLemmas
-pub mod WrittenLines
+pub mod SaidLemmas
+pub mod GroupLemmas
+pub mod AddLemmas
 pub mod ScriptLemmas
 pub mod OneLemmas
 pub mod ReaderLemmas
+pub mod WrittenLines
+pub mod CommandLemmas

@@ -2,3 +2,4 @@ mod WorkedScripts
 mod RowMeanings
 mod RandomScripts
 mod CornerScripts
+mod AlternativeScripts

@@ -6,6 +6,7 @@ use Rattle.mk_class.specs.declared.assignment.Flavor.{Flavor}
 use Rattle.mk_edit_language.specs.Edits.{Place, Bottom, BeforeVar, AfterVar, BeforeRule, Edit, SetValue, AppendValue, AddWord, AddAssign, RemoveAssign, AddRule, RemoveRule, AddPrereq, RemovePrereq, AddRecipe, SetRecipe, RemoveRecipe, InsertRecipe, RenameTarget}
 use Rattle.mk_edit_language.specs.declared.edit.RuleSeparator.{RuleSeparator}
 use Rattle.mk_history.specs.Machine.{Command, Apply}
+use Rattle.mk_script.specs.Lines.{Saying, Plain, Try, Or}
 use Rattle.mk_script.specs.FieldReading.{is_blank, first_field, one_field, two_fields, three_fields}
 use Rattle.mk_script.specs.NumberReading.{number}
 use Rattle.mk_script.specs.WordReading.{named, calls, edit_words, places, operators, separators}
@@ -137,7 +138,7 @@ abbrev pub edit_after_nth : Option (List ℕ × List ℕ) → Option Edit
 edit_after_nth None = None
 edit_after_nth (Some p) = edit_after_number (number p.0) p.1
 
--- an edit, with or without `nth` and a number before it
+-- an edit, from its first field, with or without `nth` and a number before it
 abbrev pub addressed_edit : (first rest : List ℕ) → Option Edit
 addressed_edit first rest =
     if bytes_eq first (codes "nth") then edit_after_nth (first_field rest) else edit None first rest
@@ -154,3 +155,30 @@ command_after (Some p) = call_or_edit (named calls p.0) p.0 p.1
 -- the command of a line that is not skipped
 abbrev pub command : List ℕ → Option (Command Edit)
 command line = command_after (first_field line)
+
+-- ---- what a line says
+
+-- the edit of a text that has no other command
+abbrev edit_at : Option (List ℕ × List ℕ) → Option Edit
+edit_at None = None
+edit_at (Some p) = addressed_edit p.0 p.1
+
+abbrev pub edit_line : List ℕ → Option Edit
+edit_line text = edit_at (first_field text)
+
+-- what a line says, by its first field and what follows it
+abbrev pub saying_by_word : (first rest : List ℕ) → Option Saying
+saying_by_word first rest =
+    if bytes_eq first (codes "try")
+    then option_map Try (edit_line rest)
+    else if bytes_eq first (codes "or")
+    then option_map Or (edit_line rest)
+    else option_map Plain (call_or_edit (named calls first) first rest)
+
+abbrev pub saying_after : Option (List ℕ × List ℕ) → Option Saying
+saying_after None = None
+saying_after (Some p) = saying_by_word p.0 p.1
+
+-- what a line that is not skipped says
+abbrev pub saying : List ℕ → Option Saying
+saying line = saying_after (first_field line)

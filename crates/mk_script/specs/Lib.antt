@@ -6,6 +6,7 @@ pub mod CommandTable
 pub mod Lines
 -- Scripts, and laws of them
 pub mod Scripts
+pub mod ScriptsOfCommands
 pub mod ScriptLaws
 -- # Vocabulary of private contracts
 -- How the code reads a line: what the contracts within this crate say

@@ -1,11 +1,11 @@
 -- The lines of a script, and what each of them is.
 -- Told in docs/EDITS.md, "The script".
-use Rattle.std.specs.Prelude.{◌≡◌, ◌⊎◌, ℕ, List, [], ◌∷◌, map}
+use Rattle.std.specs.Prelude.{◌≡◌, ◌⊎◌, ℕ, List, [], ◌∷◌, map, codes}
 use Rattle.bstr.specs.Text.{lines_of, without_terminator}
 use Rattle.mk_lines.specs.Lists.{Each}
 use Rattle.mk_lines.specs.Bytes.{is_blank_byte}
 use Rattle.mk_edit_language.specs.Edits.{Edit}
-use Rattle.mk_history.specs.Machine.{Command}
+use Rattle.mk_history.specs.Machine.{Command, Apply}
 use Rattle.mk_script.specs.Fields.{HasFields}
 use Rattle.mk_script.specs.CommandTable.{IsCommand}
 
@@ -27,6 +27,21 @@ abbrev pub HasCommand : (line : List ℕ) → Command Edit → Type 0
 HasCommand line command =
     (fields : List (List ℕ)) × HasFields line fields × IsCommand fields command
 
--- a line that is skipped, or is a command
-abbrev pub IsReadable : List ℕ → Type 0
-IsReadable line = IsSkipped line ⊎ ((command : Command Edit) × HasCommand line command)
+-- ---- what a line says
+
+-- What a line says: a command; or the command of an edit, with `try` or `or` before it.
+pub data Saying : Type 0 where
+  Plain : Command Edit → Saying
+  Try : Edit → Saying
+  Or : Edit → Saying
+
+-- the fields of a line are a word and an edit's command
+abbrev pub HasEditAfter : (word : List ℕ) → (line : List ℕ) → Edit → Type 0
+HasEditAfter word line e =
+    (fields : List (List ℕ)) × HasFields line (word ∷ fields) × IsCommand fields (Apply e)
+
+-- a line says this
+abbrev pub Says : (line : List ℕ) → Saying → Type 0
+Says line (Plain command) = HasCommand line command
+Says line (Try e) = HasEditAfter (codes "try") line e
+Says line (Or e) = HasEditAfter (codes "or") line e

@@ -1,8 +1,11 @@
 -- What the readers of a line answer.
 -- Told in docs/ARCHITECTURE.md, "From a script to a text".
-use Rattle.std.specs.Prelude.{◌≡◌, ℕ, Bool, true, false, ◌||◌, ◌==◌, List, [], ◌∷◌, Option, Some, None, Result, Ok, Err, is_some}
+use Rattle.std.specs.Prelude.{◌≡◌, ℕ, Bool, true, false, ◌||◌, ◌==◌, List, [], ◌∷◌, ◌++◌, Option, Some, None, Result, Ok, Err, is_some}
 use Rattle.std.specs.Borrow.{Bor}
 use Rattle.mk_edit_language.specs.Edits as edits
+use Rattle.mk_history.specs.Machine.{Apply}
+use Rattle.mk_script.specs.Lines.{Saying}
+use Rattle.mk_script.specs.Scripts.{Step, Alone, Tried, Chain, SayingAt, sayings}
 use Rattle.mk_script.specs.FieldReading.{is_blank}
 use Rattle.mk_script.specs.SeenFields.{field_text}
 use Rattle.mk_script.specs.declared.fault.LineFault.{LineFault}
@@ -44,3 +47,34 @@ begins_comment (b ∷ line) = b == 35
 
 abbrev pub is_skipped : List ℕ → Bool
 is_skipped line = begins_comment line || is_blank line
+
+-- ---- steps
+
+-- an `or` may stand below a step: it is that of an edit without `try`
+abbrev pub takes_alternative : Step → Bool
+takes_alternative (Alone c) = elim c.command [ Apply e ↦ true | other ↦ false ]
+takes_alternative (Tried e) = false
+takes_alternative (Chain first second others) = true
+
+-- the steps `new` say one thing more than the steps `old`
+abbrev pub SayMore : (old : List Step) → SayingAt → (new : List Step) → Type 0
+SayMore old x new = sayings new ≡ sayings old ++ x ∷ []
+
+-- What may stand in a line of this number, below the lines of the steps `old`, was added to them; or
+-- it was not: nothing may stand there, or memory was short for it.
+abbrev pub Adds : (old : List Step) → (number : ℕ) → Option Saying → (new : List Step)
+    → Result (Unit {0}) LineFault → Type 0
+Adds old n stands new (Ok u) =
+    (x : Saying) × (stands ≡ Some x) × SayMore old (record { line = n; saying = x }) new
+Adds old n stands new (Err NotACommand) =
+    (x : Saying) → stands ≡ Some x → (others : List Step)
+    → SayMore old (record { line = n; saying = x }) others → ⊥
+Adds old n stands new (Err NoMemory) =
+    (x : Saying) × (stands ≡ Some x)
+    × ((others : List Step) × SayMore old (record { line = n; saying = x }) others)
+
+-- A value was put behind others, if memory was found for it.
+abbrev pub Pushes : {X : Type 0} → (old : List X) → X → (new : List X)
+    → Result (Unit {0}) LineFault → Type 0
+Pushes old x new (Ok u) = new ≡ old ++ x ∷ []
+Pushes old x new (Err fault) = fault ≡ NoMemory

@@ -1,12 +1,13 @@
 -- Laws of lines and of scripts. Each law is the contract of a public function.
 -- Told in docs/PROOFS.md, "Scripts (mk_script)".
-use Rattle.std.specs.Prelude.{◌≡◌, ◌⊎◌, ℕ, ◌≤◌, List, [], ◌∷◌, ◌++◌, Option, Some, None}
+use Rattle.std.specs.Prelude.{◌≡◌, ◌⊎◌, ℕ, ◌≤◌, List, [], ◌∷◌, ◌++◌, map, Option, Some, None}
 use Rattle.mk_edit_language.specs.Edits.{Edit, SetValue, AppendValue, AddWord, AddAssign, RemoveAssign, AddRule, RemoveRule, AddPrereq, RemovePrereq, AddRecipe, SetRecipe, RemoveRecipe, InsertRecipe, RenameTarget}
 use Rattle.mk_history.specs.Machine.{Command, Apply}
 use Rattle.mk_script.specs.Fields.{quoted, HasFields}
 use Rattle.mk_script.specs.CommandTable.{nth_of_place}
-use Rattle.mk_script.specs.Lines.{HasCommand, IsSkipped}
-use Rattle.mk_script.specs.Scripts.{CommandAt, IsScript, HasNoCommand}
+use Rattle.mk_script.specs.Lines.{IsSkipped, Saying, Plain, Try, Or, Says}
+use Rattle.mk_script.specs.Scripts.{CommandAt, Step, Alone, IsScript, HasNoCommand}
+use Rattle.mk_script.specs.ScriptsOfCommands.{IsScriptOfCommands, IsFaultOfCommands}
 
 -- ---- lines
 
@@ -24,14 +25,13 @@ line_of (field ∷ fields) = quoted field ++ 32 ∷ line_of fields
 abbrev pub WrittenFieldsAreRead : Type 0
 WrittenFieldsAreRead = (fields : List (List ℕ)) → HasFields (line_of fields) fields
 
--- A line is at most one command; a line that is skipped is none.
-abbrev pub LineIsOneCommand : Type 0
-LineIsOneCommand = (line : List ℕ) (command other : Command Edit) → HasCommand line command
-    → HasCommand line other → command ≡ other
+-- A line says at most one thing; a line that is skipped says nothing.
+abbrev pub LineSaysOneThing : Type 0
+LineSaysOneThing =
+    (line : List ℕ) (saying other : Saying) → Says line saying → Says line other → saying ≡ other
 
-abbrev pub SkippedLineIsNoCommand : Type 0
-SkippedLineIsNoCommand =
-    (line : List ℕ) (command : Command Edit) → IsSkipped line → HasCommand line command → ⊥
+abbrev pub SkippedLineSaysNothing : Type 0
+SkippedLineSaysNothing = (line : List ℕ) (saying : Saying) → IsSkipped line → Says line saying → ⊥
 
 -- a number that a script can write
 abbrev pub CanBeWritten : Option ℕ → Type 0
@@ -56,26 +56,30 @@ HasNumbersOfScripts (InsertRecipe nth target number line) =
     CanBeWritten nth × (number ≤ 4294967295)
 HasNumbersOfScripts (RenameTarget old new) = Unit {0}
 
-abbrev HasLine : Command Edit → Type 0
-HasLine (Apply e) = HasNumbersOfScripts e
-HasLine command = Unit {0}
+-- a command whose numbers a script can write
+abbrev pub HasNumbers : Command Edit → Type 0
+HasNumbers (Apply e) = HasNumbersOfScripts e
+HasNumbers command = Unit {0}
 
--- Each command has a line.
-abbrev pub EachCommandHasALine : Type 0
-EachCommandHasALine =
-    (command : Command Edit) → HasLine command → (line : List ℕ) × HasCommand line command
+abbrev HasLine : Saying → Type 0
+HasLine (Plain command) = HasNumbers command
+HasLine (Try e) = HasNumbersOfScripts e
+HasLine (Or e) = HasNumbersOfScripts e
+
+-- Each thing that a line may say has a line.
+abbrev pub EachSayingHasALine : Type 0
+EachSayingHasALine = (saying : Saying) → HasLine saying → (line : List ℕ) × Says line saying
 
 -- ---- scripts
 
--- A script has at most one list of commands.
-abbrev pub CommandsAreOne : Type 0
-CommandsAreOne = (script : List ℕ) (commands others : List CommandAt) → IsScript script commands
-    → IsScript script others → commands ≡ others
+-- A script has at most one list of steps.
+abbrev pub StepsAreOne : Type 0
+StepsAreOne = (script : List ℕ) (steps others : List Step) → IsScript script steps
+    → IsScript script others → steps ≡ others
 
--- No script has both commands and a line that is no command.
+-- No script has both steps and a line that is no command.
 abbrev pub NoScriptIsBoth : Type 0
-NoScriptIsBoth =
-    (script : List ℕ) (commands : List CommandAt) (number : ℕ) → IsScript script commands
+NoScriptIsBoth = (script : List ℕ) (steps : List Step) (number : ℕ) → IsScript script steps
     → HasNoCommand script number → ⊥
 
 -- At most one line is the first line that is no command.
@@ -83,8 +87,22 @@ abbrev pub FirstFaultIsOne : Type 0
 FirstFaultIsOne = (script : List ℕ) (number other : ℕ) → HasNoCommand script number
     → HasNoCommand script other → number ≡ other
 
--- Each script has commands, or a first line that is no command.
+-- Each script has steps, or a first line that is no command.
 abbrev pub EachScriptIsRead : Type 0
 EachScriptIsRead = (script : List ℕ)
-    → ((commands : List CommandAt) × IsScript script commands)
+    → ((steps : List Step) × IsScript script steps)
     ⊎ ((number : ℕ) × HasNoCommand script number)
+
+-- ---- scripts without alternatives
+
+-- A script whose lines are skipped or are commands, without `try` and `or`, has these commands as
+-- its steps, each alone.
+abbrev pub CommandsAreSteps : Type 0
+CommandsAreSteps = (script : List ℕ) (commands : List CommandAt)
+    → IsScriptOfCommands script commands → IsScript script (map Alone commands)
+
+-- If a line of a script does not begin with `try` or `or`, is neither skipped nor a command, and
+-- each line before it is skipped or is a command, then it is the first line that is no command.
+abbrev pub FaultsWithoutAlternativesStay : Type 0
+FaultsWithoutAlternativesStay =
+    (script : List ℕ) (number : ℕ) → IsFaultOfCommands script number → HasNoCommand script number

@@ -1,10 +1,11 @@
-//! The command of a line: a call of a session that is one word, or an edit, before which `nth` and
-//! a number may stand.
+//! A command: a call of a session that is one word, or an edit, before which `nth` and a number may
+//! stand.
 ghost use Rattle.std.specs.Prelude.{◌≡◌};
 ghost use Rattle.mk_command.specs.CommandViews.{command_of};
 ghost use Rattle.mk_edit_language.specs.EditViews.{edit_of};
 ghost use Rattle.mk_script.specs.SeenFields.{field_text};
-ghost use Rattle.mk_script.specs.CommandReading.{addressed_edit, command};
+ghost use Rattle.mk_script.specs.CommandReading.{addressed_edit, call_or_edit, edit_line};
+ghost use Rattle.mk_script.specs.WordReading.{calls, named};
 ghost use Rattle.mk_script.specs.ReaderAnswers.{IsRead, begins_comment, is_skipped};
 
 use crate::edit::read_edit;
@@ -33,7 +34,7 @@ fn begins_comment(line: &[u8]) -> bool
     }
 }
 
-/// The command of a line that is not skipped.
+/// The command of a line without `try` and `or`, from its first field and what follows that field.
 ///
 /// # Errors
 ///
@@ -41,16 +42,33 @@ fn begins_comment(line: &[u8]) -> bool
 #[tactic(auto, using(crate::proofs::on_commands::TableLemmas::is_some_mapped))]
 pub(crate) fn read_command<A: Allocator + Copy>(
     alloc: A,
-    line: &[u8],
+    word: Field<'_>,
+    rest: &[u8],
 ) -> Result<Command<A>, LineFault>
-    ensures { IsRead command_of (command line.now) result }
+    ensures { IsRead command_of (call_or_edit (named calls (field_text word.entry))
+        (field_text word.entry) rest.now) result }
 {
-    let (word, rest) = first_field(line)?;
     match call(word) {
         Some(command) if is_blank(rest) => Ok(command),
         Some(_) => Err(LineFault::NotACommand),
         None => Ok(Command::Apply(read_addressed(alloc, word, rest)?)),
     }
+}
+
+/// The edit whose command is a whole text.
+///
+/// # Errors
+///
+/// `NotACommand` if the text is no edit's command; `NoMemory` if it is one, and a growth was
+/// refused.
+pub(crate) fn read_edit_line<A: Allocator + Copy>(
+    alloc: A,
+    text: &[u8],
+) -> Result<Edit<A>, LineFault>
+    ensures { IsRead edit_of (edit_line text.now) result }
+{
+    let (word, rest) = first_field(text)?;
+    read_addressed(alloc, word, rest)
 }
 
 // The edit of a line, from its first word, which may be `nth`, and what follows that word.

@@ -1,5 +1,5 @@
 //! Laws that hold for every script, each as the contract of a function that does nothing.
-ghost use Rattle.mk_script.specs.ScriptLaws.{LineIsOneCommand, CommandsAreOne, EachCommandHasALine, EachScriptIsRead, FirstFaultIsOne, FieldsAreOne, NoScriptIsBoth, SkippedLineIsNoCommand, WrittenFieldsAreRead};
+ghost use Rattle.mk_script.specs.ScriptLaws.{CommandsAreSteps, EachSayingHasALine, EachScriptIsRead, FaultsWithoutAlternativesStay, FieldsAreOne, FirstFaultIsOne, LineSaysOneThing, NoScriptIsBoth, SkippedLineSaysNothing, StepsAreOne, WrittenFieldsAreRead};
 
 /// A line has at most one list of fields, and any fields have a line.
 pub fn lines_and_fields()
@@ -7,19 +7,28 @@ pub fn lines_and_fields()
     ensures written { WrittenFieldsAreRead }
 {}
 
-/// A line is at most one command; a line that is skipped is none. Each command whose numbers a
-/// script can write has a line.
+/// A line is at most one command, alone or behind `try` or `or`; a line that is skipped is none.
+/// Each command whose numbers a script can write has a line, and so has each edit behind `try` and
+/// behind `or`.
 pub fn lines_and_commands()
-    ensures one { LineIsOneCommand }
-    ensures skipped { SkippedLineIsNoCommand }
-    ensures written { EachCommandHasALine }
+    ensures one { LineSaysOneThing }
+    ensures skipped { SkippedLineSaysNothing }
+    ensures written { EachSayingHasALine }
 {}
 
-/// A script has commands, or a first line that is no command. It does not have both, and it has at
+/// A script has steps, or a first line that is no command. It does not have both, and it has at
 /// most one of each.
 pub fn scripts_say_one_thing()
     ensures either { EachScriptIsRead }
     ensures not_both { NoScriptIsBoth }
-    ensures commands { CommandsAreOne }
+    ensures steps { StepsAreOne }
     ensures fault { FirstFaultIsOne }
+{}
+
+/// A script without `try` and `or` says what its lines say, each by itself: its steps are its
+/// commands, each alone; and its first line that is neither skipped nor a command is the first that
+/// is no command.
+pub fn scripts_of_commands_are_read()
+    ensures steps { CommandsAreSteps }
+    ensures fault { FaultsWithoutAlternativesStay }
 {}

@@ -1,17 +1,19 @@
-//! Scripts: the commands that a program does one after the other.
+//! Scripts: the steps that a program does one after the other.
 //!
 //! A script's lines end in LF or CR LF; the last line may have no line end. A line whose first byte
 //! is `#`, and a line of blanks only, are skipped. Every other line is one command: fields with
-//! blanks between them. This is this project's profile.
+//! blanks between them. Before the command of an edit `try` may stand, or `or`, which makes it an
+//! alternative of the edit above. This is this project's profile.
 //!
-//! - [`command`]: the command of a line.
+//! - [`command`]: a command.
 //! - [`edit`]: the edits, and the places of new lines, by their fields.
 //! - [`fault`]: why a line gave no command.
 //! - [`field`]: a field, bare or between quotes.
 //! - [`fields`]: the fields of a line.
 //! - [`laws`]: what holds for every script.
 //! - [`number`]: numbers.
-//! - [`script`]: the commands of a script, with the numbers of their lines.
+//! - [`script`]: the steps of a script, from its lines.
+//! - [`step`]: the steps of a script.
 //! - [`word`]: the words that commands are known by.
 //!
 //! A script does not say whether a field may stand in its edit, such as a name or a value: an edit
@@ -26,7 +28,9 @@ mod fields;
 pub mod laws;
 mod number;
 pub mod script;
+pub mod step;
 mod word;
 
 pub use mk_command::Command;
-pub use script::{NumberedCommand, ScriptFault, parse_script};
+pub use script::{ScriptFault, parse_script};
+pub use step::{Chain, NumberedCommand, NumberedEdit, Step};

@@ -1,22 +1,17 @@
-//! A script: its commands with the numbers of their lines.
-ghost use Rattle.std.specs.Prelude.{◌≡◌, map, IfOk, IfErr};
-ghost use Rattle.mk_script.specs.Scripts.{IsScript, IsScriptFault, numbered};
+//! A script: its steps, from its lines.
+ghost use Rattle.std.specs.Prelude.{map, option_map, IfOk, IfErr};
+ghost use Rattle.mk_script.specs.Lines.{Or};
+ghost use Rattle.mk_script.specs.Scripts.{IsScript, IsScriptFault, step_of};
+ghost use Rattle.mk_script.specs.CommandReading.{edit_line, saying};
+ghost use Rattle.mk_script.specs.ReaderAnswers.{Adds, Pushes};
 
-use crate::command::{is_skipped, read_command};
+use crate::command::{is_skipped, read_command, read_edit_line};
 use crate::fault::LineFault;
+use crate::fields::first_field;
+use crate::step::{Chain, NumberedCommand, NumberedEdit, Step};
 use bstr::ByteSlice;
-use mk_command::Command;
-use std::alloc::{Allocator, Global};
+use std::alloc::Allocator;
 use thiserror::Error;
-
-/// A command with the number of its line in the script, from 1.
-#[derive(Drop)]
-pub struct NumberedCommand<A: Allocator = Global> {
-    /// The number of the line, from 1.
-    pub line: u64,
-    /// The command of the line.
-    pub command: Command<A>,
-}
 
 /// Why a script was not read.
 #[derive(Clone, Copy, Debug, PartialEq, Eq, Error)]
@@ -30,40 +25,92 @@ pub enum ScriptFault {
     NoMemory,
 }
 
-/// The commands of a script, in the order of its lines.
+/// The steps of a script, in the order of its lines.
 ///
 /// # Errors
 ///
-/// - [`ScriptFault::NotACommand`] with the number of the first line that is no command.
+/// - [`ScriptFault::NotACommand`] with the number of the first line that is no command, or that has
+///   `or` where none may stand.
 /// - [`ScriptFault::NoMemory`] if a growth was refused for a command. Each line before that command
 ///   is skipped or is a command.
 pub fn parse_script<A: Allocator + Copy>(
     alloc: A,
     script: &[u8],
-) -> Result<Vec<NumberedCommand<A>, A>, ScriptFault>
-    ensures commands { IfOk result (λ commands. IsScript script.now (map numbered commands.items)) }
+) -> Result<Vec<Step<A>, A>, ScriptFault>
+    ensures steps { IfOk result (λ steps. IsScript script.now (map step_of steps.items)) }
     ensures fault { IfErr result (λ fault. IsScriptFault script.now fault) }
 {
-    let mut commands = Vec::new(alloc);
+    let mut steps = Vec::new(alloc);
     let mut number = 0u64;
     for line in script.lines() {
         number += 1;
         if is_skipped(line) {
             continue;
         }
-        let command = match read_command(alloc, line) {
-            Ok(command) => command,
+        match add_line(alloc, &mut steps, number, line) {
+            Ok(()) => {}
             Err(LineFault::NotACommand) => return Err(ScriptFault::NotACommand(number)),
             Err(LineFault::NoMemory) => return Err(ScriptFault::NoMemory),
-        };
+        }
+    }
+    Ok(steps)
+}
+
+// Adds what a line says to the steps of the lines above it. The line is not skipped.
+fn add_line<A: Allocator + Copy>(
+    alloc: A,
+    steps: &mut Vec<Step<A>, A>,
+    number: u64,
+    line: &[u8],
+) -> Result<(), LineFault>
+    ensures { Adds (map step_of steps.old.items) number (saying line.now)
+        (map step_of steps.new.items) result }
+{
+    let (word, rest) = first_field(line)?;
+    if word.is(b"try") {
+        let edit = read_edit_line(alloc, rest)?;
+        push_step(steps, Step::Try(NumberedEdit { line: number, edit }))
+    } else if word.is(b"or") {
+        add_alternative(alloc, steps, number, rest)
+    } else {
+        let command = read_command(alloc, word, rest)?;
         let numbered = NumberedCommand {
             line: number,
             command,
         };
-        match commands.push(numbered) {
-            Ok(()) => {}
-            Err(_) => return Err(ScriptFault::NoMemory),
-        }
+        push_step(steps, Step::Alone(numbered))
     }
-    Ok(commands)
+}
+
+// Puts the edit that follows `or` behind the last of the steps.
+fn add_alternative<A: Allocator + Copy>(
+    alloc: A,
+    steps: &mut Vec<Step<A>, A>,
+    number: u64,
+    rest: &[u8],
+) -> Result<(), LineFault>
+    ensures { Adds (map step_of steps.old.items) number (option_map Or (edit_line rest.now))
+        (map step_of steps.new.items) result }
+{
+    let Some(last) = steps.pop() else {
+        return Err(LineFault::NotACommand);
+    };
+    let Some((first, mut others)) = last.into_edits(alloc) else {
+        return Err(LineFault::NotACommand);
+    };
+    let edit = read_edit_line(alloc, rest)?;
+    match others.push(NumberedEdit { line: number, edit }) {
+        Ok(()) => push_step(steps, Step::Chain(Chain { first, others })),
+        Err(_) => Err(LineFault::NoMemory),
+    }
+}
+
+// Puts a step behind the others.
+fn push_step<A: Allocator>(steps: &mut Vec<Step<A>, A>, step: Step<A>) -> Result<(), LineFault>
+    ensures { Pushes steps.old.items step steps.new.items result }
+{
+    match steps.push(step) {
+        Ok(()) => Ok(()),
+        Err(_) => Err(LineFault::NoMemory),
+    }
 }

@@ -1,6 +1,6 @@
 -- The commands of a run are calls of a session, so the laws of sessions hold of them.
-use Rattle.std.proofs.Common.{◌≡◌, refl, sym, ap, subst, ◌∙◌, arith, ℕ, suc, zero, ◌+◌, Bool, true, false, List, [], ◌∷◌, length, map, replicate, Option, Some, None, Ok, Err, inl, inr, ◌++◌}
-use Rattle.std.specs.Prelude.{Result, IfSome}
+use Rattle.std.proofs.Common.{◌≡◌, refl, sym, ap, subst, ◌∙◌, arith, ℕ, suc, zero, ◌+◌, Bool, true, false, cond, List, [], ◌∷◌, length, map, replicate, Option, Some, None, Ok, Err, inl, inr, ◌++◌}
+use Rattle.std.specs.Prelude.{Result, IfSome, ◌||◌}
 use Rattle.std.proofs.lemmas.List.{append-nil}
 use Rattle.mk_edit_language.specs.Edits.{Edit}
 use Rattle.mk_edit_language.specs.declared.refusal.Refusal.{Refusal}
@@ -8,17 +8,20 @@ use Rattle.mk_history.specs.Machine as machine
 use Rattle.mk_history.specs.Machine.{Command, Apply, Undo, Redo, Begin, End, Cancel, replay}
 use Rattle.mk_history.specs.Shown.{Shown, shown_opened, shown_ended}
 use Rattle.mk_history.specs.CallSteps.{Granted, Refused, NoMemory}
-use Rattle.mk_session.specs.Sessions.{Seen, seen_opened, answer, edited}
+use Rattle.mk_session.specs.Sessions.{Seen, IsBadDepth, seen_opened, answer, edited, session_refusal}
 use Rattle.mk_session.specs.Calls.{Reply, Call, IsCall, AreCalls, standing}
 use Rattle.mk_session.proofs.on_sessions.CallLemmas.{standing-replayed, all-undone, granted-made, others-kept}
-use Rattle.mk_script.specs.Scripts.{CommandAt, IsScript}
-use Rattle.mk_script.proofs.on_scripts.OneLemmas.{commands-one, not-both}
-use Rattle.mk_run.specs.ObeyedCommands.{Obeyed, obeyed_next, obeyed}
-use Rattle.mk_run.specs.Runs.{RunResult, IsRunOf, IsRun, ended, shown_or, outcome_after, output_after, result_after, stopped}
+use Rattle.mk_script.specs.Scripts.{CommandAt, EditAt, Step, Alone, Tried, Chain, IsScript}
+use Rattle.mk_script.specs.ScriptsOfCommands.{IsScriptOfCommands}
+use Rattle.mk_script.proofs.on_scripts.OneLemmas.{steps-one, not-both}
+use Rattle.mk_script.proofs.on_scripts.CommandLemmas.{commands-steps}
+use Rattle.mk_run.specs.ObeyedCommands.{Obeyed, after_refusal, obeyed_next, obeyed}
+use Rattle.mk_run.specs.ObeyedSteps.{Answer, StepEnd, is_missing, is_met, unless, alone_end, tried_end, last_end, is_passed, chain_end, step_end, steps_next, obeyed_steps}
+use Rattle.mk_run.specs.Runs.{RunResult, InCase, IsTooLong, IsRunOf, IsRunOfCommands, IsRun, ended, shown_or, outcome_after, output_after, result_after, stopped}
 use Rattle.mk_run.specs.RunEnds.{GoesOn}
 use Rattle.mk_run.specs.declared.outcome.Outcome as o
 use Rattle.mk_run.specs.declared.outcome.Outcome.TheVariants.{BadDepth, TooLong, TooDeep}
-use Rattle.mk_run.specs.RunLaws.{tried_next, tried, DoesAsStated, DoAsStated, machine_after, AreUndos, KeepEveryByte, RunsKeepEveryByte}
+use Rattle.mk_run.specs.RunLaws.{reply_of, called, chain_calls, step_calls, tried_next, tried, DoesAsStated, DoAsStated, machine_after, AreUndos, KeepEveryByte, RunsKeepEveryByte, RunsOfCommandsStay}
 use Rattle.mk_run.proofs.on_runs.CommandLemmas.{joined, obeyed-append}
 use Rattle.mk_run.proofs.on_runs.RunLemmas.{output-some}
 
@@ -36,17 +39,76 @@ call-refused : (c : Command Edit) (x : Shown (List ℕ)) (q : machine.Refusal Re
 unfolding seen
 call-refused c x q h = record { step = (h, refl); memory = λ no. absurd (cc); granted_else = λ no. absurd (cc); few_read = omega arith }
 
-calls-next : (k : Bool) (c : CommandAt) (s : Shown (List ℕ)) (others : Shown (List ℕ) → Obeyed) (calls : Shown (List ℕ) → List Call)
-    → ((t : Shown (List ℕ)) → AreCalls (calls t) (seen t) (seen (others t).shown))
-    → (a : Result (Shown (List ℕ)) (machine.Refusal Refusal)) → answer c.command s ≡ a
-    → AreCalls (tried_next k c.command s calls a) (seen s) (seen (obeyed_next k c s others a).shown)
-calls-next k c s others calls hyp (Ok new) h = (seen new, (call-granted c.command s new h, hyp new))
-calls-next true c s others calls hyp (Err q) h = (seen s, (call-refused c.command s q h, hyp s))
-calls-next false c s others calls hyp (Err q) h = (seen s, (call-refused c.command s q h, refl))
+answered-call : (c : Command Edit) (x : Shown (List ℕ)) (a : Answer) → answer c x ≡ a → IsCall (c, reply_of a) (seen x) (seen (shown_or x a))
+answered-call c x (Ok new) h = call-granted c x new h
+answered-call c x (Err q) h = call-refused c x q h
 
-are-calls : (k : Bool) (commands : List CommandAt) (s : Shown (List ℕ)) → AreCalls (tried k commands s) (seen s) (seen (obeyed k commands s).shown)
+called-is : (c : Command Edit) (x : Shown (List ℕ)) → IsCall (called c x) (seen x) (seen (shown_or x (answer c x)))
+called-is c x = answered-call c x (answer c x) refl
+
+-- what a step leaves
+left : Shown (List ℕ) → StepEnd → Shown (List ℕ)
+left s (Ok new) = new
+left s (Err told) = s
+
+left-alone : (n : ℕ) (s : Shown (List ℕ)) (a : Answer) → left s (alone_end n a) ≡ shown_or s a
+unfolding left
+left-alone n s (Ok new) = refl
+left-alone n s (Err q) = refl
+
+left-unless : (b : Bool) (n : ℕ) (s : Shown (List ℕ)) (q : machine.Refusal Refusal) → left s (unless b n s q) ≡ s
+unfolding left
+left-unless true n s q = refl
+left-unless false n s q = refl
+
+left-tried : (n : ℕ) (s : Shown (List ℕ)) (a : Answer) → left s (tried_end n s a) ≡ shown_or s a
+unfolding left
+left-tried n s (Ok new) = refl
+left-tried n s (Err q) = left-unless (is_missing (session_refusal q) || is_met (session_refusal q)) n s q
+
+left-last : (n : ℕ) (s : Shown (List ℕ)) (a : Answer) → left s (last_end n s a) ≡ shown_or s a
+unfolding left
+left-last n s (Ok new) = refl
+left-last n s (Err q) = left-unless (is_met (session_refusal q)) n s q
+
+one-call : (c : Command Edit) (s : Shown (List ℕ)) (e : StepEnd) → left s e ≡ shown_or s (answer c s) → AreCalls (called c s ∷ []) (seen s) (seen (left s e))
+one-call c s e h = (seen (shown_or s (answer c s)), (called-is c s, ap (λ t. seen t) h))
+
+passed-same : (s : Shown (List ℕ)) (a : Answer) → is_passed a ≡ true → shown_or s a ≡ s
+passed-same s (Ok new) h = absurd (cc)
+passed-same s (Err q) h = refl
+
+chain-are : (e : EditAt) (others : List EditAt) (s : Shown (List ℕ)) → AreCalls (chain_calls e others s) (seen s) (seen (left s (chain_end e others s)))
+chain-are e [] s = one-call (Apply e.edit) s (last_end e.line s (answer (Apply e.edit) s)) (left-last e.line s (answer (Apply e.edit) s))
+chain-are e (o ∷ others) s = go (is_passed (answer (Apply e.edit) s)) refl (chain-are o others s)
+  where
+    go : (b : Bool) → is_passed (answer (Apply e.edit) s) ≡ b → AreCalls (chain_calls o others s) (seen s) (seen (left s (chain_end o others s)))
+        → AreCalls (called (Apply e.edit) s ∷ cond b (chain_calls o others s) []) (seen s) (seen (left s (cond b (chain_end o others s) (last_end e.line s (answer (Apply e.edit) s)))))
+    go true h calls = (seen s, (subst (λ t. IsCall (called (Apply e.edit) s) (seen s) (seen t)) (passed-same s (answer (Apply e.edit) s) h) (called-is (Apply e.edit) s), calls))
+    go false h calls = one-call (Apply e.edit) s (last_end e.line s (answer (Apply e.edit) s)) (left-last e.line s (answer (Apply e.edit) s))
+
+step-are : (step : Step) (s : Shown (List ℕ)) → AreCalls (step_calls step s) (seen s) (seen (left s (step_end step s)))
+step-are (Alone c) s = one-call c.command s (alone_end c.line (answer c.command s)) (left-alone c.line s (answer c.command s))
+step-are (Tried e) s = one-call (Apply e.edit) s (tried_end e.line s (answer (Apply e.edit) s)) (left-tried e.line s (answer (Apply e.edit) s))
+step-are (Chain first second others) s = chain-are first (second ∷ others) s
+
+calls-append : (first others : List Call) (x y z : Seen) → AreCalls first x y → AreCalls others y z → AreCalls (first ++ others) x z
+calls-append [] others x y z h k = subst (λ (u : Seen). AreCalls others u z) h k
+calls-append (call ∷ first) others x y z h k = (h.0, (h.1.0, calls-append first others h.0 y z h.1.1 k))
+
+calls-next : (k : Bool) (s : Shown (List ℕ)) (others : Shown (List ℕ) → Obeyed) (calls : Shown (List ℕ) → List Call)
+    → ((t : Shown (List ℕ)) → AreCalls (calls t) (seen t) (seen (others t).shown))
+    → (e : StepEnd) → AreCalls (tried_next k s calls e) (seen (left s e)) (seen (steps_next k s others e).shown)
+unfolding left
+calls-next k s others calls hyp (Ok new) = hyp new
+calls-next true s others calls hyp (Err told) = hyp s
+calls-next false s others calls hyp (Err told) = refl
+
+are-calls : (k : Bool) (steps : List Step) (s : Shown (List ℕ)) → AreCalls (tried k steps s) (seen s) (seen (obeyed_steps k steps s).shown)
 are-calls k [] s = refl
-are-calls k (c ∷ commands) s = calls-next k c s (λ t. obeyed k commands t) (λ t. tried k commands t) (λ t. are-calls k commands t) (answer c.command s) refl
+are-calls k (step ∷ steps) s =
+    calls-append (step_calls step s) (tried_next k s (λ t. tried k steps t) (step_end step s)) (seen s) (seen (left s (step_end step s))) (seen (obeyed_steps k (step ∷ steps) s).shown) (step-are step s)
+    (calls-next k s (λ t. obeyed_steps k steps t) (λ t. tried k steps t) (λ t. are-calls k steps t) (step_end step s))
 
 -- ---- each does as stated
 
@@ -76,13 +138,15 @@ reply-more : (r : Reply) (calls : List Call) (n : ℕ) → AreReplies calls n �
 reply-more r calls n h = record { replies = r ∷ h.replies; calls_are = ap (λ l. (Undo, r) ∷ l) h.calls_are; number_is = ap suc h.number_is }
 
 replies-next : (c : CommandAt) (s : Shown (List ℕ)) (calls : Shown (List ℕ) → List Call) (n : ℕ) → c.command ≡ Undo
-    → ((t : Shown (List ℕ)) → AreReplies (calls t) n) → (a : Result (Shown (List ℕ)) (machine.Refusal Refusal)) → AreReplies (tried_next true c.command s calls a) (suc n)
+    → ((t : Shown (List ℕ)) → AreReplies (calls t) n) → (a : Answer) → AreReplies ((c.command, reply_of a) ∷ tried_next true s calls (alone_end c.line a)) (suc n)
 replies-next c s calls n is hyp (Ok new) = rw is (reply-more Granted (calls new) n (hyp new))
 replies-next c s calls n is hyp (Err q) = rw is (reply-more (Refused q) (calls s) n (hyp s))
 
-undo-replies : (undos : List CommandAt) (s : Shown (List ℕ)) → AreUndos undos → AreReplies (tried true undos s) (length undos)
+undo-replies : (undos : List Step) (s : Shown (List ℕ)) → AreUndos undos → AreReplies (tried true undos s) (length undos)
 undo-replies [] s are = record { replies = []; calls_are = refl; number_is = refl }
-undo-replies (c ∷ undos) s are = replies-next c s (λ t. tried true undos t) (length undos) are.0 (λ t. undo-replies undos t are.1) (answer c.command s)
+undo-replies (Alone c ∷ undos) s are = replies-next c s (λ t. tried true undos t) (length undos) are.0 (λ t. undo-replies undos t are.1) (answer c.command s)
+undo-replies (Tried e ∷ undos) s are = absurd are.0
+undo-replies (Chain first second others ∷ undos) s are = absurd are.0
 
 -- all of some calls were granted
 AllGranted : List Call → Type 0
@@ -100,20 +164,23 @@ unfolding AllGranted
 granted-replies [] h = tt
 granted-replies (r ∷ replies) h = (cons-first r Granted replies (replicate (length replies) Granted) h, granted-replies replies (cons-rest r Granted replies (replicate (length replies) Granted) h))
 
--- if all calls were granted, no command was refused, nothing was reported, and the run is the same if it stops at a refusal
+-- if all calls of some `undo` were granted, nothing was refused or reported, and the run is the same if it stops at a refusal
 none-next : (k : Bool) (c : CommandAt) (s : Shown (List ℕ)) (others all : Shown (List ℕ) → Obeyed) (calls : Shown (List ℕ) → List Call)
     → ((t : Shown (List ℕ)) → AllGranted (calls t) → ((others t).refused ≡ 0) × ((others t).report ≡ []) × ((others t).shown ≡ (all t).shown))
-    → (a : Result (Shown (List ℕ)) (machine.Refusal Refusal)) → AllGranted (tried_next true c.command s calls a)
-    → ((obeyed_next k c s others a).refused ≡ 0) × ((obeyed_next k c s others a).report ≡ []) × ((obeyed_next k c s others a).shown ≡ (obeyed_next true c s all a).shown)
+    → (a : Answer) → AllGranted ((c.command, reply_of a) ∷ tried_next true s calls (alone_end c.line a))
+    → ((steps_next k s others (alone_end c.line a)).refused ≡ 0) × ((steps_next k s others (alone_end c.line a)).report ≡ [])
+    × ((steps_next k s others (alone_end c.line a)).shown ≡ (steps_next true s all (alone_end c.line a)).shown)
 unfolding AllGranted
 none-next k c s others all calls hyp (Ok new) granted = hyp new granted.1
 none-next k c s others all calls hyp (Err q) granted = let no = granted.0 in absurd (cc)
 
-none-refused : (k : Bool) (commands : List CommandAt) (s : Shown (List ℕ)) → AllGranted (tried true commands s)
-    → ((obeyed k commands s).refused ≡ 0) × ((obeyed k commands s).report ≡ []) × ((obeyed k commands s).shown ≡ (obeyed true commands s).shown)
-none-refused k [] s granted = (refl, refl, refl)
-none-refused k (c ∷ commands) s granted =
-    none-next k c s (λ t. obeyed k commands t) (λ t. obeyed true commands t) (λ t. tried true commands t) (λ t. none-refused k commands t) (answer c.command s) granted
+none-refused : (k : Bool) (undos : List Step) (s : Shown (List ℕ)) → AreUndos undos → AllGranted (tried true undos s)
+    → ((obeyed_steps k undos s).refused ≡ 0) × ((obeyed_steps k undos s).report ≡ []) × ((obeyed_steps k undos s).shown ≡ (obeyed_steps true undos s).shown)
+none-refused k [] s are granted = (refl, refl, refl)
+none-refused k (Alone c ∷ undos) s are granted =
+    none-next k c s (λ t. obeyed_steps k undos t) (λ t. obeyed_steps true undos t) (λ t. tried true undos t) (λ t. none-refused k undos t are.1) (answer c.command s) granted
+none-refused k (Tried e ∷ undos) s are granted = absurd are.0
+none-refused k (Chain first second others ∷ undos) s are granted = absurd are.0
 
 -- ---- the output
 
@@ -134,22 +201,22 @@ output-holds false (suc n) text P p = tt
 no-output_of : (result : RunResult) (outcome : o.Outcome) (P : List ℕ → Type 0) → result ≡ stopped outcome → IfSome result.output P
 no-output_of result outcome P is = rw is tt
 
-module _ (makefile script : List ℕ) (depth : ℕ) (k : Bool) (commands : List CommandAt) (result : RunResult) (P : List ℕ → Type 0) (p : P (obeyed k commands (shown_opened depth makefile)).shown.text) where
-  of-commands : IsRunOf commands makefile depth k result → IfSome result.output P
-  of-commands (inl (long, is)) = no-output_of result TooLong P is
-  of-commands (inr (short, inl (deep, is))) = no-output_of result TooDeep P is
-  of-commands (inr (short, inr (shallow, is))) =
-      let did = obeyed k commands (shown_opened depth makefile) in
+module _ (makefile script : List ℕ) (depth : ℕ) (k : Bool) (steps : List Step) (result : RunResult) (P : List ℕ → Type 0) (p : P (obeyed_steps k steps (shown_opened depth makefile)).shown.text) where
+  of-steps : IsRunOf steps makefile depth k result → IfSome result.output P
+  of-steps (inl (long, is)) = no-output_of result TooLong P is
+  of-steps (inr (short, inl (deep, is))) = no-output_of result TooDeep P is
+  of-steps (inr (short, inr (shallow, is))) =
+      let did = obeyed_steps k steps (shown_opened depth makefile) in
       rw is (output-holds k did.refused (ended did.shown).text P (subst P (sym (ended-text did.shown)) p))
 
-  of-run : IsScript script commands → IsRun makefile script depth k result → IfSome result.output P
+  of-run : IsScript script steps → IsRun makefile script depth k result → IfSome result.output P
   of-run are (inl (bad, is)) = no-output_of result BadDepth P is
   of-run are (inr (good, inl (long, is))) = no-output_of result TooLong P is
-  of-run are (inr (good, inr (short, inl (line, none, is)))) = absurd (not-both script commands line are none)
+  of-run are (inr (good, inr (short, inl (line, none, is)))) = absurd (not-both script steps line are none)
   of-run are (inr (good, inr (short, inr (others, are_other, run)))) =
-      of-commands (subst (λ (cs : List CommandAt). IsRunOf cs makefile depth k result) (commands-one script others commands are_other are) run)
+      of-steps (subst (λ (cs : List Step). IsRunOf cs makefile depth k result) (steps-one script others steps are_other are) run)
 
--- ---- commands, and others behind them that are all granted and lead to this text
+-- ---- steps, and others behind them that are all granted and lead to this text
 
 joined-result : (k : Bool) (did rest : Obeyed) (text : List ℕ) → GoesOn k did.refused → rest.refused ≡ 0 → rest.report ≡ [] → rest.shown.text ≡ text
     → result_after k (joined did rest) ≡ record { outcome = outcome_after did.refused; report = did.report; output = Some text }
@@ -164,50 +231,50 @@ joined-result k did rest text on none silent back =
 
 -- ---- the headline
 
-module _ (makefile : List ℕ) (depth : ℕ) (k : Bool) (commands : List CommandAt) where
+module _ (makefile : List ℕ) (depth : ℕ) (k : Bool) (steps : List Step) where
   last : Shown (List ℕ)
-  last = (obeyed k commands (shown_opened depth makefile)).shown
+  last = (obeyed_steps k steps (shown_opened depth makefile)).shown
 
-  session-calls : AreCalls (tried k commands (shown_opened depth makefile)) (seen_opened depth makefile) (seen last)
+  session-calls : AreCalls (tried k steps (shown_opened depth makefile)) (seen_opened depth makefile) (seen last)
   unfolding seen last
-  session-calls = are-calls k commands (shown_opened depth makefile)
+  session-calls = are-calls k steps (shown_opened depth makefile)
 
-  replayed : (obeyed k commands (shown_opened depth makefile)).shown.text ≡ replay edited makefile (standing (machine_after k commands makefile depth))
+  replayed : (obeyed_steps k steps (shown_opened depth makefile)).shown.text ≡ replay edited makefile (standing (machine_after k steps makefile depth))
   unfolding seen last
-  replayed = (standing-replayed depth makefile (tried k commands (shown_opened depth makefile)) (seen last) session-calls).1
+  replayed = (standing-replayed depth makefile (tried k steps (shown_opened depth makefile)) (seen last) session-calls).1
 
   -- as many `undo` as members stand
-  record AreTakenBack (undos : List CommandAt) : Type 0 where
-    pub none : (obeyed k undos last).refused ≡ 0
-    pub silent : (obeyed k undos last).report ≡ []
-    pub back : (obeyed k undos last).shown.text ≡ makefile
+  record AreTakenBack (undos : List Step) : Type 0 where
+    pub none : (obeyed_steps k undos last).refused ≡ 0
+    pub silent : (obeyed_steps k undos last).report ≡ []
+    pub back : (obeyed_steps k undos last).shown.text ≡ makefile
 
-  all-back : (machine_after k commands makefile depth).floor ≡ 0 → (machine_after k commands makefile depth).group ≡ None
-      → (undos : List CommandAt) → AreUndos undos → length undos ≡ length (machine_after k commands makefile depth).done
+  all-back : (machine_after k steps makefile depth).floor ≡ 0 → (machine_after k steps makefile depth).group ≡ None
+      → (undos : List Step) → AreUndos undos → length undos ≡ length (machine_after k steps makefile depth).done
       → AreTakenBack undos
   unfolding seen last
   all-back floor group undos are number =
       let them = undo-replies undos last are in
-      let calls = subst (λ (cs : List Call). AreCalls cs (seen last) (seen (obeyed true undos last).shown)) them.calls_are (are-calls true undos last) in
-      let back = all-undone depth makefile (tried k commands (shown_opened depth makefile)) (seen last) session-calls floor group them.replies (seen (obeyed true undos last).shown) (them.number_is ∙ number) calls in
+      let calls = subst (λ (cs : List Call). AreCalls cs (seen last) (seen (obeyed_steps true undos last).shown)) them.calls_are (are-calls true undos last) in
+      let back = all-undone depth makefile (tried k steps (shown_opened depth makefile)) (seen last) session-calls floor group them.replies (seen (obeyed_steps true undos last).shown) (them.number_is ∙ number) calls in
       let granted = subst AllGranted (sym them.calls_are) (granted-replies them.replies back.0) in
-      let same = none-refused k undos last granted in
+      let same = none-refused k undos last are granted in
       record { none = same.0; silent = same.1; back = ap (λ (s : Shown (List ℕ)). s.text) same.2 ∙ back.1 }
 
-  -- the commands with such `undo` behind them
-  put-back : (undos : List CommandAt) → AreTakenBack undos → GoesOn k (obeyed k commands (shown_opened depth makefile)).refused
-      → result_after k (obeyed k (commands ++ undos) (shown_opened depth makefile))
-      ≡ record { outcome = outcome_after (obeyed k commands (shown_opened depth makefile)).refused; report = (obeyed k commands (shown_opened depth makefile)).report; output = Some makefile }
+  -- the steps with such `undo` behind them
+  put-back : (undos : List Step) → AreTakenBack undos → GoesOn k (obeyed_steps k steps (shown_opened depth makefile)).refused
+      → result_after k (obeyed_steps k (steps ++ undos) (shown_opened depth makefile))
+      ≡ record { outcome = outcome_after (obeyed_steps k steps (shown_opened depth makefile)).refused; report = (obeyed_steps k steps (shown_opened depth makefile)).report; output = Some makefile }
   unfolding last
   put-back undos them on =
-      let did = obeyed k commands (shown_opened depth makefile) in
-      ap (result_after k) (obeyed-append k commands undos (shown_opened depth makefile) on)
-      ∙ joined-result k did (obeyed k undos did.shown) makefile on them.none them.silent them.back
+      let did = obeyed_steps k steps (shown_opened depth makefile) in
+      ap (result_after k) (obeyed-append k steps undos (shown_opened depth makefile) on)
+      ∙ joined-result k did (obeyed_steps k undos did.shown) makefile on them.none them.silent them.back
 
-  every-byte_kept : KeepEveryByte k commands makefile depth
+  every-byte_kept : KeepEveryByte k steps makefile depth
   unfolding seen last
   every-byte_kept = record {
-    each = do-as_stated (tried k commands (shown_opened depth makefile)) (seen_opened depth makefile) (seen last) session-calls;
+    each = do-as_stated (tried k steps (shown_opened depth makefile)) (seen_opened depth makefile) (seen last) session-calls;
     replayed = replayed;
     undone = λ floor group undos are number. let them = all-back floor group undos are number in (them.none, them.back);
     undone_by_script = λ floor group undos are number on. put-back undos (all-back floor group undos are number) on;
@@ -215,8 +282,54 @@ module _ (makefile : List ℕ) (depth : ℕ) (k : Bool) (commands : List Command
 
 -- runs keep every byte that no edit concerns
 pub runs-keep : RunsKeepEveryByte
-runs-keep makefile script depth k commands result are run = (
-  every-byte_kept makefile depth k commands,
-  of-run makefile script depth k commands result (λ text. text ≡ replay edited makefile (standing (machine_after k commands makefile depth)))
-      (replayed makefile depth k commands) are run,
+runs-keep makefile script depth k steps result are run = (
+  every-byte_kept makefile depth k steps,
+  of-run makefile script depth k steps result (λ text. text ≡ replay edited makefile (standing (machine_after k steps makefile depth)))
+      (replayed makefile depth k steps) are run,
 )
+
+-- ---- scripts without alternatives
+
+commands-next : (k : Bool) (c : CommandAt) (s : Shown (List ℕ)) (others all : Shown (List ℕ) → Obeyed) → ((t : Shown (List ℕ)) → others t ≡ all t)
+    → (a : Answer) → steps_next k s others (alone_end c.line a) ≡ obeyed_next k c s all a
+commands-next k c s others all hyp (Ok new) = hyp new
+commands-next true c s others all hyp (Err q) = ap (λ o. after_refusal c.line q o) (hyp s)
+commands-next false c s others all hyp (Err q) = refl
+
+-- commands alone come to what commands come to
+commands-obeyed : (k : Bool) (commands : List CommandAt) (s : Shown (List ℕ)) → obeyed_steps k (map Alone commands) s ≡ obeyed k commands s
+commands-obeyed k [] s = refl
+commands-obeyed k (c ∷ commands) s =
+    commands-next k c s (λ t. obeyed_steps k (map Alone commands) t) (λ t. obeyed k commands t) (λ t. commands-obeyed k commands t) (answer c.command s)
+
+module _ (makefile script : List ℕ) (depth : ℕ) (k : Bool) (commands : List CommandAt) (result : RunResult) (are : IsScriptOfCommands script commands) where
+  same-result : result_after k (obeyed_steps k (map Alone commands) (shown_opened depth makefile)) ≡ result_after k (obeyed k commands (shown_opened depth makefile))
+  same-result = ap (result_after k) (commands-obeyed k commands (shown_opened depth makefile))
+
+  -- the run of these commands alone is that of the commands
+  to-commands : IsRunOf (map Alone commands) makefile depth k result → IsRunOfCommands commands makefile depth k result
+  to-commands (inl long) = inl long
+  to-commands (inr (short, inl deep)) = inr (short, inl deep)
+  to-commands (inr (short, inr (shallow, is))) = inr (short, inr (shallow, is ∙ same-result))
+
+  from-commands : IsRunOfCommands commands makefile depth k result → IsRunOf (map Alone commands) makefile depth k result
+  from-commands (inl long) = inl long
+  from-commands (inr (short, inl deep)) = inr (short, inl deep)
+  from-commands (inr (short, inr (shallow, is))) = inr (short, inr (shallow, is ∙ sym same-result))
+
+  to-run : IsRun makefile script depth k result
+      → InCase (IsBadDepth depth) (result ≡ stopped BadDepth) (InCase (IsTooLong script) (result ≡ stopped TooLong) (IsRunOfCommands commands makefile depth k result))
+  to-run (inl bad) = inl bad
+  to-run (inr (good, inl long)) = inr (good, inl long)
+  to-run (inr (good, inr (short, inl (line, none, is)))) = absurd (not-both script (map Alone commands) line (commands-steps script commands are) none)
+  to-run (inr (good, inr (short, inr (steps, other, run)))) =
+      inr (good, inr (short, to-commands (subst (λ (ss : List Step). IsRunOf ss makefile depth k result) (steps-one script steps (map Alone commands) other (commands-steps script commands are)) run)))
+
+  from-run : InCase (IsBadDepth depth) (result ≡ stopped BadDepth) (InCase (IsTooLong script) (result ≡ stopped TooLong) (IsRunOfCommands commands makefile depth k result))
+      → IsRun makefile script depth k result
+  from-run (inl bad) = inl bad
+  from-run (inr (good, inl long)) = inr (good, inl long)
+  from-run (inr (good, inr (short, run))) = inr (good, inr (short, inr (map Alone commands, commands-steps script commands are, from-commands run)))
+
+pub commands-stay : RunsOfCommandsStay
+commands-stay makefile script depth k commands result are = (to-run makefile script depth k commands result are, from-run makefile script depth k commands result are)

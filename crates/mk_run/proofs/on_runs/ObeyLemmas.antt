@@ -1,26 +1,21 @@
--- The commands of a run, obeyed by a session one after the other.
+-- The steps of a run, obeyed by a session one after the other.
 use Rattle.std.proofs.Common.{◌≡◌, refl, sym, ap, subst, ◌∙◌, arith, ℕ, suc, zero, ◌+◌, ◌<◌, Bool, true, false, List, [], ◌∷◌, ◌++◌, length, take, drop, map, get_or, Ok, Err, Option}
-use Rattle.std.specs.Prelude.{Result}
 use Rattle.std.specs.Io.KnownBytes.{Appends}
 use Rattle.std.proofs.KnownBytes.{Appends-nil, Appends-trans}
 use Rattle.std.proofs.lemmas.List.{append-nil, length-map, take_more, get_or-map}
 use Rattle.mk_lines.specs.Device.{AppendsPrefix}
 use Rattle.mk_lines.proofs.PrefixLemmas.{AppendsPrefix-front, AppendsPrefix-more}
-use Rattle.mk_edit_language.specs.Edits.{Edit}
 use Rattle.mk_edit_language.specs.declared.refusal.Refusal.{Refusal}
-use Rattle.mk_edit_language.specs.declared.refusal.Refusal.TheVariants as refusal
 use Rattle.mk_history.specs.Machine as machine
-use Rattle.mk_history.specs.Machine.{Command}
 use Rattle.mk_history.specs.Shown.{Shown}
-use Rattle.mk_history.specs.CallSteps.{Granted, Refused, NoMemory, IsStep}
-use Rattle.mk_session.specs.Sessions.{Seen, answer, session_refusal}
-use Rattle.mk_session.specs.Calls.{Reply, IsCall, IsTold, IsAnswered, takes_memory}
-use Rattle.mk_session.proofs.on_sessions.RefusalLemmas.{answer-other}
-use Rattle.mk_script.specs.Scripts.{CommandAt}
+use Rattle.mk_session.specs.Sessions.{answer, session_refusal}
+use Rattle.mk_script.specs.Scripts.{Step}
 use Rattle.mk_run.specs.Report.{report_line}
-use Rattle.mk_run.specs.ObeyedCommands.{Obeyed, obeyed_next, obeyed}
+use Rattle.mk_run.specs.ObeyedCommands.{Obeyed}
+use Rattle.mk_run.specs.ObeyedSteps.{StepEnd, Tries, step_end, steps_next, obeyed_steps}
 use Rattle.mk_run.specs.RunEnds.{GoesOn, IsLeftShort, IsLeftUnreported, written}
-use Rattle.mk_run.specs.RunSteps.{AreObeyed, AreEnded}
+use Rattle.mk_run.specs.RunSteps.{IsStepRefused, IsStepShort, AreObeyed, AreEnded}
+use Rattle.mk_run.specs.declared.step.RefusedCommand.{RefusedCommand}
 use Rattle.mk_run.proofs.on_runs.CommandLemmas.{joined, obeyed-append}
 
 -- ---- a list at one of its indices
@@ -45,158 +40,130 @@ pub mapped-more : {X Y : Type 0} (f : X → Y) (xs : List X) (i : ℕ) (x : X) �
 mapped-more f xs i x below is =
     sym (take_more (map f xs) i (f x) (omega (arith, below, length-map xs f)) ∙ ap (λ y. take i (map f xs) ++ y ∷ []) (mapped-is f xs i x below is))
 
--- ---- what a call gave back
+-- the values from an index on
+pub mapped-drop : {X Y : Type 0} (f : X → Y) (xs : List X) (i : ℕ) (x : X) → i < length xs → x ≡ get_or xs i x → drop i (map f xs) ≡ f x ∷ drop (suc i) (map f xs)
+mapped-drop f [] i x below is = absurd (omega (arith, below))
+mapped-drop f (y ∷ xs) zero x below is = ap (λ z. f z ∷ map f xs) (sym is)
+mapped-drop f (y ∷ xs) (suc i) x below is = mapped-drop f xs i x (omega (arith, below)) is
 
-answered-granted : (c : Command Edit) (x y : Seen) (r : Reply) → r ≡ Granted → IsStep answer c r x.shown y.shown → answer c x.shown ≡ Ok y.shown
-answered-granted c x y Granted told step = step
-answered-granted c x y (Refused q) told step = absurd (cc)
-answered-granted c x y NoMemory told step = absurd (cc)
+-- and none behind the last one
+pub mapped-dropped : {X Y : Type 0} (f : X → Y) (xs : List X) (i : ℕ) → (i < length xs → ⊥) → drop i (map f xs) ≡ []
+mapped-dropped f [] zero above = refl
+mapped-dropped f [] (suc i) above = refl
+mapped-dropped f (x ∷ xs) zero above = absurd (above (omega arith))
+mapped-dropped f (x ∷ xs) (suc i) above = mapped-dropped f xs i (λ less. above (omega (arith, less)))
 
--- a call that was done
-pub answered-ok : (c : Command Edit) (u : Unit {0}) (x y : Seen) → IsAnswered c (Ok u) x y → answer c x.shown ≡ Ok y.shown
-answered-ok c u x y h = answered-granted c x y h.reply h.told h.call.step
+-- ---- one step after the others
 
--- the machine refused, and nothing changed
-pub record IsRefusedCall (c : Command Edit) (r : Refusal) (before after : Shown (List ℕ)) : Type 0 where
-  pub cause : machine.Refusal Refusal
-  pub refused : answer c before ≡ Err cause
-  pub told : r ≡ session_refusal cause
-  pub same : after ≡ before
-
-refused-reply : (c : Command Edit) (e : Refusal) (x y : Seen) (r : Reply) → IsTold (Err e) r → IsStep answer c r x.shown y.shown → (e ≡ refusal.NoMemory → ⊥) → IsRefusedCall c e x.shown y.shown
-refused-reply c e x y Granted told step other = absurd told
-refused-reply c e x y (Refused q) told step other = record { cause = q; refused = step.0; told = told; same = step.1 }
-refused-reply c e x y NoMemory told step other = absurd (other told)
-
--- a call that was refused, and not for want of memory
-pub answered-err : (c : Command Edit) (e : Refusal) (x y : Seen) → IsAnswered c (Err e) x y → (e ≡ refusal.NoMemory → ⊥) → IsRefusedCall c e x.shown y.shown
-answered-err c e x y h other = refused-reply c e x y h.reply h.told h.call.step other
-
--- the machine grants a call that takes memory, and nothing changed
-pub record IsGrantedCall (c : Command Edit) (before after : Shown (List ℕ)) : Type 0 where
-  pub new : Shown (List ℕ)
-  pub takes : takes_memory c ≡ true
-  pub granted : answer c before ≡ Ok new
-  pub same : after ≡ before
-
-short-reply : (c : Command Edit) (e : Refusal) (x y : Seen) (r : Reply) → IsTold (Err e) r → IsCall (c, r) x y → e ≡ refusal.NoMemory → IsGrantedCall c x.shown y.shown
-short-reply c e x y Granted told call none = absurd told
-short-reply c e x y (Refused q) told call none = absurd (answer-other c x.shown q call.step.0 (sym told ∙ none))
-short-reply c e x y NoMemory told call none = let g = call.granted_else refl in record { new = g.0; takes = call.memory refl; granted = g.1; same = call.step }
-
--- a call that found no memory
-pub answered-short : (c : Command Edit) (e : Refusal) (x y : Seen) → IsAnswered c (Err e) x y → e ≡ refusal.NoMemory → IsGrantedCall c x.shown y.shown
-answered-short c e x y h none = short-reply c e x y h.reply h.told h.call none
-
--- ---- one command after the others
-
-at-command : (k : Bool) (earlier : List CommandAt) (c : CommandAt) (later : List CommandAt) (first : Shown (List ℕ)) (a : Result (Shown (List ℕ)) (machine.Refusal Refusal))
-    → GoesOn k (obeyed k earlier first).refused → answer c.command (obeyed k earlier first).shown ≡ a
-    → obeyed k (earlier ++ c ∷ later) first ≡ joined (obeyed k earlier first) (obeyed_next k c (obeyed k earlier first).shown (λ t. obeyed k later t) a)
-at-command k earlier c later first a on h =
+at-step : (k : Bool) (earlier : List Step) (c : Step) (later : List Step) (first : Shown (List ℕ)) (a : StepEnd)
+    → GoesOn k (obeyed_steps k earlier first).refused → step_end c (obeyed_steps k earlier first).shown ≡ a
+    → obeyed_steps k (earlier ++ c ∷ later) first ≡ joined (obeyed_steps k earlier first) (steps_next k (obeyed_steps k earlier first).shown (λ t. obeyed_steps k later t) a)
+at-step k earlier c later first a on h =
     obeyed-append k earlier (c ∷ later) first on
-    ∙ ap (λ x. joined (obeyed k earlier first) (obeyed_next k c (obeyed k earlier first).shown (λ t. obeyed k later t) x)) h
+    ∙ ap (λ x. joined (obeyed_steps k earlier first) (steps_next k (obeyed_steps k earlier first).shown (λ t. obeyed_steps k later t) x)) h
 
-module _ (k : Bool) (earlier : List CommandAt) (c : CommandAt) (later : List CommandAt) (first x : Shown (List ℕ)) (n : ℕ) (a b : Option (List ℕ)) (did : AreObeyed k earlier first x n (written a b)) where
-  reached : GoesOn k (obeyed k earlier first).refused
+module _ (k : Bool) (earlier : List Step) (c : Step) (later : List Step) (first x : Shown (List ℕ)) (n : ℕ) (a b : Option (List ℕ)) (did : AreObeyed k earlier first x n (written a b)) where
+  reached : GoesOn k (obeyed_steps k earlier first).refused
   reached off = sym did.number ∙ did.goes_on off
 
-  at-shown : (r : Result (Shown (List ℕ)) (machine.Refusal Refusal)) → answer c.command x ≡ r → answer c.command (obeyed k earlier first).shown ≡ r
-  at-shown r h = ap (answer c.command) (sym did.shown) ∙ h
+  at-shown : (r : StepEnd) → step_end c x ≡ r → step_end c (obeyed_steps k earlier first).shown ≡ r
+  at-shown r h = ap (step_end c) (sym did.shown) ∙ h
 
-  -- a command that is granted
-  pub granted-next : (y : Shown (List ℕ)) → answer c.command x ≡ Ok y → AreObeyed k (earlier ++ c ∷ []) first y n (written a b)
+  -- a step that is done
+  pub granted-next : (y : Shown (List ℕ)) → step_end c x ≡ Ok y → AreObeyed k (earlier ++ c ∷ []) first y n (written a b)
   granted-next y h =
-      let all = at-command k earlier c [] first (Ok y) reached (at-shown (Ok y) h) in
+      let all = at-step k earlier c [] first (Ok y) reached (at-shown (Ok y) h) in
       record {
         goes_on = did.goes_on;
         number = omega (arith, did.number, ap (λ o. o.refused) all);
         shown = sym (ap (λ (o : Obeyed). o.shown) all);
-        reported = subst (Appends a b) (sym (append-nil (obeyed k earlier first).report) ∙ sym (ap (λ (o : Obeyed). o.report) all)) did.reported;
+        reported = subst (Appends a b) (sym (append-nil (obeyed_steps k earlier first).report) ∙ sym (ap (λ (o : Obeyed). o.report) all)) did.reported;
       }
 
-  -- a command that finds no memory
-  pub short-next : (y : Shown (List ℕ)) → IsGrantedCall c.command x y → IsLeftShort k (earlier ++ c ∷ later) first y (written a b)
+  -- a step that finds no memory
+  pub short-next : (y : Shown (List ℕ)) → IsStepShort (λ d. Tries c x d) x y → IsLeftShort k (earlier ++ c ∷ later) first y (written a b)
   short-next y g = record {
-    lines = (obeyed k earlier first).report;
+    lines = (obeyed_steps k earlier first).report;
     is_short = record {
       earlier = earlier;
-      command = c;
+      step = c;
       later = later;
-      new = g.new;
-      commands_are = refl;
+      command = g.command;
+      new = g.after;
+      steps_are = refl;
       reached = reached;
       reported = refl;
+      tries = subst (λ (t : Shown (List ℕ)). Tries c t g.command) did.shown g.tried;
       takes = g.takes;
-      granted = at-shown (Ok g.new) g.granted;
+      granted = ap (answer g.command) (sym did.shown) ∙ g.granted;
     };
     is_out = did.reported;
     shown = g.same ∙ did.shown;
   }
 
 -- what goes out for a refusal begins with its line
-begins-with-line : (k : Bool) (c : CommandAt) (s : Shown (List ℕ)) (others : Shown (List ℕ) → Obeyed) (q : machine.Refusal Refusal)
-    → (rest : List ℕ) × ((obeyed_next k c s others (Err q)).report ≡ report_line c.line (session_refusal q) ++ rest)
-begins-with-line true c s others q = ((others s).report, refl)
-begins-with-line false c s others q = ([], refl)
+begins-with-line : (k : Bool) (s : Shown (List ℕ)) (others : Shown (List ℕ) → Obeyed) (n : ℕ) (q : machine.Refusal Refusal)
+    → (rest : List ℕ) × ((steps_next k s others (Err (n, q))).report ≡ report_line n (session_refusal q) ++ rest)
+begins-with-line true s others n q = ((others s).report, refl)
+begins-with-line false s others n q = ([], refl)
 
-module _ (earlier : List CommandAt) (c : CommandAt) (later : List CommandAt) (first x y : Shown (List ℕ)) (n : ℕ) (a b d : Option (List ℕ)) (r : Refusal) (h : IsRefusedCall c.command r x y) where
-  -- a command that is refused, and does not end the run
-  pub refused-next : (k : Bool) → AreObeyed k earlier first x n (written a b) → Appends b d (report_line c.line r) → k ≡ true → AreObeyed k (earlier ++ c ∷ []) first y (n + 1) (written a d)
+module _ (earlier : List Step) (c : Step) (later : List Step) (first x y : Shown (List ℕ)) (n : ℕ) (a b d : Option (List ℕ)) (r : RefusedCommand) (h : IsStepRefused (step_end c x) r x y) where
+  -- a step whose refusal is told, and does not end the run
+  pub refused-next : (k : Bool) → AreObeyed k earlier first x n (written a b) → Appends b d (report_line r.line r.refusal) → k ≡ true → AreObeyed k (earlier ++ c ∷ []) first y (n + 1) (written a d)
   refused-next false did out on = absurd (cc)
   refused-next true did out on =
-      let o = obeyed true earlier first in
-      let all = at-command true earlier c [] first (Err h.cause) (reached true earlier c later first x n a b did) (at-shown true earlier c later first x n a b did (Err h.cause) h.refused) in
-      let line = report_line c.line (session_refusal h.cause) in
+      let o = obeyed_steps true earlier first in
+      let all = at-step true earlier c [] first (Err (r.line, h.cause)) (reached true earlier c later first x n a b did) (at-shown true earlier c later first x n a b did (Err (r.line, h.cause)) h.end_is) in
+      let line = report_line r.line (session_refusal h.cause) in
       record {
         goes_on = λ off. absurd (cc);
         number = omega (arith, did.number, ap (λ o. o.refused) all);
         shown = h.same ∙ (did.shown ∙ sym (ap (λ (o : Obeyed). o.shown) all));
         reported = subst (Appends a d)
-            (ap (λ (q : Refusal). o.report ++ report_line c.line q) h.told ∙ (ap (λ l. o.report ++ l) (sym (append-nil line)) ∙ sym (ap (λ (o : Obeyed). o.report) all)))
-            (Appends-trans a b d o.report (report_line c.line r) did.reported out);
+            (ap (λ (q : Refusal). o.report ++ report_line r.line q) h.told ∙ (ap (λ l. o.report ++ l) (sym (append-nil line)) ∙ sym (ap (λ (o : Obeyed). o.report) all)))
+            (Appends-trans a b d o.report (report_line r.line r.refusal) did.reported out);
       }
 
-  -- a command that is refused, and ends the run
-  pub refused-last : (k : Bool) → AreObeyed k earlier first x n (written a b) → Appends b d (report_line c.line r) → k ≡ false → AreEnded k (earlier ++ c ∷ later) first y (n + 1) (written a d)
+  -- a step whose refusal is told, and ends the run
+  pub refused-last : (k : Bool) → AreObeyed k earlier first x n (written a b) → Appends b d (report_line r.line r.refusal) → k ≡ false → AreEnded k (earlier ++ c ∷ later) first y (n + 1) (written a d)
   refused-last true did out off = absurd (cc)
   refused-last false did out off =
-      let o = obeyed false earlier first in
-      let all = at-command false earlier c later first (Err h.cause) (reached false earlier c later first x n a b did) (at-shown false earlier c later first x n a b did (Err h.cause) h.refused) in
-      let line = report_line c.line (session_refusal h.cause) in
+      let o = obeyed_steps false earlier first in
+      let all = at-step false earlier c later first (Err (r.line, h.cause)) (reached false earlier c later first x n a b did) (at-shown false earlier c later first x n a b did (Err (r.line, h.cause)) h.end_is) in
+      let line = report_line r.line (session_refusal h.cause) in
       record {
         ends = refl;
         one = omega (arith, did.goes_on refl);
         number = omega (arith, did.number, ap (λ o. o.refused) all);
         shown = h.same ∙ (did.shown ∙ sym (ap (λ (o : Obeyed). o.shown) all));
         reported = subst (Appends a d)
-            (ap (λ (q : Refusal). o.report ++ report_line c.line q) h.told ∙ (ap (λ l. o.report ++ l) (sym (append-nil line)) ∙ sym (ap (λ (o : Obeyed). o.report) all)))
-            (Appends-trans a b d o.report (report_line c.line r) did.reported out);
+            (ap (λ (q : Refusal). o.report ++ report_line r.line q) h.told ∙ (ap (λ l. o.report ++ l) (sym (append-nil line)) ∙ sym (ap (λ (o : Obeyed). o.report) all)))
+            (Appends-trans a b d o.report (report_line r.line r.refusal) did.reported out);
       }
 
-  -- a command that is refused, and whose line could not be written
-  pub refused-cut : (k : Bool) → AreObeyed k earlier first x n (written a b) → AppendsPrefix b d (report_line c.line r) → AppendsPrefix a d (obeyed k (earlier ++ c ∷ later) first).report
+  -- a step whose refusal is told, and whose line could not be written
+  pub refused-cut : (k : Bool) → AreObeyed k earlier first x n (written a b) → AppendsPrefix b d (report_line r.line r.refusal) → AppendsPrefix a d (obeyed_steps k (earlier ++ c ∷ later) first).report
   refused-cut k did out =
-      let o = obeyed k earlier first in
-      let all = at-command k earlier c later first (Err h.cause) (reached k earlier c later first x n a b did) (at-shown k earlier c later first x n a b did (Err h.cause) h.refused) in
-      let line = begins-with-line k c o.shown (λ t. obeyed k later t) h.cause in
+      let o = obeyed_steps k earlier first in
+      let all = at-step k earlier c later first (Err (r.line, h.cause)) (reached k earlier c later first x n a b did) (at-shown k earlier c later first x n a b did (Err (r.line, h.cause)) h.end_is) in
+      let line = begins-with-line k o.shown (λ t. obeyed_steps k later t) r.line h.cause in
       subst (AppendsPrefix a d)
-      (ap (λ (q : Refusal). o.report ++ (report_line c.line q ++ line.0)) h.told ∙ (ap (λ l. o.report ++ l) (sym line.1) ∙ sym (ap (λ (o : Obeyed). o.report) all)))
-      (AppendsPrefix-more a b d o.report (report_line c.line r ++ line.0) did.reported (AppendsPrefix-front b d (report_line c.line r) line.0 out))
+      (ap (λ (q : Refusal). o.report ++ (report_line r.line q ++ line.0)) h.told ∙ (ap (λ l. o.report ++ l) (sym line.1) ∙ sym (ap (λ (o : Obeyed). o.report) all)))
+      (AppendsPrefix-more a b d o.report (report_line r.line r.refusal ++ line.0) did.reported (AppendsPrefix-front b d (report_line r.line r.refusal) line.0 out))
 
-  -- a command that is refused, and whose line is not out
+  -- a step whose refusal is told, and whose line is not out
   pub refused-unreported : (k : Bool) → AreObeyed k earlier first x n (written a b) → IsLeftUnreported k (earlier ++ c ∷ later) first y
   refused-unreported k did = record {
     earlier = earlier;
-    command = c;
+    step = c;
     later = later;
-    cause = h.cause;
-    commands_are = refl;
+    told = (r.line, h.cause);
+    steps_are = refl;
     reached = reached k earlier c later first x n a b did;
     shown = h.same ∙ did.shown;
-    refused = ap (answer c.command) h.same ∙ h.refused;
+    refused = ap (step_end c) h.same ∙ h.end_is;
   }
 
--- no command yet
+-- no step yet
 pub none-obeyed : (k : Bool) (first last : Shown (List ℕ)) (a : Option (List ℕ)) → last ≡ first → AreObeyed k [] first last 0 (written a a)
 none-obeyed k first last a same = record { goes_on = λ off. refl; number = refl; shown = same; reported = Appends-nil a }

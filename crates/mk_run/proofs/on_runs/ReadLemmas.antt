@@ -7,9 +7,9 @@ use Rattle.mk_lines.specs.Device.{IsSourceFault}
 use Rattle.mk_lines.specs.declared.fault.Fault as f
 use Rattle.mk_lines.specs.declared.fault.Fault.TheVariants as fault
 use Rattle.mk_run.specs.Outcome.{outcome_of}
-use Rattle.mk_script.specs.Scripts.{CommandAt}
+use Rattle.mk_script.specs.Scripts.{Step}
 use Rattle.mk_run.specs.Runs.{IsTooLong}
-use Rattle.mk_run.specs.RunSteps.{Gives, GivesCommands, StopsScript, StopsMakefile}
+use Rattle.mk_run.specs.RunSteps.{Gives, GivesSteps, StopsScript, StopsMakefile}
 use Rattle.mk_run.specs.declared.outcome.Outcome.TheVariants.{TooLong}
 
 -- there is a text that is longer than `n` bytes
@@ -25,10 +25,10 @@ if_some : (bytes : Option (List ℕ)) (P : Type 0) (Q : List ℕ → Type 0) →
 if_some None P Q p h = tt
 if_some (Some told) P Q p h = h p
 
--- a script whose commands are known is not too long
-pub short-script : (bytes : Option (List ℕ)) (commands : List CommandAt) (P : Type 0) → GivesCommands bytes commands → IfSome bytes (λ told. IsTooLong told → P)
-short-script None commands P h = tt
-short-script (Some told) commands P h = λ long. absurd (h.short (subst IsTooLong (sym h.has_text) long))
+-- a script whose steps are known is not too long
+pub short-script : (bytes : Option (List ℕ)) (steps : List Step) (P : Type 0) → GivesSteps bytes steps → IfSome bytes (λ told. IsTooLong told → P)
+short-script None steps P h = tt
+short-script (Some told) steps P h = λ long. absurd (h.short (subst IsTooLong (sym h.has_text) long))
 
 -- what reading a source to its end says of a fault
 pub record SaysFault {T : Type 0} (result : Result T f.Fault) (bytes : Option (List ℕ)) (failed : Bool) : Type 0 where

@@ -6,9 +6,9 @@ use Rattle.mk_lines.specs.Limits.{max_text}
 use Rattle.mk_tree.specs.Documents.{IsTooDeep}
 use Rattle.mk_history.specs.Shown.{shown_opened}
 use Rattle.mk_session.specs.Sessions.{IsBadDepth}
-use Rattle.mk_script.specs.Scripts.{CommandAt, IsScript, HasNoCommand}
-use Rattle.mk_script.proofs.on_scripts.OneLemmas.{commands-one, not-both, fault-one, script-read}
-use Rattle.mk_run.specs.ObeyedCommands.{obeyed}
+use Rattle.mk_script.specs.Scripts.{Step, IsScript, HasNoCommand}
+use Rattle.mk_script.proofs.on_scripts.OneLemmas.{steps-one, not-both, fault-one, script-read}
+use Rattle.mk_run.specs.ObeyedSteps.{obeyed_steps}
 use Rattle.mk_run.specs.Runs.{RunResult, IsTooLong, InCase, IsRunOf, IsRun, stopped, result_after}
 use Rattle.mk_run.specs.declared.outcome.Outcome.TheVariants.{NotACommand, BadDepth, TooLong, TooDeep}
 
@@ -35,17 +35,17 @@ bad-or_not depth = bad-or depth (decided depth 1 (cases_lt depth 1)) (decided 10
 -- ---- a run has a result
 
 module _ (makefile script : List ℕ) (depth : ℕ) (k : Bool) where
-  commands-run : (commands : List CommandAt) → IsTooLong makefile ⊎ (IsTooLong makefile → ⊥) → IsTooDeep makefile ⊎ (IsTooDeep makefile → ⊥)
-      → (r : RunResult) × IsRunOf commands makefile depth k r
-  commands-run commands (inl long) deep = (stopped TooLong, inl (long, refl))
-  commands-run commands (inr short) (inl deep) = (stopped TooDeep, inr (short, inl (deep, refl)))
-  commands-run commands (inr short) (inr shallow) = (result_after k (obeyed k commands (shown_opened depth makefile)), inr (short, inr (shallow, refl)))
+  steps-run : (steps : List Step) → IsTooLong makefile ⊎ (IsTooLong makefile → ⊥) → IsTooDeep makefile ⊎ (IsTooDeep makefile → ⊥)
+      → (r : RunResult) × IsRunOf steps makefile depth k r
+  steps-run steps (inl long) deep = (stopped TooLong, inl (long, refl))
+  steps-run steps (inr short) (inl deep) = (stopped TooDeep, inr (short, inl (deep, refl)))
+  steps-run steps (inr short) (inr shallow) = (result_after k (obeyed_steps k steps (shown_opened depth makefile)), inr (short, inr (shallow, refl)))
 
-  script-run : (IsBadDepth depth → ⊥) → (IsTooLong script → ⊥) → ((commands : List CommandAt) × IsScript script commands) ⊎ ((line : ℕ) × HasNoCommand script line)
+  script-run : (IsBadDepth depth → ⊥) → (IsTooLong script → ⊥) → ((steps : List Step) × IsScript script steps) ⊎ ((line : ℕ) × HasNoCommand script line)
       → (r : RunResult) × IsRun makefile script depth k r
-  script-run good short (inl (commands, are)) =
-      let r = commands-run commands (long-or_not makefile) (deep-or_not makefile) in
-      (r.0, inr (good, inr (short, inr (commands, are, r.1))))
+  script-run good short (inl (steps, are)) =
+      let r = steps-run steps (long-or_not makefile) (deep-or_not makefile) in
+      (r.0, inr (good, inr (short, inr (steps, are, r.1))))
   script-run good short (inr (line, is)) = (stopped (NotACommand line), inr (good, inr (short, inl (line, is, refl))))
 
   short-run : (IsBadDepth depth → ⊥) → IsTooLong script ⊎ (IsTooLong script → ⊥) → (r : RunResult) × IsRun makefile script depth k r
@@ -70,27 +70,27 @@ not-case : {C A B : Type 0} → InCase C A B → (C → ⊥) → B
 not-case (inl (c, a)) none = absurd (none c)
 not-case (inr (other, b)) none = b
 
-module _ (makefile : List ℕ) (depth : ℕ) (k : Bool) (commands : List CommandAt) (r q : RunResult) where
-  deep-same : InCase (IsTooDeep makefile) (r ≡ stopped TooDeep) (r ≡ result_after k (obeyed k commands (shown_opened depth makefile)))
-      → InCase (IsTooDeep makefile) (q ≡ stopped TooDeep) (q ≡ result_after k (obeyed k commands (shown_opened depth makefile))) → r ≡ q
+module _ (makefile : List ℕ) (depth : ℕ) (k : Bool) (steps : List Step) (r q : RunResult) where
+  deep-same : InCase (IsTooDeep makefile) (r ≡ stopped TooDeep) (r ≡ result_after k (obeyed_steps k steps (shown_opened depth makefile)))
+      → InCase (IsTooDeep makefile) (q ≡ stopped TooDeep) (q ≡ result_after k (obeyed_steps k steps (shown_opened depth makefile))) → r ≡ q
   deep-same (inl (deep, is)) other = is ∙ sym (in-case other deep)
   deep-same (inr (shallow, is)) other = is ∙ sym (not-case other shallow)
 
-  commands-same : IsRunOf commands makefile depth k r → IsRunOf commands makefile depth k q → r ≡ q
-  commands-same (inl (long, is)) other = is ∙ sym (in-case other long)
-  commands-same (inr (short, rest)) other = deep-same rest (not-case other short)
+  steps-same : IsRunOf steps makefile depth k r → IsRunOf steps makefile depth k q → r ≡ q
+  steps-same (inl (long, is)) other = is ∙ sym (in-case other long)
+  steps-same (inr (short, rest)) other = deep-same rest (not-case other short)
 
 module _ (makefile script : List ℕ) (depth : ℕ) (k : Bool) (r q : RunResult) where
   Rest : RunResult → Type 0
-  Rest x = ((line : ℕ) × HasNoCommand script line × (x ≡ stopped (NotACommand line))) ⊎ ((commands : List CommandAt) × IsScript script commands × IsRunOf commands makefile depth k x)
+  Rest x = ((line : ℕ) × HasNoCommand script line × (x ≡ stopped (NotACommand line))) ⊎ ((steps : List Step) × IsScript script steps × IsRunOf steps makefile depth k x)
 
   rest-same : Rest r → Rest q → r ≡ q
   unfolding Rest
   rest-same (inl (line, is, end)) (inl (other, is_other, end_other)) = end ∙ (ap (λ n. stopped (NotACommand n)) (fault-one script line other is is_other) ∙ sym end_other)
-  rest-same (inl (line, is, end)) (inr (commands, are, run)) = absurd (not-both script commands line are is)
-  rest-same (inr (commands, are, run)) (inl (line, is, end)) = absurd (not-both script commands line are is)
-  rest-same (inr (commands, are, run)) (inr (others, are_other, run_other)) =
-      commands-same makefile depth k commands r q run (rw (commands-one script commands others are are_other) run_other)
+  rest-same (inl (line, is, end)) (inr (steps, are, run)) = absurd (not-both script steps line are is)
+  rest-same (inr (steps, are, run)) (inl (line, is, end)) = absurd (not-both script steps line are is)
+  rest-same (inr (steps, are, run)) (inr (others, are_other, run_other)) =
+      steps-same makefile depth k steps r q run (rw (steps-one script steps others are are_other) run_other)
 
   script-same : InCase (IsTooLong script) (r ≡ stopped TooLong) (Rest r) → InCase (IsTooLong script) (q ≡ stopped TooLong) (Rest q) → r ≡ q
   script-same (inl (long, is)) other = is ∙ sym (in-case other long)

@@ -5,12 +5,12 @@ use Rattle.std.specs.Io.KnownBytes.{Appends}
 use Rattle.std.proofs.KnownBytes.{Appends-nil, Keeps-refl}
 use Rattle.mk_history.specs.Shown.{Shown, shown_opened}
 use Rattle.mk_session.specs.Sessions.{Seen, IsBadDepth}
-use Rattle.mk_script.specs.Scripts.{CommandAt}
-use Rattle.mk_run.specs.ObeyedCommands.{obeyed}
+use Rattle.mk_script.specs.Scripts.{Step}
+use Rattle.mk_run.specs.ObeyedSteps.{obeyed_steps}
 use Rattle.mk_run.specs.Runs.{RunResult, stopped, ended, outcome_after, output_after, result_after}
 use Rattle.mk_run.specs.RunEnds.{HasText, GoesOn, Written, written, IsOut, IsPrefixOut, IsWhole, IsCut, EndsAs, IsLeft, IsLeftRefused, IsLeftShort, IsLeftCut, HandsBack, Leaves, IsRunOver}
 use Rattle.mk_run.specs.Outcome.{is_printed, may_report}
-use Rattle.mk_run.specs.RunSteps.{GivesCommands, GivesSession, AreObeyed, AreEnded, StopsScript, StopsMakefile, StopsCommands, EndsCommands}
+use Rattle.mk_run.specs.RunSteps.{GivesSteps, GivesSession, AreObeyed, AreEnded, StopsScript, StopsMakefile, StopsSteps, EndsSteps}
 use Rattle.mk_run.specs.declared.outcome.Outcome as o
 use Rattle.mk_run.specs.declared.outcome.Outcome.TheVariants.{Done, Refused, NotACommand, BadDepth, TooLong, TooDeep, Read, Write, NoMemory}
 use Rattle.mk_run.proofs.on_runs.ResultLemmas.{has-run}
@@ -27,7 +27,7 @@ unfolding told
 has-told None = tt
 has-told (Some bytes) = refl
 
--- ---- before the commands
+-- ---- before the steps
 
 module _ (makefile script : Option (List ℕ)) (depth : ℕ) (k : Bool) (failed : Bool) (report out : Option (List ℕ)) where
   -- a run of any texts, for an outcome of which nothing is known
@@ -100,39 +100,39 @@ module _ (makefile script : Option (List ℕ)) (depth : ℕ) (k : Bool) (failed 
     script-stops reader_failed TooDeep good stops = absurd stops
     script-stops reader_failed Write good stops = absurd stops
 
-    pub makefile-stops : (commands : List CommandAt) (reader_failed : Bool) (outcome : o.Outcome) → (IsBadDepth depth → ⊥) → GivesCommands script commands → StopsMakefile makefile reader_failed outcome
+    pub makefile-stops : (steps : List Step) (reader_failed : Bool) (outcome : o.Outcome) → (IsBadDepth depth → ⊥) → GivesSteps script steps → StopsMakefile makefile reader_failed outcome
         → EndsEarly outcome
-    makefile-stops commands reader_failed TooLong good says (works, gives) = (
+    makefile-stops steps reader_failed TooLong good says (works, gives) = (
       record {
         makefile_text = gives.text;
         script_text = says.text;
         result = stopped TooLong;
         of_makefile = gives.has_text;
         of_script = says.has_text;
-        is_run = inr (good, inr (says.short, inr (commands, says.is_script, inl (gives.holds, refl))));
+        is_run = inr (good, inr (says.short, inr (steps, says.is_script, inl (gives.holds, refl))));
         ends = nothing-out TooLong;
       },
       refl,
     )
-    makefile-stops commands reader_failed TooDeep good says (works, gives) = (
+    makefile-stops steps reader_failed TooDeep good says (works, gives) = (
       record {
         makefile_text = gives.text;
         script_text = says.text;
         result = stopped TooDeep;
         of_makefile = gives.has_text;
         of_script = says.has_text;
-        is_run = inr (good, inr (says.short, inr (commands, says.is_script, inr (gives.holds.0, inl (gives.holds.1, refl)))));
+        is_run = inr (good, inr (says.short, inr (steps, says.is_script, inr (gives.holds.0, inl (gives.holds.1, refl)))));
         ends = nothing-out TooDeep;
       },
       refl,
     )
-    makefile-stops commands reader_failed NoMemory good says stops = (some-run NoMemory (λ m s r. inl (Keeps-refl report)), inl (refl, Keeps-refl report))
-    makefile-stops commands reader_failed Read good says stops = (some-run Read (λ m s r. Keeps-refl report), refl)
-    makefile-stops commands reader_failed Done good says stops = absurd stops
-    makefile-stops commands reader_failed (Refused n) good says stops = absurd stops
-    makefile-stops commands reader_failed (NotACommand line) good says stops = absurd stops
-    makefile-stops commands reader_failed BadDepth good says stops = absurd stops
-    makefile-stops commands reader_failed Write good says stops = absurd stops
+    makefile-stops steps reader_failed NoMemory good says stops = (some-run NoMemory (λ m s r. inl (Keeps-refl report)), inl (refl, Keeps-refl report))
+    makefile-stops steps reader_failed Read good says stops = (some-run Read (λ m s r. Keeps-refl report), refl)
+    makefile-stops steps reader_failed Done good says stops = absurd stops
+    makefile-stops steps reader_failed (Refused n) good says stops = absurd stops
+    makefile-stops steps reader_failed (NotACommand line) good says stops = absurd stops
+    makefile-stops steps reader_failed BadDepth good says stops = absurd stops
+    makefile-stops steps reader_failed Write good says stops = absurd stops
 
 -- where a makefile was not opened, only Read says that its reader failed, and no text is out
 pub makefile-unopened : (bytes : Option (List ℕ)) (failed : Bool) (outcome : o.Outcome) (k : Bool) → StopsMakefile bytes failed outcome
@@ -147,7 +147,7 @@ makefile-unopened bytes failed (NotACommand line) k stops = absurd stops
 makefile-unopened bytes failed BadDepth k stops = absurd stops
 makefile-unopened bytes failed Write k stops = absurd stops
 
--- ---- the commands
+-- ---- the steps
 
 -- a text goes out where the run goes on
 pub output-some : (k : Bool) (n : ℕ) (text : List ℕ) → GoesOn k n → output_after k n text ≡ Some text
@@ -170,11 +170,11 @@ pub printed-refused : (k : Bool) (n : ℕ) → GoesOn k n → (n ≡ 0 → ⊥) 
 printed-refused true n on some = refl
 printed-refused false n on some = absurd (some (on refl))
 
-module _ (k : Bool) (commands : List CommandAt) (first : Shown (List ℕ)) where
-  ended-by_refusal : (last : Shown (List ℕ)) (n : ℕ) (report : Written) (out : Option (List ℕ)) → AreEnded k commands first last n report
-      → IsWhole (result_after k (obeyed k commands first)) (Refused n) report (written out out)
+module _ (k : Bool) (steps : List Step) (first : Shown (List ℕ)) where
+  ended-by_refusal : (last : Shown (List ℕ)) (n : ℕ) (report : Written) (out : Option (List ℕ)) → AreEnded k steps first last n report
+      → IsWhole (result_after k (obeyed_steps k steps first)) (Refused n) report (written out out)
   ended-by_refusal last n report out are =
-      let did = obeyed k commands first in
+      let did = obeyed_steps k steps first in
       record {
         outcome_is = rw are.one (ap outcome_after (sym are.one ∙ are.number));
         reported = are.reported;
@@ -182,19 +182,19 @@ module _ (k : Bool) (commands : List CommandAt) (first : Shown (List ℕ)) where
             (no-output did.refused (ended did.shown).text (λ text. Appends out out text) (sym are.number ∙ are.one));
       }
 
-  left-by_refusal : (last : Shown (List ℕ)) (n : ℕ) (report out : Written) → AreEnded k commands first last n report → IsLeftRefused k commands first last out
+  left-by_refusal : (last : Shown (List ℕ)) (n : ℕ) (report out : Written) → AreEnded k steps first last n report → IsLeftRefused k steps first last out
   left-by_refusal last n report out are =
-      subst (λ (q : Bool). IsLeftRefused q commands first last out) (sym are.ends)
-      (subst (λ (q : Bool). last ≡ (obeyed q commands first).shown) are.ends are.shown)
+      subst (λ (q : Bool). IsLeftRefused q steps first last out) (sym are.ends)
+      (subst (λ (q : Bool). last ≡ (obeyed_steps q steps first).shown) are.ends are.shown)
 
-  -- the commands did not come to their end, and nothing is out
-  pub stopped-ends : (last : Shown (List ℕ)) (failed : Bool) (outcome : o.Outcome) (report : Written) (out : Option (List ℕ)) → StopsCommands k commands first last failed report outcome
-      → EndsCommands k commands first last failed report (written out out) outcome
+  -- the steps did not come to their end, and nothing is out
+  pub stopped-ends : (last : Shown (List ℕ)) (failed : Bool) (outcome : o.Outcome) (report : Written) (out : Option (List ℕ)) → StopsSteps k steps first last failed report outcome
+      → EndsSteps k steps first last failed report (written out out) outcome
   stopped-ends last failed (Refused n) report out (works, are) = (ended-by_refusal last n report out are, left-by_refusal last n report (written out out) are)
   stopped-ends last failed NoMemory report out (works, short) = short
   stopped-ends last failed Write report out (fails, cut, left) = (
-    subst (λ (f : Bool). IsCut (result_after k (obeyed k commands first)) f report (written out out)) (sym fails) cut,
-    subst (λ (f : Bool). IsLeftCut k f commands first last) (sym fails) left,
+    subst (λ (f : Bool). IsCut (result_after k (obeyed_steps k steps first)) f report (written out out)) (sym fails) cut,
+    subst (λ (f : Bool). IsLeftCut k f steps first last) (sym fails) left,
   )
   stopped-ends last failed Done report out stops = absurd stops
   stopped-ends last failed (NotACommand line) report out stops = absurd stops
@@ -203,78 +203,78 @@ module _ (k : Bool) (commands : List CommandAt) (first : Shown (List ℕ)) where
   stopped-ends last failed TooDeep report out stops = absurd stops
   stopped-ends last failed Read report out stops = absurd stops
 
-  module _ (last : Shown (List ℕ)) (n : ℕ) (report : Written) (are : AreObeyed k commands first last n report) where
+  module _ (last : Shown (List ℕ)) (n : ℕ) (report : Written) (are : AreObeyed k steps first last n report) where
     -- the text goes out
-    text-goes : output_after k (obeyed k commands first).refused (ended (obeyed k commands first).shown).text ≡ Some (ended last).text
+    text-goes : output_after k (obeyed_steps k steps first).refused (ended (obeyed_steps k steps first).shown).text ≡ Some (ended last).text
     text-goes =
-        let did = obeyed k commands first in
+        let did = obeyed_steps k steps first in
         output-some k did.refused (ended did.shown).text (λ off. sym are.number ∙ are.goes_on off) ∙ ap (λ (x : Shown (List ℕ)). Some (ended x).text) (sym are.shown)
 
     wholly : (outcome : o.Outcome) (out : Written) → outcome ≡ outcome_after n → IsOut out (ended last).text
-        → IsWhole (result_after k (obeyed k commands first)) outcome report out
+        → IsWhole (result_after k (obeyed_steps k steps first)) outcome report out
     wholly outcome out is whole = record {
       outcome_is = is ∙ ap outcome_after are.number;
       reported = are.reported;
-      written = if_some-is (output_after k (obeyed k commands first).refused (ended (obeyed k commands first).shown).text) (ended last).text (λ text. IsOut out text) text-goes whole;
+      written = if_some-is (output_after k (obeyed_steps k steps first).refused (ended (obeyed_steps k steps first).shown).text) (ended last).text (λ text. IsOut out text) text-goes whole;
     }
 
     -- what is shown at the end
     module _ (new : Shown (List ℕ)) (is : new ≡ ended last) where
-      all-left : (out : Written) → IsOut out (ended last).text → IsLeft k commands first new out
+      all-left : (out : Written) → IsOut out (ended last).text → IsLeft k steps first new out
       all-left out whole = record {
         shown = is ∙ ap ended are.shown;
         is_out = subst (λ (s : Shown (List ℕ)). IsOut out s.text) (sym is) whole;
       }
 
       -- no command was refused, and the text is out
-      pub done-ends : (failed : Bool) (out : Written) → n ≡ 0 → IsOut out (ended last).text → EndsCommands k commands first new failed report out Done
+      pub done-ends : (failed : Bool) (out : Written) → n ≡ 0 → IsOut out (ended last).text → EndsSteps k steps first new failed report out Done
       done-ends failed out none whole = (wholly Done out (ap outcome_after (sym none)) whole, all-left out whole)
 
-      -- some commands were refused, and the text is out
-      pub refused-ends : (failed : Bool) (out : Written) → (n ≡ 0 → ⊥) → IsOut out (ended last).text → EndsCommands k commands first new failed report out (Refused n)
+      -- some steps were refused, and the text is out
+      pub refused-ends : (failed : Bool) (out : Written) → (n ≡ 0 → ⊥) → IsOut out (ended last).text → EndsSteps k steps first new failed report out (Refused n)
       refused-ends failed out some whole =
           let on = printed-refused k n are.goes_on some in (
             wholly (Refused n) out (refused-is n some) whole,
-            subst (λ (q : Bool). IsLeftRefused q commands first new out) (sym on) (subst (λ (q : Bool). IsLeft q commands first new out) on (all-left out whole)),
+            subst (λ (q : Bool). IsLeftRefused q steps first new out) (sym on) (subst (λ (q : Bool). IsLeft q steps first new out) on (all-left out whole)),
           )
 
       -- the text could not be written or flushed
-      pub cut-ends : (failed : Bool) (out : Written) → failed ≡ false → IsPrefixOut out (ended last).text → EndsCommands k commands first new failed report out Write
+      pub cut-ends : (failed : Bool) (out : Written) → failed ≡ false → IsPrefixOut out (ended last).text → EndsSteps k steps first new failed report out Write
       cut-ends failed out works cut = (
-        subst (λ (f : Bool). IsCut (result_after k (obeyed k commands first)) f report out) (sym works)
+        subst (λ (f : Bool). IsCut (result_after k (obeyed_steps k steps first)) f report out) (sym works)
             (are.reported, ((ended last).text, text-goes, cut)),
-        subst (λ (f : Bool). IsLeftCut k f commands first new) (sym works) (is ∙ ap ended are.shown),
+        subst (λ (f : Bool). IsLeftCut k f steps first new) (sym works) (is ∙ ap ended are.shown),
       )
 
--- the commands were reached, and no text is out
-pub stopped-reached : (k : Bool) (commands : List CommandAt) (first last : Shown (List ℕ)) (failed : Bool) (report : Written) (outcome : o.Outcome) → StopsCommands k commands first last failed report outcome
+-- the steps were reached, and no text is out
+pub stopped-reached : (k : Bool) (steps : List Step) (first last : Shown (List ℕ)) (failed : Bool) (report : Written) (outcome : o.Outcome) → StopsSteps k steps first last failed report outcome
     → (may_report outcome ≡ true) × (is_printed outcome k ≡ false)
-stopped-reached k commands first last failed report (Refused n) (works, are) = (refl, are.ends)
-stopped-reached k commands first last failed report NoMemory stops = (refl, refl)
-stopped-reached k commands first last failed report Write stops = (refl, refl)
-stopped-reached k commands first last failed report Done stops = absurd stops
-stopped-reached k commands first last failed report (NotACommand line) stops = absurd stops
-stopped-reached k commands first last failed report BadDepth stops = absurd stops
-stopped-reached k commands first last failed report TooLong stops = absurd stops
-stopped-reached k commands first last failed report TooDeep stops = absurd stops
-stopped-reached k commands first last failed report Read stops = absurd stops
+stopped-reached k steps first last failed report (Refused n) (works, are) = (refl, are.ends)
+stopped-reached k steps first last failed report NoMemory stops = (refl, refl)
+stopped-reached k steps first last failed report Write stops = (refl, refl)
+stopped-reached k steps first last failed report Done stops = absurd stops
+stopped-reached k steps first last failed report (NotACommand line) stops = absurd stops
+stopped-reached k steps first last failed report BadDepth stops = absurd stops
+stopped-reached k steps first last failed report TooLong stops = absurd stops
+stopped-reached k steps first last failed report TooDeep stops = absurd stops
+stopped-reached k steps first last failed report Read stops = absurd stops
 
--- where the commands were reached, no outcome comes at which none can have been
+-- where the steps were reached, no outcome comes at which none can have been
 pub reached-other : (outcome other : o.Outcome) → may_report outcome ≡ true → may_report other ≡ false → outcome ≡ other → ⊥
 reached-other outcome other reached off h = let on : may_report outcome ≡ may_report other = ap may_report h in absurd (cc)
 
--- a run of commands over a makefile
-module _ (makefile script : Option (List ℕ)) (depth : ℕ) (k : Bool) (commands : List CommandAt) (seen : Seen) (good : IsBadDepth depth → ⊥) (says : GivesCommands script commands) (opens : GivesSession makefile depth seen) where
-  of-commands : (outcome : o.Outcome) (failed : Bool) (report out : Written)
-      → EndsAs opens.text says.text depth k (result_after k (obeyed k commands (shown_opened depth opens.text))) failed report out outcome
+-- a run of steps over a makefile
+module _ (makefile script : Option (List ℕ)) (depth : ℕ) (k : Bool) (steps : List Step) (seen : Seen) (good : IsBadDepth depth → ⊥) (says : GivesSteps script steps) (opens : GivesSession makefile depth seen) where
+  of-steps : (outcome : o.Outcome) (failed : Bool) (report out : Written)
+      → EndsAs opens.text says.text depth k (result_after k (obeyed_steps k steps (shown_opened depth opens.text))) failed report out outcome
       → IsRunOver makefile script depth k outcome failed report out
-  of-commands outcome failed report out ends = record {
+  of-steps outcome failed report out ends = record {
     makefile_text = opens.text;
     script_text = says.text;
-    result = result_after k (obeyed k commands (shown_opened depth opens.text));
+    result = result_after k (obeyed_steps k steps (shown_opened depth opens.text));
     of_makefile = opens.has_text;
     of_script = says.has_text;
-    is_run = inr (good, inr (says.short, inr (commands, says.is_script, inr (opens.short, inr (opens.shallow, refl)))));
+    is_run = inr (good, inr (says.short, inr (steps, says.is_script, inr (opens.short, inr (opens.shallow, refl)))));
     ends = ends;
   }
 
@@ -282,32 +282,32 @@ module _ (makefile script : Option (List ℕ)) (depth : ℕ) (k : Bool) (command
   first-is = ap (λ (s : Seen). s.shown) opens.opened
 
   module _ (failed : Bool) (report out : Written) (session : Seen) where
-    session-of : (Shows : List CommandAt → (first last : Shown (List ℕ)) → Type 0) → Shows commands (shown_opened depth opens.text) session.shown
+    session-of : (Shows : List Step → (first last : Shown (List ℕ)) → Type 0) → Shows steps (shown_opened depth opens.text) session.shown
         → HandsBack makefile script depth Shows (Some session)
     session-of Shows shows = record {
       makefile_text = opens.text;
       script_text = says.text;
-      commands = commands;
+      steps = steps;
       of_makefile = opens.has_text;
       of_script = says.has_text;
-      are_commands = says.is_script;
+      are_steps = says.is_script;
       shows = shows;
     }
 
-    -- the run of the commands is over, and the session that they leave is handed back
-    pub commands-over : (before : Option Seen) (outcome : o.Outcome) → EndsCommands k commands seen.shown session.shown failed report out outcome
+    -- the run of the steps is over, and the session that they leave is handed back
+    pub steps-over : (before : Option Seen) (outcome : o.Outcome) → EndsSteps k steps seen.shown session.shown failed report out outcome
         → IsRunOver makefile script depth k outcome failed report out × Leaves makefile script depth k failed report out before (Some session) outcome
-    commands-over before outcome ends = go outcome (subst (λ (s : Shown (List ℕ)). EndsCommands k commands s session.shown failed report out outcome) first-is ends)
+    steps-over before outcome ends = go outcome (subst (λ (s : Shown (List ℕ)). EndsSteps k steps s session.shown failed report out outcome) first-is ends)
       where
-        go : (outcome : o.Outcome) → EndsCommands k commands (shown_opened depth opens.text) session.shown failed report out outcome
+        go : (outcome : o.Outcome) → EndsSteps k steps (shown_opened depth opens.text) session.shown failed report out outcome
             → IsRunOver makefile script depth k outcome failed report out × Leaves makefile script depth k failed report out before (Some session) outcome
-        go Done ends = (of-commands Done failed report out ends.0, session-of (λ commands first last. IsLeft k commands first last out) ends.1)
-        go (Refused n) ends = (of-commands (Refused n) failed report out ends.0, session-of (λ commands first last. IsLeftRefused k commands first last out) ends.1)
+        go Done ends = (of-steps Done failed report out ends.0, session-of (λ steps first last. IsLeft k steps first last out) ends.1)
+        go (Refused n) ends = (of-steps (Refused n) failed report out ends.0, session-of (λ steps first last. IsLeftRefused k steps first last out) ends.1)
         go NoMemory short = (
-          of-commands NoMemory failed report out (inr (record { commands = commands; lines = short.lines; are_commands = says.is_script; result_is = refl; is_short = short.is_short; is_out = short.is_out })),
-          inr (session-of (λ commands first last. IsLeftShort k commands first last report) short),
+          of-steps NoMemory failed report out (inr (record { steps = steps; lines = short.lines; are_steps = says.is_script; result_is = refl; is_short = short.is_short; is_out = short.is_out })),
+          inr (session-of (λ steps first last. IsLeftShort k steps first last report) short),
         )
-        go Write ends = (of-commands Write failed report out ends.0, session-of (λ commands first last. IsLeftCut k failed commands first last) ends.1)
+        go Write ends = (of-steps Write failed report out ends.0, session-of (λ steps first last. IsLeftCut k failed steps first last) ends.1)
         go (NotACommand line) ends = absurd ends
         go BadDepth ends = absurd ends
         go TooLong ends = absurd ends

@@ -106,8 +106,36 @@ impl Row {
 
 /// Runs that are done; then runs that end at a refusal, of each number but those of want of memory
 /// and of a text at its limit; then runs that keep going, and runs without a good script or depth.
-pub static CASES: [Case; 42] = [
+pub static CASES: [Case; 47] = [
     Case::Done(b"", b"", b""),
+    Case::Done(
+        b"X=0\n",
+        b"set A 1\nor assign bottom A = 1\ntry unset Q\n",
+        b"X=0\nA = 1\n",
+    ),
+    Case::Done(
+        b"c: x\n",
+        b"depend c x\nor rule bottom c : x\nunset Q\nor unset R\nor undepend c y\n",
+        b"c: x\n",
+    ),
+    Case::Refused(
+        b"X=0\n",
+        b"set A 1\nor set B 1\nset X 1\n",
+        b"2: refused 4 NoSuch\n",
+    ),
+    Case::Refused(
+        b"X=0\nX=1\n",
+        b"set A 1\nor set X 1\nor assign bottom A = 1\n",
+        b"2: refused 5 Ambiguous 2\n",
+    ),
+    Case::KeptGoing(
+        100,
+        b"c: x\n",
+        b"try depend c x\nundepend c y\nset A 1\nor undepend c x\ntry depend c \"a b\"\nundo\nundo\n",
+        3,
+        b"c: x\n",
+        b"2: refused 6 Absent\n5: refused 1 BadArgument word\n7: refused 16 NothingToUndo\n",
+    ),
     Case::Done(b"CC = gcc # c\n", b"set CC clang", b"CC = clang # c\n"),
     Case::Done(
         b"F = a \\\n    b\nG=1\n",

@@ -1,36 +1,36 @@
 //! Scripts with what they mean.
 
-/// A script with its commands.
+/// A script with its steps.
 pub struct Script {
     /// Its text.
     pub text: &'static [u8],
-    /// Its commands as [`super::shown::shown`] shows them.
-    pub commands: &'static [u8],
-    /// How many growths its commands take: one for each text that is not empty, and those of the
-    /// list of commands.
+    /// Its steps as [`super::shown::shown`] shows them.
+    pub steps: &'static [u8],
+    /// How many growths its steps take: one for each text that is not empty, those of the list of
+    /// steps, and those of the lists of alternatives.
     pub growths: u64,
 }
 
 /// Each command, each place, operator and separator, numbers, quotes and line ends.
-pub static SCRIPTS: [Script; 16] = [
+pub static SCRIPTS: [Script; 19] = [
     Script {
         text: b"",
-        commands: b"",
+        steps: b"",
         growths: 0,
     },
     Script {
         text: b"# a comment with a bad \"quote\n\t \n\r\n",
-        commands: b"",
+        steps: b"",
         growths: 0,
     },
     Script {
         text: b"set CC clang\n",
-        commands: b"1 SetValue -|CC|clang\n",
+        steps: b"1 SetValue -|CC|clang\n",
         growths: 3,
     },
     Script {
         text: b"append X b\nunset X",
-        commands: b"1 AppendValue -|X|b\n2 RemoveAssign -|X\n",
+        steps: b"1 AppendValue -|X|b\n2 RemoveAssign -|X\n",
         growths: 4,
     },
     Script {
@@ -40,47 +40,47 @@ pub static SCRIPTS: [Script; 16] = [
     },
     Script {
         text: b"\n# c\r\n nth 2\tset X \"\" \r\nundo\r\n",
-        commands: b"3 SetValue 2|X|\n4 Undo\n",
+        steps: b"3 SetValue 2|X|\n4 Undo\n",
         growths: 2,
     },
     Script {
         text: b"set X \"a \\\"b\\\" \\\\c\"",
-        commands: b"1 SetValue -|X|a \"b\" \\c\n",
+        steps: b"1 SetValue -|X|a \"b\" \\c\n",
         growths: 3,
     },
     Script {
         text: b"set X a\"b\\",
-        commands: b"1 SetValue -|X|a\"b\\\n",
+        steps: b"1 SetValue -|X|a\"b\\\n",
         growths: 3,
     },
     Script {
         text: b"assign bottom A = 1\nassign before-var X A := 1",
-        commands: b"1 AddAssign Bottom|A|Recursive|1\n2 AddAssign BeforeVar -|X|A|Simple|1\n",
+        steps: b"1 AddAssign Bottom|A|Recursive|1\n2 AddAssign BeforeVar -|X|A|Simple|1\n",
         growths: 6,
     },
     Script {
         text: b"nth 4294967295 assign after-var X A ::= 1\nassign before-rule t A :::= 1",
-        commands: b"1 AddAssign AfterVar 4294967295|X|A|PosixSimple|1\n2 AddAssign BeforeRule -|t|A|Immediate|1\n",
+        steps: b"1 AddAssign AfterVar 4294967295|X|A|PosixSimple|1\n2 AddAssign BeforeRule -|t|A|Immediate|1\n",
         growths: 7,
     },
     Script {
         text: b"assign bottom A ?= 1\nassign bottom A += 1\nassign bottom A != 1",
-        commands: b"1 AddAssign Bottom|A|Conditional|1\n2 AddAssign Bottom|A|Append|1\n3 AddAssign Bottom|A|Shell|1\n",
+        steps: b"1 AddAssign Bottom|A|Conditional|1\n2 AddAssign Bottom|A|Append|1\n3 AddAssign Bottom|A|Shell|1\n",
         growths: 7,
     },
     Script {
         text: b"rule bottom \"a b\" : c\nnth 0 rule before-rule t a :: \"\"\nnth 0000000007 unrule t",
-        commands: b"1 AddRule Bottom|a b|Single|c\n2 AddRule BeforeRule 0|t|a|Double|\n3 RemoveRule 7|t\n",
+        steps: b"1 AddRule Bottom|a b|Single|c\n2 AddRule BeforeRule 0|t|a|Double|\n3 RemoveRule 7|t\n",
         growths: 6,
     },
     Script {
         text: b"depend t w\ndepend-order t w\nundepend t w",
-        commands: b"1 AddPrereq -|t|w\n2 AddPrereq order -|t|w\n3 RemovePrereq -|t|w\n",
+        steps: b"1 AddPrereq -|t|w\n2 AddPrereq order -|t|w\n3 RemovePrereq -|t|w\n",
         growths: 7,
     },
     Script {
         text: b"recipe t \"echo a\"\nrecipe-set t 01 ls\nrecipe-del t 2\nrename a b",
-        commands: b"1 AddRecipe -|t|echo a\n2 SetRecipe -|t|1|ls\n3 RemoveRecipe -|t|2\n4 RenameTarget|a|b\n",
+        steps: b"1 AddRecipe -|t|echo a\n2 SetRecipe -|t|1|ls\n3 RemoveRecipe -|t|2\n4 RenameTarget|a|b\n",
         growths: 8,
     },
     Script {
@@ -90,13 +90,28 @@ pub static SCRIPTS: [Script; 16] = [
     },
     Script {
         text: b"begin\nend\nredo\nbegin\ncancel\nundo",
-        commands: b"1 Begin\n2 End\n3 Redo\n4 Begin\n5 Cancel\n6 Undo\n",
+        steps: b"1 Begin\n2 End\n3 Redo\n4 Begin\n5 Cancel\n6 Undo\n",
         growths: 2,
     },
     Script {
         text: b"\"set\" X 2\nset X 1\r",
-        commands: b"1 SetValue -|X|2\n2 SetValue -|X|1\r\n",
+        steps: b"1 SetValue -|X|2\n2 SetValue -|X|1\r\n",
         growths: 5,
+    },
+    Script {
+        text: b"try nth 2 unset X\n\"try\" set X \"\"",
+        steps: b"1 try RemoveAssign 2|X\n2 try SetValue -|X|\n",
+        growths: 3,
+    },
+    Script {
+        text: b"unset X\n# c\n\nor unset Y\n\"or\" unset Z\nundo\n",
+        steps: b"1 RemoveAssign -|X\n4 or RemoveAssign -|Y\n5 or RemoveAssign -|Z\n6 Undo\n",
+        growths: 5,
+    },
+    Script {
+        text: b"set A 1\nor assign bottom A = 1\nset B 1\nor assign bottom B = 1\n",
+        steps: b"1 SetValue -|A|1\n2 or AddAssign Bottom|A|Recursive|1\n3 SetValue -|B|1\n4 or AddAssign Bottom|B|Recursive|1\n",
+        growths: 11,
     },
 ];
 
@@ -109,7 +124,7 @@ pub struct Faulty {
 }
 
 /// Lines that are no commands, for each cause.
-pub static FAULTY: [Faulty; 19] = [
+pub static FAULTY: [Faulty; 26] = [
     Faulty {
         text: b"set X",
         line: 1,
@@ -184,6 +199,34 @@ pub static FAULTY: [Faulty; 19] = [
     },
     Faulty {
         text: b"\r",
+        line: 1,
+    },
+    Faulty {
+        text: b"or set X 1",
+        line: 1,
+    },
+    Faulty {
+        text: b"undo\nor set X 1",
+        line: 2,
+    },
+    Faulty {
+        text: b"try undo",
+        line: 1,
+    },
+    Faulty {
+        text: b"try try set X 1",
+        line: 1,
+    },
+    Faulty {
+        text: b"try or set X 1",
+        line: 1,
+    },
+    Faulty {
+        text: b"try",
+        line: 1,
+    },
+    Faulty {
+        text: b"nth 1 try set X 1",
         line: 1,
     },
 ];

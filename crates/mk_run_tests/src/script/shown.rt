@@ -1,30 +1,67 @@
-//! Commands as texts, to be compared.
+//! Steps as texts, to be compared.
 
-use mk_script::{Command, NumberedCommand};
+use mk_script::{Chain, Command, NumberedCommand, NumberedEdit, Step};
 use mk_session::{Edit, Place};
 use std::alloc::{AllocError, Allocator, Global};
 
-/// Commands as lines of text: the number of the line, the name of the edit or call, and its
-/// arguments with a bar before each; a number that is left out is a dash.
-pub fn shown<A: Allocator>(
-    alloc: Global,
-    commands: &[NumberedCommand<A>],
-) -> Result<Vec<u8>, AllocError> {
+/// Steps as lines of text: the number of the line, `try` or `or` if it stands there, the name of the
+/// edit or call, and its arguments with a bar before each; a number that is left out is a dash.
+pub fn shown<A: Allocator>(alloc: Global, steps: &[Step<A>]) -> Result<Vec<u8>, AllocError> {
     let mut out = Vec::new(alloc);
-    for numbered in commands {
-        put_number(alloc, &mut out, numbered.line)?;
-        out.push(b' ')?;
-        match &numbered.command {
-            Command::Apply(edit) => put_edit(alloc, &mut out, edit)?,
-            Command::Undo => out.extend_from_slice(b"Undo")?,
-            Command::Redo => out.extend_from_slice(b"Redo")?,
-            Command::Begin => out.extend_from_slice(b"Begin")?,
-            Command::End => out.extend_from_slice(b"End")?,
-            Command::Cancel => out.extend_from_slice(b"Cancel")?,
+    for step in steps {
+        match step {
+            Step::Alone(numbered) => put_command(alloc, &mut out, numbered)?,
+            Step::Try(numbered) => put_numbered(alloc, &mut out, b"try ", numbered)?,
+            Step::Chain(chain) => put_chain(alloc, &mut out, chain)?,
         }
-        out.push(b'\n')?;
     }
     Ok(out)
+}
+
+fn put_command<A: Allocator>(
+    alloc: Global,
+    out: &mut Vec<u8>,
+    numbered: &NumberedCommand<A>,
+) -> Result<(), AllocError> {
+    put_number(alloc, out, numbered.line)?;
+    out.push(b' ')?;
+    match &numbered.command {
+        Command::Apply(edit) => put_edit(alloc, out, edit)?,
+        Command::Undo => out.extend_from_slice(b"Undo")?,
+        Command::Redo => out.extend_from_slice(b"Redo")?,
+        Command::Begin => out.extend_from_slice(b"Begin")?,
+        Command::End => out.extend_from_slice(b"End")?,
+        Command::Cancel => out.extend_from_slice(b"Cancel")?,
+    }
+    out.push(b'\n')?;
+    Ok(())
+}
+
+// An edit with its line, and with the word before it.
+fn put_numbered<A: Allocator>(
+    alloc: Global,
+    out: &mut Vec<u8>,
+    word: &[u8],
+    numbered: &NumberedEdit<A>,
+) -> Result<(), AllocError> {
+    put_number(alloc, out, numbered.line)?;
+    out.push(b' ')?;
+    out.extend_from_slice(word)?;
+    put_edit(alloc, out, &numbered.edit)?;
+    out.push(b'\n')?;
+    Ok(())
+}
+
+fn put_chain<A: Allocator>(
+    alloc: Global,
+    out: &mut Vec<u8>,
+    chain: &Chain<A>,
+) -> Result<(), AllocError> {
+    put_numbered(alloc, out, b"", &chain.first)?;
+    for other in &chain.others {
+        put_numbered(alloc, out, b"or ", other)?;
+    }
+    Ok(())
 }
 
 fn put_number(alloc: Global, out: &mut Vec<u8>, number: u64) -> Result<(), AllocError> {

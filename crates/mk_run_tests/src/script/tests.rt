@@ -7,14 +7,14 @@ use std::alloc::{AllocError, Allocator};
 use std::test::Fail;
 use watched::Watched;
 
-// Whether a script was read as its commands.
+// Whether a script was read as its steps.
 fn is_read<A: Allocator + Copy>(
     rt: &HostRuntime,
     alloc: A,
     script: &Script,
 ) -> Result<bool, AllocError> {
     match parse_script(alloc, script.text) {
-        Ok(commands) => Ok(shown(rt.alloc(), &commands)?.as_slice() == script.commands),
+        Ok(steps) => Ok(shown(rt.alloc(), &steps)?.as_slice() == script.steps),
         Err(_) => Ok(false),
     }
 }
@@ -65,13 +65,27 @@ fn a_line_that_is_no_command_takes_no_memory(rt: HostRuntime) {
     for faulty in &FAULTY {
         let heap = Watched::refusing_one_after(rt.alloc(), 0);
         let fault = fault_of(&heap, faulty.text);
-        // The one row with a command before the fault takes memory for the list of commands.
+        // The rows with a command before the fault take memory for the list of steps.
         let has_command = faulty.text.starts_with(b"undo");
         assert_eq!(rt; heap.has_refused(), has_command);
         assert_eq!(rt;
             fault == Some(ScriptFault::NotACommand(faulty.line)),
             !has_command
         );
+    }
+}
+
+// An `or` that may not stand there takes no memory, even if its edit has texts.
+#[test]
+fn an_alternative_of_nothing_takes_no_memory(rt: HostRuntime) {
+    for text in [
+        b"undo\nor set X 1".as_slice(),
+        b"undo\ntry set \"\" \"\"\nor set X 1",
+    ] {
+        let heap = Watched::refusing_one_after(rt.alloc(), 1);
+        let line = if text.starts_with(b"undo\ntry") { 3 } else { 2 };
+        assert_eq!(rt; fault_of(&heap, text), Some(ScriptFault::NotACommand(line)));
+        assert!(rt; !heap.has_refused());
     }
 }
 

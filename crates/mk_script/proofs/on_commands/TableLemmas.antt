@@ -10,7 +10,7 @@ use Rattle.mk_edit_language.specs.Edits.{Edit}
 use Rattle.mk_edit_language.specs.NewLines.{rule_separator_text}
 use Rattle.mk_edit_language.specs.declared.edit.RuleSeparator.{RuleSeparator}
 use Rattle.mk_edit_language.specs.declared.edit.RuleSeparator.TheVariants.{Single, Double}
-use Rattle.mk_history.specs.Machine.{Command}
+use Rattle.mk_history.specs.Machine.{Command, Apply}
 use Rattle.mk_script.specs.CommandTable.{IsCommand}
 use Rattle.mk_script.specs.WordReading.{named, calls, edit_words, places, operators, separators}
 use Rattle.mk_script.specs.declared.word.EditWord.{EditWord}
@@ -61,7 +61,7 @@ place_text place.BeforeRule = codes "before-rule"
 
 pub named-word : (text : List ℕ) (k : EditWord) → named edit_words text ≡ Some k → text ≡ word_text k
 named-word text k h =
-    named-entry (λ w t. t ≡ word_text w) edit_words (refl, (refl, (refl, (refl, (refl, (refl, (refl, (refl, (refl, (refl, (refl, (refl, (refl, (refl, tt)))))))))))))) text k h
+    named-entry (λ w t. t ≡ word_text w) edit_words (refl, (refl, (refl, (refl, (refl, (refl, (refl, (refl, (refl, (refl, (refl, (refl, (refl, (refl, (refl, tt))))))))))))))) text k h
 
 pub named-place : (text : List ℕ) (k : PlaceWord) → named places text ≡ Some k → text ≡ place_text k
 named-place text k h = named-entry (λ w t. t ≡ place_text w) places (refl, (refl, (refl, (refl, tt)))) text k h
@@ -74,6 +74,12 @@ named-separator text s h = named-entry (λ w t. t ≡ rule_separator_text w) sep
 
 pub named-call : (text : List ℕ) (c : Command Edit) → named calls text ≡ Some c → IsCommand (text ∷ []) c
 named-call text c h = named-entry (λ w t. IsCommand (t ∷ []) w) calls (refl, (refl, (refl, (refl, (refl, tt))))) text c h
+
+-- no call is an edit
+pub call-no_edit : (text : List ℕ) (e : Edit) → named calls text ≡ Some (Apply e) → ⊥
+call-no_edit text e h =
+    named-entry (λ (w : Command Edit) (t : List ℕ). w ≡ Apply e → ⊥) calls
+    (λ k. absurd (cc), (λ k. absurd (cc), (λ k. absurd (cc), (λ k. absurd (cc), (λ k. absurd (cc), tt))))) text (Apply e) h refl
 
 -- ---- and their names
 

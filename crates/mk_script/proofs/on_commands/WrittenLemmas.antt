@@ -270,7 +270,7 @@ numbered-written line first rest e begins is h = of_digits (first_field rest) re
     of_digits None k m = absurd (cc)
     of_digits (Some p) k m = of_number p k (number p.0) refl m
 
-addressed-written : (line first rest : List ℕ) (e : Edit) → BeginsWithField line first rest → addressed_edit first rest ≡ Some e → HasCommand line (Apply e)
+pub addressed-written : (line first rest : List ℕ) (e : Edit) → BeginsWithField line first rest → addressed_edit first rest ≡ Some e → HasCommand line (Apply e)
 addressed-written line first rest e begins h = go (bytes_eq first (codes "nth")) refl h
   where
     go : (c : Bool) → bytes_eq first (codes "nth") ≡ c → cond c (edit_after_nth (first_field rest)) (edit None first rest) ≡ Some e → HasCommand line (Apply e)

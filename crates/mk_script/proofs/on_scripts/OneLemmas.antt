@@ -1,89 +1,95 @@
 -- A script says one thing.
-use Rattle.std.proofs.Common.{◌≡◌, ℕ, suc, ◌+◌, List, [], ◌∷◌, ◌++◌, refl, sym, ap, ◌∙◌, subst, inl, inr, length}
+use Rattle.std.proofs.Common.{◌≡◌, ℕ, ◌+◌, ◌<◌, ◌≤◌, List, [], ◌∷◌, ◌++◌, refl, sym, ap, ◌∙◌, subst, inl, inr, length, arith, append_assoc}
 use Rattle.std.specs.Prelude.{◌⊎◌}
-use Rattle.std.specs.List.{AllByRecursion}
-use Rattle.mk_edit_language.specs.Edits.{Edit}
-use Rattle.mk_history.specs.Machine.{Command}
-use Rattle.mk_script.specs.Lines.{script_lines, IsSkipped, HasCommand, IsReadable}
-use Rattle.mk_script.specs.Scripts.{CommandAt, AreCommands, IsScript, HasNoCommand}
-use Rattle.mk_script.specs.ScriptLaws.{CommandsAreOne, NoScriptIsBoth, FirstFaultIsOne, EachScriptIsRead}
-use Rattle.mk_script.proofs.on_scripts.LineLemmas.{skipped-no_command, one_command, readable-or_not}
-use Rattle.mk_script.proofs.on_scripts.ScriptLemmas.{IsReadSoFar, none-read, skipped-read, command-read, all-read, reached}
+use Rattle.std.proofs.lemmas.Bool.{cases_lt}
+use Rattle.mk_script.specs.Lines.{script_lines, IsSkipped, Saying, Says}
+use Rattle.mk_script.specs.Scripts.{Step, AreSaid, sayings, AreSteps, IsScript, HasNoCommand}
+use Rattle.mk_script.specs.ReaderAnswers.{SayMore}
+use Rattle.mk_script.specs.ScriptLaws.{StepsAreOne, NoScriptIsBoth, FirstFaultIsOne, EachScriptIsRead}
+use Rattle.mk_script.proofs.on_scripts.LineLemmas.{skipped-says_nothing, one_saying, says-or_not}
+use Rattle.mk_script.proofs.on_scripts.SaidLemmas.{said-one, said-cut}
+use Rattle.mk_script.proofs.on_scripts.GroupLemmas.{sayings-one, more-or_not, first-steps}
+use Rattle.mk_script.proofs.on_scripts.ScriptLemmas.{IsReadSoFar, none-read, skipped-read, said-read, all-read, unread}
 
-same_at : (c d : CommandAt) → c.line ≡ d.line → c.command ≡ d.command → c ≡ d
-same_at c d p q =
-    let first : ◌≡◌ {A = CommandAt} (record { line = c.line; command = c.command }) (record { line = d.line; command = c.command }) =
-    ap (λ l. record { line = l; command = c.command }) p in
-    let second : ◌≡◌ {A = CommandAt} (record { line = d.line; command = c.command }) (record { line = d.line; command = d.command }) =
-    ap (λ x. record { line = d.line; command = x }) q in
-    first ∙ second
+pub steps-one : StepsAreOne
+steps-one script steps others h k = sayings-one steps others (said-one 1 (script_lines script) (sayings steps) (sayings others) h k)
 
-are-one : (n : ℕ) (lines : List (List ℕ)) (cs ds : List CommandAt) → AreCommands n lines cs → AreCommands n lines ds → cs ≡ ds
-are-one n [] [] [] h k = refl
-are-one n [] [] (d ∷ ds) h k = absurd k
-are-one n [] (c ∷ cs) ds h k = absurd h
-are-one n (line ∷ lines) [] [] h k = refl
-are-one n (line ∷ lines) [] (d ∷ ds) h (inl k) = are-one (n + 1) lines [] (d ∷ ds) h.1 k.1
-are-one n (line ∷ lines) [] (d ∷ ds) h (inr k) = absurd (skipped-no_command line d.command h.0 k.1)
-are-one n (line ∷ lines) (c ∷ cs) [] (inl h) k = are-one (n + 1) lines (c ∷ cs) [] h.1 k.1
-are-one n (line ∷ lines) (c ∷ cs) [] (inr h) k = absurd (skipped-no_command line c.command k.0 h.1)
-are-one n (line ∷ lines) (c ∷ cs) (d ∷ ds) (inl h) (inl k) = are-one (n + 1) lines (c ∷ cs) (d ∷ ds) h.1 k.1
-are-one n (line ∷ lines) (c ∷ cs) (d ∷ ds) (inl h) (inr k) = absurd (skipped-no_command line d.command h.0 k.1)
-are-one n (line ∷ lines) (c ∷ cs) (d ∷ ds) (inr h) (inl k) = absurd (skipped-no_command line c.command k.0 h.1)
-are-one n (line ∷ lines) (c ∷ cs) (d ∷ ds) (inr h) (inr k) =
-    let first = same_at c d (h.0 ∙ sym k.0) (one_command line c.command d.command h.1 k.1) in
-    let others = are-one (n + 1) lines cs ds h.2 k.2 in
-    ap (λ x. x ∷ cs) first ∙ ap (λ xs. d ∷ xs) others
+-- ---- steps and a line without one
 
-pub commands-one : CommandsAreOne
-commands-one script cs ds h k = are-one 1 (script_lines script) cs ds h k
+-- the first lines of steps are steps
+first-lines : (before after : List (List ℕ)) (steps : List Step) → AreSteps (before ++ after) steps → (first : List Step) × AreSteps before first
+first-lines before after steps h =
+    let c = said-cut 1 before after (sayings steps) h in
+    let first = first-steps steps c.said c.later c.all_are in
+    (first.0, subst (λ s. AreSaid 1 before s) (sym first.1) c.are)
 
--- ---- commands and a line without one
-
-each-readable : (n : ℕ) (lines : List (List ℕ)) (cs : List CommandAt) → AreCommands n lines cs → AllByRecursion IsReadable lines
-each-readable n [] cs h = tt
-each-readable n (line ∷ lines) [] h = (inl h.0, each-readable (n + 1) lines [] h.1)
-each-readable n (line ∷ lines) (c ∷ cs) (inl h) = (inl h.0, each-readable (n + 1) lines (c ∷ cs) h.1)
-each-readable n (line ∷ lines) (c ∷ cs) (inr h) = (inr (c.command, h.1), each-readable (n + 1) lines cs h.2)
-
-one-of : {X : Type 0} (P : X → Type 0) (before : List X) (x : X) (after : List X) → AllByRecursion P (before ++ x ∷ after) → P x
-one-of P [] x after h = h.0
-one-of P (y ∷ before) x after h = one-of P before x after h.1
+cut-at : (before : List (List ℕ)) (line : List ℕ) (after : List (List ℕ)) → before ++ line ∷ after ≡ (before ++ line ∷ []) ++ after
+cut-at before line after = sym (append_assoc before (line ∷ []) after)
 
 pub not-both : NoScriptIsBoth
-not-both script cs n h k =
-    k.property (one-of IsReadable k.before k.line k.after (subst (λ ls. AllByRecursion IsReadable ls) k.lines (each-readable 1 (script_lines script) cs h)))
+not-both script steps n h k =
+    let first = first-lines (k.before ++ k.line ∷ []) k.after steps (subst (λ ls. AreSteps ls steps) (k.lines ∙ cut-at k.before k.line k.after) h) in
+    k.property first.0 first.1
 
 -- ---- one first line without a command
 
-same_length : (xs ys : List (List ℕ)) (a b : List ℕ) (more others : List (List ℕ)) → xs ++ a ∷ more ≡ ys ++ b ∷ others → AllByRecursion IsReadable xs → AllByRecursion IsReadable ys
-    → (IsReadable a → ⊥) → (IsReadable b → ⊥) → length xs ≡ length ys
-same_length [] [] a b more others e h k p q = refl
-same_length [] (y ∷ ys) a b more others e h k p q = let same : y ≡ a = cc in absurd (p (subst IsReadable same k.0))
-same_length (x ∷ xs) [] a b more others e h k p q = let same : x ≡ b = cc in absurd (q (subst IsReadable same h.0))
-same_length (x ∷ xs) (y ∷ ys) a b more others e h k p q =
+-- of two lists that begin one list, the shorter one with an element more begins the longer one
+longer : (xs ys : List (List ℕ)) (a b : List ℕ) (more others : List (List ℕ)) → xs ++ a ∷ more ≡ ys ++ b ∷ others → length xs < length ys
+    → (rest : List (List ℕ)) × (ys ≡ (xs ++ a ∷ []) ++ rest)
+longer xs [] a b more others e less = absurd (omega (arith, less))
+longer [] (y ∷ ys) a b more others e less = let same : y ≡ a = cc in (ys, ap (λ z. z ∷ ys) same)
+longer (x ∷ xs) (y ∷ ys) a b more others e less =
     let tails : xs ++ a ∷ more ≡ ys ++ b ∷ others = cc in
-    ap (λ n. suc n) (same_length xs ys a b more others tails h.1 k.1 p q)
+    let same : y ≡ x = cc in
+    let r = longer xs ys a b more others tails (omega (arith, less)) in
+    (r.0, ap (λ z. z ∷ ys) same ∙ ap (λ zs. x ∷ zs) r.1)
+
+not_before : (script : List ℕ) (n m : ℕ) (h : HasNoCommand script n) (k : HasNoCommand script m) → length h.before < length k.before → ⊥
+not_before script n m h k less =
+    let r = longer h.before k.before h.line k.line h.after k.after (sym h.lines ∙ k.lines) less in
+    let first = first-lines (h.before ++ h.line ∷ []) r.0 k.steps (subst (λ ls. AreSteps ls k.steps) r.1 k.are) in
+    h.property first.0 first.1
+
+same_number : (a b : ℕ) → (a < b → ⊥) → (b < a → ⊥) → a ≡ b
+same_number a b h k = go (cases_lt a b) (cases_lt b a)
+  where
+    go : (a < b) ⊎ (b ≤ a) → (b < a) ⊎ (a ≤ b) → a ≡ b
+    go (inl less) q = absurd (h less)
+    go (inr p) (inl less) = absurd (k less)
+    go (inr p) (inr q) = omega (arith, p, q)
 
 pub fault-one : FirstFaultIsOne
 fault-one script n m h k =
-    let same = same_length h.before k.before h.line k.line h.after k.after (sym h.lines ∙ k.lines) h.read k.read h.property k.property in
+    let same = same_number (length h.before) (length k.before) (not_before script n m h k) (not_before script m n k h) in
     h.number_is ∙ (ap (λ l. l + 1) same ∙ sym k.number_is)
 
 -- ---- each script is read
 
-read-on : (script : List ℕ) (n : ℕ) (rest : List (List ℕ)) (cs : List CommandAt) → IsReadSoFar script n rest cs
-    → ((commands : List CommandAt) × IsScript script commands) ⊎ ((number : ℕ) × HasNoCommand script number)
-read-on script n [] cs h = inl (cs, all-read script n [] cs h refl)
-read-on script n (line ∷ rest) cs h =
-    go (readable-or_not line) (λ m ds k. read-on script m rest ds k)
+read-on : (script : List ℕ) (n : ℕ) (rest : List (List ℕ)) (steps : List Step) → IsReadSoFar script n rest steps
+    → ((all : List Step) × IsScript script all) ⊎ ((number : ℕ) × HasNoCommand script number)
+read-on script n [] steps h = inl (steps, all-read script n [] steps h refl)
+read-on script n (line ∷ rest) steps h =
+    go (says-or_not line) (λ m others k. read-on script m rest others k)
   where
-    go : IsSkipped line ⊎ (((c : Command Edit) × HasCommand line c) ⊎ (IsReadable line → ⊥))
-        → ((m : ℕ) (ds : List CommandAt) → IsReadSoFar script m rest ds → ((commands : List CommandAt) × IsScript script commands) ⊎ ((number : ℕ) × HasNoCommand script number))
-        → ((commands : List CommandAt) × IsScript script commands) ⊎ ((number : ℕ) × HasNoCommand script number)
-    go (inl s) on = on (n + 1) cs (skipped-read script n line rest cs h s)
-    go (inr (inl (c, has))) on = on (n + 1) (cs ++ record { line = n + 1; command = c } ∷ []) (command-read script n line rest cs c h has)
-    go (inr (inr p)) on = inr (n + 1, reached (λ l. IsReadable l → ⊥) script n line rest cs h p)
+    unsaid : (IsSkipped line → ⊥) → ((x : Saying) → Says line x → (others : List Step) → SayMore steps (record { line = n + 1; saying = x }) others → ⊥)
+        → ((all : List Step) × IsScript script all) ⊎ ((number : ℕ) × HasNoCommand script number)
+    unsaid unskipped never = inr (n + 1, unread script n line rest steps h unskipped never)
+
+    said : (x : Saying) → Says line x
+        → ((others : List Step) × SayMore steps (record { line = n + 1; saying = x }) others) ⊎ ((others : List Step) → SayMore steps (record { line = n + 1; saying = x }) others → ⊥)
+        → ((m : ℕ) (others : List Step) → IsReadSoFar script m rest others → ((all : List Step) × IsScript script all) ⊎ ((number : ℕ) × HasNoCommand script number))
+        → ((all : List Step) × IsScript script all) ⊎ ((number : ℕ) × HasNoCommand script number)
+    said x says (inl (others, more)) on = on (n + 1) others (said-read script n line rest steps others x h says more)
+    said x says (inr none) on =
+        unsaid (λ s. skipped-says_nothing line x s says)
+        (λ y says_y others more. none others (subst (λ z. SayMore steps (record { line = n + 1; saying = z }) others) (one_saying line y x says_y says) more))
+
+    go : IsSkipped line ⊎ (((x : Saying) × Says line x) ⊎ ((IsSkipped line → ⊥) × ((x : Saying) → Says line x → ⊥)))
+        → ((m : ℕ) (others : List Step) → IsReadSoFar script m rest others → ((all : List Step) × IsScript script all) ⊎ ((number : ℕ) × HasNoCommand script number))
+        → ((all : List Step) × IsScript script all) ⊎ ((number : ℕ) × HasNoCommand script number)
+    go (inl s) on = on (n + 1) steps (skipped-read script n line rest steps h s)
+    go (inr (inl (x, says))) on = said x says (more-or_not steps (record { line = n + 1; saying = x })) on
+    go (inr (inr (unskipped, none))) on = unsaid unskipped (λ x says others more. none x says)
 
 pub script-read : EachScriptIsRead
 script-read script = read-on script 0 (script_lines script) [] (none-read script (script_lines script) refl)

@@ -13,8 +13,8 @@ use Rattle.mk_history.specs.Machine.{Command, Apply, Undo, Redo, Begin, End, Can
 use Rattle.mk_script.specs.Fields.{quoted, HasFields}
 use Rattle.mk_script.specs.Numbers.{IsNumber}
 use Rattle.mk_script.specs.CommandTable.{IsAfterNth, place_words, nth_of_place, depend_word, IsCommand}
-use Rattle.mk_script.specs.Lines.{HasCommand}
-use Rattle.mk_script.specs.ScriptLaws.{line_of, CanBeWritten, HasNumbersOfScripts, FieldsAreOne, WrittenFieldsAreRead, EachCommandHasALine}
+use Rattle.mk_script.specs.Lines.{HasCommand, Plain, Try, Or, HasEditAfter}
+use Rattle.mk_script.specs.ScriptLaws.{line_of, CanBeWritten, HasNumbersOfScripts, HasNumbers, FieldsAreOne, WrittenFieldsAreRead, EachSayingHasALine}
 use Rattle.mk_script.specs.FieldReading.{first_field, field_at_front, after_blanks}
 use Rattle.mk_script.proofs.on_fields.BlankLemmas.{over-blanks}
 use Rattle.mk_script.proofs.on_fields.FirstLemmas.{begins-read}
@@ -101,10 +101,21 @@ edit-line (InsertRecipe nth target number line) h =
     fields-command nth (codes "recipe-insert" ∷ target ∷ decimal number ∷ line ∷ []) (Apply (InsertRecipe nth target number line)) h.0 (λ fields k. (decimal number, decimal-number number h.1, k))
 edit-line (RenameTarget old new) h = fields-command None (codes "rename" ∷ old ∷ new ∷ []) (Apply (RenameTarget old new)) tt (λ fields k. k)
 
-pub command-line : EachCommandHasALine
+command-line : (c : Command Edit) → HasNumbers c → (line : List ℕ) × HasCommand line c
 command-line (Apply e) h = edit-line e h
 command-line Undo h = fields-command None (codes "undo" ∷ []) Undo tt (λ fields k. k)
 command-line Redo h = fields-command None (codes "redo" ∷ []) Redo tt (λ fields k. k)
 command-line Begin h = fields-command None (codes "begin" ∷ []) Begin tt (λ fields k. k)
 command-line End h = fields-command None (codes "end" ∷ []) End tt (λ fields k. k)
 command-line Cancel h = fields-command None (codes "cancel" ∷ []) Cancel tt (λ fields k. k)
+
+-- an edit's command after a word
+after-line : (word : List ℕ) (e : Edit) → HasNumbersOfScripts e → (line : List ℕ) × HasEditAfter word line e
+after-line word e h =
+    let l = edit-line e h in
+    (line_of (word ∷ l.1.0), (l.1.0, written-read (word ∷ l.1.0), l.1.2))
+
+pub saying-line : EachSayingHasALine
+saying-line (Plain c) h = command-line c h
+saying-line (Try e) h = after-line (codes "try") e h
+saying-line (Or e) h = after-line (codes "or") e h

@@ -7,7 +7,8 @@ use Rattle.mk_edit_language.specs.declared.edit.RuleSeparator.TheVariants.{Singl
 use Rattle.mk_edit_language.specs.Edits.{Bottom, BeforeVar, AfterVar, BeforeRule}
 use Rattle.mk_edit_language.specs.Edits.{SetValue, AppendValue, AddAssign, RemoveAssign, AddRule, RemoveRule, AddPrereq, RemovePrereq, AddRecipe, SetRecipe, RemoveRecipe, RenameTarget}
 use Rattle.mk_history.specs.Machine.{Apply, Undo, Redo, Begin, End, Cancel}
-use Rattle.mk_script.proofs.on_scripts.ReaderLemmas.{on_line, read_script}
+use Rattle.mk_script.specs.Scripts.{Chain}
+use Rattle.mk_script.proofs.on_scripts.ReaderLemmas.{on_line, edit_on, tried_on, read_script}
 
 row_a_quoted_blank : read_script (codes "set X \"a b\"") ≡ Ok (on_line 1 (Apply (SetValue None (codes "X") (codes "a b"))) ∷ [])
 unfolding line_len lines_from
@@ -464,3 +465,147 @@ row_an_empty_word = refl
 row_a_place_as_a_word : read_script (codes "bottom") ≡ Err 1
 unfolding line_len lines_from
 row_a_place_as_a_word = refl
+
+row_an_edit_behind_try : read_script (codes "try set X 1") ≡ Ok (tried_on 1 (SetValue None (codes "X") (codes "1")) ∷ [])
+unfolding line_len lines_from
+row_an_edit_behind_try = refl
+
+row_try_before_nth : read_script (codes "try nth 2 set X 1") ≡ Ok (tried_on 1 (SetValue (Some 2) (codes "X") (codes "1")) ∷ [])
+unfolding line_len lines_from
+row_try_before_nth = refl
+
+row_try_between_quotes : read_script (codes "\"try\" unset X") ≡ Ok (tried_on 1 (RemoveAssign None (codes "X")) ∷ [])
+unfolding line_len lines_from
+row_try_between_quotes = refl
+
+row_an_edit_and_an_alternative : read_script (codes "set X 1\nor assign bottom X = 1") ≡ Ok (Chain (edit_on 1 (SetValue None (codes "X") (codes "1"))) (edit_on 2 (AddAssign Bottom (codes "X") Recursive (codes "1"))) [] ∷ [])
+unfolding line_len lines_from
+row_an_edit_and_an_alternative = refl
+
+row_three_alternatives : read_script (codes "set X 1\nor set Y 1\nor set Z 1\nor set W 1") ≡ Ok (Chain (edit_on 1 (SetValue None (codes "X") (codes "1"))) (edit_on 2 (SetValue None (codes "Y") (codes "1"))) ((edit_on 3 (SetValue None (codes "Z") (codes "1"))) ∷ (edit_on 4 (SetValue None (codes "W") (codes "1"))) ∷ []) ∷ [])
+unfolding line_len lines_from
+row_three_alternatives = refl
+
+row_comments_and_blank_lines_in_a_chain : read_script (codes "set X 1\n# c\n\n \t\nor nth 2 unset X\n") ≡ Ok (Chain (edit_on 1 (SetValue None (codes "X") (codes "1"))) (edit_on 5 (RemoveAssign (Some 2) (codes "X"))) [] ∷ [])
+unfolding line_len lines_from
+row_comments_and_blank_lines_in_a_chain = refl
+
+row_or_between_quotes : read_script (codes "unset X\n\"or\" unset Y") ≡ Ok (Chain (edit_on 1 (RemoveAssign None (codes "X"))) (edit_on 2 (RemoveAssign None (codes "Y"))) [] ∷ [])
+unfolding line_len lines_from
+row_or_between_quotes = refl
+
+row_two_chains : read_script (codes "unset A\nor unset B\nunset C\nor unset D\ntry unset E") ≡ Ok (Chain (edit_on 1 (RemoveAssign None (codes "A"))) (edit_on 2 (RemoveAssign None (codes "B"))) [] ∷ Chain (edit_on 3 (RemoveAssign None (codes "C"))) (edit_on 4 (RemoveAssign None (codes "D"))) [] ∷ tried_on 5 (RemoveAssign None (codes "E")) ∷ [])
+unfolding line_len lines_from
+row_two_chains = refl
+
+row_an_alternative_below_rename : read_script (codes "rename a b\nor rename c b") ≡ Ok (Chain (edit_on 1 (RenameTarget (codes "a") (codes "b"))) (edit_on 2 (RenameTarget (codes "c") (codes "b"))) [] ∷ [])
+unfolding line_len lines_from
+row_an_alternative_below_rename = refl
+
+row_or_in_the_first_line : read_script (codes "or set X 1") ≡ Err 1
+unfolding line_len lines_from
+row_or_in_the_first_line = refl
+
+row_or_below_a_comment_alone : read_script (codes "# c\n\nor set X 1") ≡ Err 3
+unfolding line_len lines_from
+row_or_below_a_comment_alone = refl
+
+row_or_below_try : read_script (codes "try set X 1\nor set Y 1") ≡ Err 2
+unfolding line_len lines_from
+row_or_below_try = refl
+
+row_or_below_undo : read_script (codes "set X 1\nundo\nor set Y 1") ≡ Err 3
+unfolding line_len lines_from
+row_or_below_undo = refl
+
+row_or_below_begin : read_script (codes "begin\nor set Y 1") ≡ Err 2
+unfolding line_len lines_from
+row_or_below_begin = refl
+
+row_or_below_end : read_script (codes "begin\nend\nor set Y 1") ≡ Err 3
+unfolding line_len lines_from
+row_or_below_end = refl
+
+row_or_below_cancel : read_script (codes "begin\ncancel\nor set Y 1") ≡ Err 3
+unfolding line_len lines_from
+row_or_below_cancel = refl
+
+row_or_below_redo : read_script (codes "redo\nor set Y 1") ≡ Err 2
+unfolding line_len lines_from
+row_or_below_redo = refl
+
+row_or_before_undo : read_script (codes "set X 1\nor undo") ≡ Err 2
+unfolding line_len lines_from
+row_or_before_undo = refl
+
+row_or_before_end : read_script (codes "set X 1\nor end") ≡ Err 2
+unfolding line_len lines_from
+row_or_before_end = refl
+
+row_or_before_try : read_script (codes "set X 1\nor try set Y 1") ≡ Err 2
+unfolding line_len lines_from
+row_or_before_try = refl
+
+row_or_before_or : read_script (codes "set X 1\nor or set Y 1") ≡ Err 2
+unfolding line_len lines_from
+row_or_before_or = refl
+
+row_or_alone : read_script (codes "set X 1\nor") ≡ Err 2
+unfolding line_len lines_from
+row_or_alone = refl
+
+row_or_before_a_bad_edit : read_script (codes "set X 1\nor set Y") ≡ Err 2
+unfolding line_len lines_from
+row_or_before_a_bad_edit = refl
+
+row_or_below_a_chain_whose_or_is_behind_a_call : read_script (codes "unset X\nor unset Y\nundo\nor unset Z") ≡ Err 4
+unfolding line_len lines_from
+row_or_below_a_chain_whose_or_is_behind_a_call = refl
+
+row_try_before_redo : read_script (codes "try redo") ≡ Err 1
+unfolding line_len lines_from
+row_try_before_redo = refl
+
+row_try_before_begin : read_script (codes "try begin") ≡ Err 1
+unfolding line_len lines_from
+row_try_before_begin = refl
+
+row_try_before_cancel : read_script (codes "try cancel") ≡ Err 1
+unfolding line_len lines_from
+row_try_before_cancel = refl
+
+row_try_before_or : read_script (codes "set X 1\ntry or set Y 1") ≡ Err 2
+unfolding line_len lines_from
+row_try_before_or = refl
+
+row_try_before_try : read_script (codes "try try set X 1") ≡ Err 1
+unfolding line_len lines_from
+row_try_before_try = refl
+
+row_try_alone : read_script (codes "try") ≡ Err 1
+unfolding line_len lines_from
+row_try_alone = refl
+
+row_try_before_a_bad_edit : read_script (codes "try set X") ≡ Err 1
+unfolding line_len lines_from
+row_try_before_a_bad_edit = refl
+
+row_nth_before_try : read_script (codes "nth 1 try set X 1") ≡ Err 1
+unfolding line_len lines_from
+row_nth_before_try = refl
+
+row_nth_before_or : read_script (codes "set X 1\nnth 1 or set X 1") ≡ Err 2
+unfolding line_len lines_from
+row_nth_before_or = refl
+
+row_a_bad_quote_behind_try : read_script (codes "try set X \"a") ≡ Err 1
+unfolding line_len lines_from
+row_a_bad_quote_behind_try = refl
+
+row_a_target_called_or : read_script (codes "unrule or\nor unrule try") ≡ Ok (Chain (edit_on 1 (RemoveRule None (codes "or"))) (edit_on 2 (RemoveRule None (codes "try"))) [] ∷ [])
+unfolding line_len lines_from
+row_a_target_called_or = refl
+
+row_try_in_capitals : read_script (codes "Try set X 1") ≡ Err 1
+unfolding line_len lines_from
+row_try_in_capitals = refl

@@ -1,15 +1,15 @@
--- The commands before the index were obeyed, and the report works.
+-- The steps before the index were obeyed, and the report works.
 use Rattle.std.proofs.Common.{◌≡◌, ◌≤◌, false, take, map}
-use Rattle.mk_script.specs.Scripts.{numbered}
+use Rattle.mk_script.specs.Scripts.{step_of}
 use Rattle.mk_run.specs.RunEnds.{written}
 use Rattle.mk_run.specs.RunSteps.{AreObeyed}
 use Rattle.mk_run.proofs.engine.obey_all.Given as goal
 
-abbrev pub invariant-loop-numbered : goal.invariant-loop-numbered
-invariant-loop-numbered g l = record {
+abbrev pub invariant-loop-step : goal.invariant-loop-step
+invariant-loop-step g l = record {
   unflushed : g.P.ByteSink.flushes l.report ≡ g.P.ByteSink.flushes l.initial.report;
   works : g.P.ByteSink.failed l.report ≡ false;
-  few : l.refused ≤ l.numbered-index;
-  obeyed : AreObeyed l.keep_going (take l.numbered-index (map numbered l.commands)) l.fn.session.shown l.session.shown l.refused
+  few : l.refused ≤ l.step-index;
+  obeyed : AreObeyed l.keep_going (take l.step-index (map step_of l.steps)) l.fn.session.shown l.session.shown l.refused
       (written (g.P.ByteSink.contents l.initial.report) (g.P.ByteSink.contents l.report));
 }

@@ -1,14 +1,14 @@
 use Rattle.std.proofs.Common.{refl, map, rules, subst}
-use Rattle.mk_script.specs.Scripts.{numbered}
+use Rattle.mk_script.specs.Scripts.{step_of}
 use Rattle.mk_run.specs.RunSteps.{StopsMakefile}
 use Rattle.mk_run.specs.declared.outcome.Outcome.{Outcome}
 use Rattle.mk_run.specs.declared.outcome.Outcome.TheVariants.{BadDepth, NotACommand, Read}
-use Rattle.mk_run.proofs.on_runs.RunLemmas.{makefile-stops, makefile-unopened, commands-over, reached-other}
-use Rattle.mk_run.proofs.engine.run_commands.Goals as goal
+use Rattle.mk_run.proofs.on_runs.RunLemmas.{makefile-stops, makefile-unopened, steps-over, reached-other}
+use Rattle.mk_run.proofs.engine.run_steps.Goals as goal
 
 pub returns-in-Err-clause-over : goal.returns-in-Err-clause-over
 returns-in-Err-clause-over g c = λ script says.
-    makefile-stops _ script c.args.depth c.args.keep_going _ _ _ _ (map numbered c.args.commands.now) _ c.in-Err.outcome c.requires.depth says c.in-Err.ensures.stops
+    makefile-stops _ script c.args.depth c.args.keep_going _ _ _ _ (map step_of c.args.steps.now) _ c.in-Err.outcome c.requires.depth says c.in-Err.ensures.stops
 
 pub returns-in-Err-clause-faults : goal.returns-in-Err-clause-faults
 returns-in-Err-clause-faults g c =
@@ -26,7 +26,7 @@ returns-in-Err-clause-out g c =
 
 pub returns-clause-over : goal.returns-clause-over
 returns-clause-over g c = λ script says.
-    commands-over _ script c.args.depth c.args.keep_going (map numbered c.args.commands.now) c.in-Ok.session c.requires.depth says c.in-Ok.ensures.opened
+    steps-over _ script c.args.depth c.args.keep_going (map step_of c.args.steps.now) c.in-Ok.session c.requires.depth says c.in-Ok.ensures.opened
     _ _ _ c.obey_and_put_out.new.session _ c.obey_and_put_out.result (rw c.insert-session.ensures.value at c.obey_and_put_out.ensures.ends)
 
 pub returns-clause-begun : goal.returns-clause-begun

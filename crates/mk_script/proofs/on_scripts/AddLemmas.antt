@@ -1,0 +1,114 @@
+-- A line is added to steps, or is not.
+use Rattle.std.proofs.Common.{◌≡◌, ℕ, ◌-◌, Bool, true, false, List, [], ◌∷◌, ◌++◌, refl, sym, ap, ◌∙◌, subst, cond, map, take, append_assoc, codes}
+use Rattle.std.specs.Prelude.{Option, Some, None, option_map, is_some, Result, Ok, Err}
+use Rattle.std.specs.Result.{IsErrAnd}
+use Rattle.std.specs.Str.{bytes_eq}
+use Rattle.std.proofs.lemmas.List.{map-append}
+use Rattle.mk_edit_language.specs.Edits.{Edit}
+use Rattle.mk_script.specs.Lines.{Saying, Plain, Try, Or}
+use Rattle.mk_script.specs.FieldReading.{first_field}
+use Rattle.mk_script.specs.WordReading.{named, calls}
+use Rattle.mk_script.specs.CommandReading.{call_or_edit, edit_line, saying_after, saying}
+use Rattle.mk_script.specs.Scripts.{EditAt, Step, SayingAt, or_at, sayings_of, sayings, chain_of}
+use Rattle.mk_script.specs.ReaderAnswers.{is_short, takes_alternative, SayMore, Adds, Pushes}
+use Rattle.mk_script.specs.declared.fault.LineFault.{LineFault}
+use Rattle.mk_script.specs.declared.fault.LineFault.TheVariants.{NotACommand, NoMemory}
+use Rattle.mk_script.proofs.on_scripts.GroupLemmas.{sayings-last, none-first, none-below}
+
+-- ---- what is said more
+
+-- a step of its own
+pub step-more : (steps : List Step) (step : Step) (x : SayingAt) → sayings_of step ≡ x ∷ [] → SayMore steps x (steps ++ step ∷ [])
+step-more steps step x is = sayings-last steps step ∙ ap (λ s. sayings steps ++ s) is
+
+chain-more : (first : EditAt) (others : List EditAt) (e : EditAt) → sayings_of (chain_of first (others ++ e ∷ [])) ≡ sayings_of (chain_of first others) ++ or_at e ∷ []
+chain-more first [] e = refl
+chain-more first (second ∷ others) e = ap (λ s. (sayings_of (chain_of first []) ++ or_at second ∷ []) ++ s) (map-append or_at others (e ∷ []))
+
+-- an alternative of the last step
+pub alternative-more : (base init : List Step) (first : EditAt) (others : List EditAt) (n : ℕ) (e : Edit) → base ≡ init ++ chain_of first others ∷ []
+    → SayMore base (record { line = n; saying = Or e }) (init ++ chain_of first (others ++ record { line = n; edit = e } ∷ []) ∷ [])
+alternative-more base init first others n e is =
+    let x : SayingAt = record { line = n; saying = Or e } in
+    sayings-last init (chain_of first (others ++ record { line = n; edit = e } ∷ []))
+    ∙ (ap (λ s. sayings init ++ s) (chain-more first others (record { line = n; edit = e }))
+    ∙ (sym (append_assoc (sayings init) (sayings_of (chain_of first others)) (x ∷ []))
+    ∙ (ap (λ s. s ++ x ∷ []) (sym (sayings-last init (chain_of first others))) ∙ ap (λ b. sayings b ++ x ∷ []) (sym is))))
+
+-- ---- steps that are pushed
+
+-- what may stand there was added, or memory was short for it
+pub added : {X : Type 0} (f : X → Step) (base : List Step) (old new : List X) (step : X) (n : ℕ) (stands : Option Saying) (x : Saying) (r : Result (Unit {0}) LineFault)
+    → stands ≡ Some x → SayMore base (record { line = n; saying = x }) (map f old ++ f step ∷ []) → Pushes old step new r → Adds base n stands (map f new) r
+added f base old new step n stands x (Ok u) is more pushed =
+    (x, is, subst (λ (s : List Step). SayMore base (record { line = n; saying = x }) s) (sym (ap (λ l. map f l) pushed ∙ map-append f old (step ∷ []))) more)
+added f base old new step n stands x (Err NoMemory) is more pushed = (x, is, (map f old ++ f step ∷ [], more))
+added f base old new step n stands x (Err NotACommand) is more pushed = absurd (cc)
+
+pub added-short : (base others : List Step) (n : ℕ) (stands : Option Saying) (x : Saying) (new : List Step) → stands ≡ Some x → SayMore base (record { line = n; saying = x }) others
+    → Adds base n stands new (Err NoMemory)
+added-short base others n stands x new is more = (x, is, (others, more))
+
+-- ---- what was not read
+
+-- nothing stands there, or memory was short for what does
+pub not-read : {E : Type 0} (o : Option E) (make : E → Saying) (base : List Step) (n : ℕ) (stands : Option Saying) (new : List Step) (fault : LineFault)
+    → stands ≡ option_map make o → is_some o ≡ is_short fault → ((e : E) → (others : List Step) × SayMore base (record { line = n; saying = make e }) others)
+    → Adds base n stands new (Err fault)
+not-read None make base n stands new NotACommand is none more = λ x some others h. absurd (cc)
+not-read None make base n stands new NoMemory is none more = absurd (cc)
+not-read (Some e) make base n stands new NotACommand is some more = absurd (cc)
+not-read (Some e) make base n stands new NoMemory is some more = (make e, is, more e)
+
+-- no alternative may stand first, or below such a step
+alternative-is : (o : Option Edit) (x : Saying) → option_map Or o ≡ Some x → (e : Edit) × (x ≡ Or e)
+alternative-is None x h = absurd (cc)
+alternative-is (Some e) x h = let same : Or e ≡ x = cc in (e, sym same)
+
+pub first-refused : (base : List Step) (n : ℕ) (o : Option Edit) (new : List Step) → base ≡ [] → Adds base n (option_map Or o) new (Err NotACommand)
+first-refused base n o new none = λ x is others more.
+    let e = alternative-is o x is in
+    none-first n e.0 others (subst (λ b. SayMore b (record { line = n; saying = Or e.0 }) others) none (subst (λ s. SayMore base (record { line = n; saying = s }) others) e.1 more))
+
+pub below-refused : (base init : List Step) (last : Step) (n : ℕ) (o : Option Edit) (new : List Step) → base ≡ init ++ last ∷ [] → takes_alternative last ≡ false
+    → Adds base n (option_map Or o) new (Err NotACommand)
+below-refused base init last n o new is no_more = λ x stands others more.
+    let e = alternative-is o x stands in
+    none-below init last n e.0 no_more others (subst (λ b. SayMore b (record { line = n; saying = Or e.0 }) others) is (subst (λ s. SayMore base (record { line = n; saying = s }) others) e.1 more))
+
+-- ---- lists
+
+-- the values of a list that lost its last one
+pub last-mapped : {X Y : Type 0} (f : X → Y) (old init : List X) (x : X) → old ≡ init ++ x ∷ [] → map f old ≡ map f init ++ f x ∷ []
+last-mapped f old init x is = ap (λ l. map f l) is ∙ map-append f init (x ∷ [])
+
+-- the values of a list that had none
+pub none-left : {X Y : Type 0} (f : X → Y) (old new : List X) (n : ℕ) → old ≡ new ++ [] → n ≡ 0 → new ≡ take (n - 1) old → map f old ≡ []
+none-left f old new n is none front =
+    let empty : new ≡ [] = front ∙ ap (λ k. take (k - 1) old) none in
+    ap (λ l. map f l) (is ∙ ap (λ l. l ++ []) empty)
+
+-- a fault that is handed on
+pub handed-on : (base : List Step) (n : ℕ) (stands : Option Saying) (new : List Step) (r : Result (Unit {0}) LineFault) (fault : LineFault) → IsErrAnd r (λ e. e ≡ fault)
+    → Adds base n stands new (Err fault) → Adds base n stands new r
+handed-on base n stands new (Ok u) fault h adds = absurd h
+handed-on base n stands new (Err e) fault h adds = subst (λ f. Adds base n stands new (Err f)) (sym h) adds
+
+-- ---- what a line says, by its first field
+
+pub said-try : (line first rest : List ℕ) → first_field line ≡ Some (first, rest) → bytes_eq first (codes "try") ≡ true → saying line ≡ option_map Try (edit_line rest)
+said-try line first rest h is = ap (λ o. saying_after o) h ∙ ap (λ (b : Bool). cond b (option_map Try (edit_line rest)) (cond (bytes_eq first (codes "or")) (option_map Or (edit_line rest)) (option_map Plain (call_or_edit (named calls first) first rest)))) is
+
+pub said-or : (line first rest : List ℕ) → first_field line ≡ Some (first, rest) → bytes_eq first (codes "try") ≡ false → bytes_eq first (codes "or") ≡ true
+    → saying line ≡ option_map Or (edit_line rest)
+said-or line first rest h no_try is =
+    ap (λ o. saying_after o) h
+    ∙ (ap (λ (b : Bool). cond b (option_map Try (edit_line rest)) (cond (bytes_eq first (codes "or")) (option_map Or (edit_line rest)) (option_map Plain (call_or_edit (named calls first) first rest)))) no_try
+    ∙ ap (λ (b : Bool). cond b (option_map Or (edit_line rest)) (option_map Plain (call_or_edit (named calls first) first rest))) is)
+
+pub said-plain : (line first rest : List ℕ) → first_field line ≡ Some (first, rest) → bytes_eq first (codes "try") ≡ false → bytes_eq first (codes "or") ≡ false
+    → saying line ≡ option_map Plain (call_or_edit (named calls first) first rest)
+said-plain line first rest h no_try no_or =
+    ap (λ o. saying_after o) h
+    ∙ (ap (λ (b : Bool). cond b (option_map Try (edit_line rest)) (cond (bytes_eq first (codes "or")) (option_map Or (edit_line rest)) (option_map Plain (call_or_edit (named calls first) first rest)))) no_try
+    ∙ ap (λ (b : Bool). cond b (option_map Or (edit_line rest)) (option_map Plain (call_or_edit (named calls first) first rest))) no_or)

@@ -1,0 +1,47 @@
+-- Scripts without `try` and `or`.
+use Rattle.std.proofs.Common.{ℕ, ◌+◌, List, [], ◌∷◌, refl, inl, inr, map}
+use Rattle.std.specs.List.{AllByRecursion}
+use Rattle.mk_script.specs.Lines.{script_lines}
+use Rattle.mk_script.specs.Scripts.{CommandAt, Alone, AreSaid, sayings}
+use Rattle.mk_script.specs.ScriptsOfCommands.{AreCommands, IsReadable}
+use Rattle.mk_script.specs.ScriptLaws.{CommandsAreSteps, FaultsWithoutAlternativesStay}
+use Rattle.mk_script.proofs.on_commands.SayingLemmas.{without-words}
+use Rattle.mk_script.proofs.on_scripts.SaidLemmas.{said-last}
+
+commands-said : (n : ℕ) (lines : List (List ℕ)) (commands : List CommandAt) → AreCommands n lines commands → AreSaid n lines (sayings (map Alone commands))
+commands-said n [] [] h = tt
+commands-said n [] (c ∷ commands) h = absurd h
+commands-said n (line ∷ lines) [] h = (h.0, commands-said (n + 1) lines [] h.1)
+commands-said n (line ∷ lines) (c ∷ commands) (inl h) = inl (h.0, commands-said (n + 1) lines (c ∷ commands) h.1)
+commands-said n (line ∷ lines) (c ∷ commands) (inr h) = inr (h.0, h.1, commands-said (n + 1) lines commands h.2)
+
+pub commands-steps : CommandsAreSteps
+commands-steps script commands h = commands-said 1 (script_lines script) commands h
+
+-- lines that are skipped or commands have commands
+readable-commands : (n : ℕ) (lines : List (List ℕ)) → AllByRecursion IsReadable lines → (commands : List CommandAt) × AreCommands n lines commands
+readable-commands n [] h = ([], tt)
+readable-commands n (line ∷ lines) (inl s, h) = skipped (readable-commands (n + 1) lines h)
+  where
+    skipped : (commands : List CommandAt) × AreCommands (n + 1) lines commands → (commands : List CommandAt) × AreCommands n (line ∷ lines) commands
+    skipped ([], k) = ([], (s, k))
+    skipped (c ∷ commands, k) = (c ∷ commands, inl (s, k))
+readable-commands n (line ∷ lines) (inr (c, has), h) =
+    let others = readable-commands (n + 1) lines h in
+    (record { line = n; command = c } ∷ others.0, inr (refl, has, others.1))
+
+pub faults-stay : FaultsWithoutAlternativesStay
+faults-stay script n h =
+    let commands = readable-commands 1 h.before h.read in
+    record {
+      before = h.before;
+      line = h.line;
+      after = h.after;
+      lines = h.lines;
+      number_is = h.number_is;
+      steps = map Alone commands.0;
+      are = commands-said 1 h.before commands.0 commands.1;
+      property = λ steps are.
+          let more = said-last h.line 1 h.before (sayings steps) (λ s. h.unread (inl s)) are in
+          h.unread (inr (without-words h.line h.no_try h.no_or more.last.saying more.says));
+    }
