@@ -12,7 +12,7 @@ pub struct Script {
 }
 
 /// Each command, each place, operator and separator, numbers, quotes and line ends.
-pub static SCRIPTS: [Script; 19] = [
+pub static SCRIPTS: [Script; 20] = [
     Script {
         text: b"",
         steps: b"",
@@ -35,7 +35,7 @@ pub static SCRIPTS: [Script; 19] = [
     },
     Script {
         text: b"add F -g\nnth 2 \"add\" F \"-O2\"",
-        commands: b"1 AddWord -|F|-g\n2 AddWord 2|F|-O2\n",
+        steps: b"1 AddWord -|F|-g\n2 AddWord 2|F|-O2\n",
         growths: 5,
     },
     Script {
@@ -85,7 +85,7 @@ pub static SCRIPTS: [Script; 19] = [
     },
     Script {
         text: b"nth 2 recipe-insert t 1 ls",
-        commands: b"1 InsertRecipe 2|t|1|ls\n",
+        steps: b"1 InsertRecipe 2|t|1|ls\n",
         growths: 3,
     },
     Script {
