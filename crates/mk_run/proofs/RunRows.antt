@@ -5,7 +5,7 @@ use Rattle.std.specs.Fmt.{digits}
 use Rattle.mk_class.specs.declared.assignment.Flavor.TheVariants.{Recursive, Simple}
 use Rattle.mk_edit_language.specs.declared.edit.RuleSeparator.TheVariants.{Single}
 use Rattle.mk_edit_language.specs.Edits.{Edit, Bottom, BeforeVar}
-use Rattle.mk_edit_language.specs.Edits.{SetValue, AppendValue, AddAssign, RemoveAssign, AddRule, RemoveRule, AddPrereq, RemovePrereq, AddRecipe, SetRecipe, RemoveRecipe, RenameTarget}
+use Rattle.mk_edit_language.specs.Edits.{SetValue, AppendValue, AddAssign, RemoveAssign, AddRule, RemoveRule, AddPrereq, RemovePrereq, AddRecipe, SetRecipe, RemoveRecipe, SetRecipeByText, RenameTarget}
 use Rattle.mk_history.specs.Machine.{Command, Apply, Undo, Redo, Begin, End, Cancel}
 use Rattle.mk_history.specs.Shown.{shown_opened}
 use Rattle.mk_script.specs.Scripts.{CommandAt}
@@ -182,3 +182,7 @@ row_target_that_ends_in_an_ampersand_is_refused = refl
 row_empty_place_is_refused : came_to false 100 (codes "X=1\n") (at 1 (Apply (AddAssign (BeforeVar None []) (codes "Y") Recursive (codes "1"))) ∷ []) ≡ ends (Refused 1) (codes "1: refused 1 BadArgument place\n") None
 unfolding digits
 row_empty_place_is_refused = refl
+
+row_recipe_replace_tests_the_old_text : came_to false 100 (codes "c:\n\ta\n") (at 1 (Apply (SetRecipeByText None (codes "c") (codes "a\\") (codes "x"))) ∷ []) ≡ ends (Refused 1) (codes "1: refused 1 BadArgument old\n") None
+unfolding digits
+row_recipe_replace_tests_the_old_text = refl

@@ -26,7 +26,7 @@ const FRONT: &[u8] = b"A=1\nall: a b\n\tx\n\ty\n";
 
 // An edit of each kind, by its command in a script, with the number of lines that it changes in such
 // a document.
-const EDITS: [(&str, Step, usize); 13] = [
+const EDITS: [(&str, Step, usize); 15] = [
     ("set", Step::SetValue(b"A", b"2"), 1),
     ("append", Step::AppendValue(b"A", b"2"), 1),
     ("assign", Step::AddAssign(b"C", b"2"), 1),
@@ -39,6 +39,12 @@ const EDITS: [(&str, Step, usize); 13] = [
     ("recipe-set", Step::SetRecipe(b"all", b"z"), 1),
     ("recipe-del", Step::RemoveRecipe(b"all"), 1),
     ("recipe-insert", Step::InsertRecipe(b"all", b"z"), 1),
+    (
+        "recipe-replace",
+        Step::SetRecipeByText(b"all", b"x", b"z"),
+        1,
+    ),
+    ("recipe-remove", Step::RemoveRecipeByText(b"all", b"y"), 1),
     ("rename", Step::RenameTarget(b"all", b"tidy"), 1),
 ];
 

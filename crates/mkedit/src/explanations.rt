@@ -101,8 +101,8 @@ assignments for targets do not count. There is no `nth all`: write one line for 
 ";
 
 const ABSENT: &str = "\
-The word to take out is no prerequisite of the rule, or the rule has no K-th recipe line. For
-`recipe-insert` K may be one more than the number of recipe lines.
+The word to take out is no prerequisite of the rule, the rule has no K-th recipe line, or none whose
+text is OLD. For `recipe-insert` K may be one more than the number of recipe lines.
 
 Example: over
     hello: main.o
@@ -171,7 +171,8 @@ the script
 is reported as
     1: refused 10 Straddles
 
-Edit by hand, or use `recipe-set` and `recipe-del`, which are not refused.
+Edit by hand, or use `recipe-set`, `recipe-del`, `recipe-replace` and `recipe-remove`, which are not
+refused.
 ";
 
 const OPEN_VALUE: &str = "\

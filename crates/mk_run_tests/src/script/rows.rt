@@ -12,7 +12,7 @@ pub struct Script {
 }
 
 /// Each command, each place, operator and separator, numbers, quotes and line ends.
-pub static SCRIPTS: [Script; 16] = [
+pub static SCRIPTS: [Script; 17] = [
     Script {
         text: b"",
         commands: b"",
@@ -82,6 +82,11 @@ pub static SCRIPTS: [Script; 16] = [
         text: b"nth 2 recipe-insert t 1 ls",
         commands: b"1 InsertRecipe 2|t|1|ls\n",
         growths: 3,
+    },
+    Script {
+        text: b"recipe-replace t \"a b\" ls\nnth 1 recipe-remove t \"a b\"",
+        commands: b"1 SetRecipeByText -|t|a b|ls\n2 RemoveRecipeByText 1|t|a b\n",
+        growths: 6,
     },
     Script {
         text: b"begin\nend\nredo\nbegin\ncancel\nundo",
