@@ -16,9 +16,9 @@ pub meant_recipe-requires-clause-in_range : goal.meant_recipe-requires-clause-in
 meant_recipe-requires-clause-in_range g c = omega (arith, (rule g (goal.at.meant_recipe-requires-clause-in_range g c).In_ok-header).within)
 
 pub returns-in_err-at : goal.returns-in_err-at
-returns-in_err-at g c = λ read. refused-first _ _ read _ (inl ((rule g (goal.at.returns-in_err-at g c).In_ok-header).missing _ (sym c.in_err-at.is ∙ c.meant_recipe.ensures)))
+returns-in_err-at g c = λ read. refused-first _ _ read _ (inl ((rule g (goal.at.returns-in_err-at g c).In_ok-header).missing _ (sym c.in_err-at.was ∙ c.meant_recipe.ensures)))
 
 pub returns : goal.returns
 returns g c =
-    let T = (rule g (goal.at.returns g c).In_ok-header).accepted _ c.size-size.ensures.few (sym c.in_ok-at.is ∙ c.meant_recipe.ensures) in
+    let T = (rule g (goal.at.returns g c).In_ok-header).accepted _ c.size-size.ensures.few (sym c.in_ok-at.was ∙ c.meant_recipe.ensures) in
     moves-unread _ _ _ _ T.planned T.costs c.take_out.ensures.moves c.take_out.ensures.refused

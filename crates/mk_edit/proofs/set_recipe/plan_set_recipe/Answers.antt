@@ -16,11 +16,11 @@ rule : (g : Over) (c : In_ok-header g) → IsSetRecipeOf c.args.command.now (edi
 rule g c = set_recipe-of _ _ _ _ c.requires.faithful c.requires.kind c.in_ok-header.ensures.found
 
 meant : (g : Over) (c : After-command_range-range g) → Ok c.in_ok-at.at ≡ meant_index (edit_of c.args.edit.now) c.args.doc.now c.in_ok-header.header
-meant g c = sym c.in_ok-at.is ∙ c.meant_recipe.ensures
+meant g c = sym c.in_ok-at.was ∙ c.meant_recipe.ensures
 
 range : (g : Over) (c : After-command_range-range g) → IsRangeEdit (edit_of c.args.edit.now) c.args.doc.now c.in_ok-at.at (line_view c.line-line.result.now) c.command_range-range.result c.args.command.now
 range g c =
-    (set_recipe-of c.args.command.now (edit_of c.args.edit.now) c.args.doc.now c.in_ok-header.header c.requires.faithful c.requires.kind c.in_ok-header.ensures.found).range _ _ _ (sym c.in_ok-at.is ∙ c.meant_recipe.ensures) c.line-line.ensures
+    (set_recipe-of c.args.command.now (edit_of c.args.edit.now) c.args.doc.now c.in_ok-header.header c.requires.faithful c.requires.kind c.in_ok-header.ensures.found).range _ _ _ (sym c.in_ok-at.was ∙ c.meant_recipe.ensures) c.line-line.ensures
     (c.command_range-range.ensures ∙ ap command_range c.bytes.ensures.bytes)
 
 pub overflow_add-header : goal.overflow_add-header
@@ -30,10 +30,10 @@ pub meant_recipe-requires-clause-in_range : goal.meant_recipe-requires-clause-in
 meant_recipe-requires-clause-in_range g c = omega (arith, (rule g (goal.at.meant_recipe-requires-clause-in_range g c).In_ok-header).within)
 
 pub returns-in_err-at : goal.returns-in_err-at
-returns-in_err-at g c = refused-first _ _ _ _ (inl ((rule g (goal.at.returns-in_err-at g c).In_ok-header).missing _ (sym c.in_err-at.is ∙ c.meant_recipe.ensures)))
+returns-in_err-at g c = refused-first _ _ _ _ (inl ((rule g (goal.at.returns-in_err-at g c).In_ok-header).missing _ (sym c.in_err-at.was ∙ c.meant_recipe.ensures)))
 
 pub line-line-requires : goal.line-line-requires
-line-line-requires g c = (rule g (goal.at.line-line-requires g c).In_ok-header).in_range _ (sym c.in_ok-at.is ∙ c.meant_recipe.ensures)
+line-line-requires g c = (rule g (goal.at.line-line-requires g c).In_ok-header).in_range _ (sym c.in_ok-at.was ∙ c.meant_recipe.ensures)
 
 pub overflow_sub-range : goal.overflow_sub-range
 overflow_sub-range g c = omega (arith, (range g (goal.at.overflow_sub-range g c).After-command_range-range).rises)
@@ -53,10 +53,15 @@ with_replaced-requires g c =
     let E = range g (goal.at.with_replaced-requires g c).After-command_range-range in
     record { rises = E.rises; within = omega (arith, E.within, ap length c.bytes-2.ensures.bytes) }
 
-pub returns-in_default-with_replaced : goal.returns-in_default-with_replaced
-returns-in_default-with_replaced g c =
-    let E = range g (goal.at.returns-in_default-with_replaced g c).After-command_range-range in
+pub returns-in_default : goal.returns-in_default
+returns-in_default g c =
+    let E = range g (goal.at.returns-in_default g c).After-command_range-range in
     memory-first _ _ _ _ (range-accepted _ _ _ _ _ _ E (omega (arith, c.size-size.ensures.number, c.if-size-command.false)))
+
+pub overflow_sub-at : goal.overflow_sub-at
+overflow_sub-at g c =
+    let at = goal.at.overflow_sub-at g c in
+    omega (arith, (rule g at.In_ok-header).below c.in_ok-at.at (meant g at.After-command_range-range))
 
 pub after_lines-place-requires : goal.after_lines-place-requires
 after_lines-place-requires g c =
