@@ -186,8 +186,10 @@ def antt_nth(nth):
 
 
 # Where the number of the line stands that an edit means.
-NTH_FIRST = {"SetValue", "AppendValue", "RemoveAssign", "RemoveRule", "RemovePrereq", "AddRecipe", "SetRecipe", "RemoveRecipe", "InsertRecipe"}
-NTH_FIRST |= {"SetRecipeByText", "RemoveRecipeByText"}
+NTH_FIRST = set(
+    "SetValue AppendValue RemoveAssign RemoveRule RemovePrereq AddRecipe SetRecipe RemoveRecipe InsertRecipe"
+    " SetRecipeByText RemoveRecipeByText".split()
+)
 
 
 def antt_command(name, *arguments):
