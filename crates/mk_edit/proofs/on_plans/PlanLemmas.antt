@@ -1,6 +1,6 @@
 -- What the planning of every edit has to show, if its moves lead from the lines before the edit to the lines after it.
-use Rattle.std.proofs.Common.{◌≡◌, refl, sym, ap, ◌∙◌, subst, arith, ℕ, ◌+◌, ◌<◌, ◌≤◌, List, [], ◌∷◌, ◌++◌, length, take, Option, Some, None, option_map, inr}
-use Rattle.std.specs.Prelude.{◌^◌, ◌-◌, min, Ok, Err, Result, IfOk, IsOkUnless}
+use Rattle.std.proofs.Common.{◌≡◌, refl, sym, ap, ◌∙◌, subst, arith, ℕ, ◌+◌, ◌<◌, ◌≤◌, List, [], ◌∷◌, ◌++◌, length, take, Option, Some, None, option_map, inl, inr}
+use Rattle.std.specs.Prelude.{◌^◌, ◌-◌, min, Ok, Err, Result, IfOk, IsErrAnd, IsOkUnless}
 use Rattle.std.proofs.lemmas.List.{length-map}
 use Rattle.std.proofs.Math.Seq.{take-append_seam}
 use Rattle.mk_lines.specs.Limits.{max_text}
@@ -125,6 +125,11 @@ puts-in t e rs s h = absurd (cc)
 -- a refusal, before a line is read
 pub refused-first : (e : Edit) (ls : List LocatedLine) (read : ℕ) (r : Refusal) → IsRefusal (located_text ls) e r → Plans e ls read read (Err r)
 refused-first e ls read r h = record { planned = tt; refused = h; counted = tt; few_read = omega arith; forward = omega arith }
+
+-- a refusal that is handed on, before a line is read
+pub refused-on : (e : Edit) (ls : List LocatedLine) (read : ℕ) (r : Refusal) (result : Result (List Move) Refusal) → IsErrAnd result (λ q. q ≡ r) → spans (located_text ls) e ≡ Err r → Plans e ls read read result
+refused-on e ls read r (Ok patch) i h = absurd i
+refused-on e ls read r (Err q) i h = refused-first e ls read q (inl (h ∙ ap Err (sym i)))
 
 -- a growth was refused, before a line was read
 pub memory-first : (e : Edit) (ls : List LocatedLine) (read : ℕ) (rs : List Replacement) → spans (located_text ls) e ≡ Ok rs → Plans e ls read read (Err NoMemory)

@@ -1,6 +1,6 @@
-use Rattle.std.proofs.Common.{◌∙◌, sym, arith, inl}
+use Rattle.std.proofs.Common.{◌∙◌, sym, arith}
 use Rattle.mk_edit_language.specs.EditViews.{edit_of}
-use Rattle.mk_edit.proofs.on_plans.PlanLemmas.{refused-first, moves-unread}
+use Rattle.mk_edit.proofs.on_plans.PlanLemmas.{refused-on, moves-unread}
 use Rattle.mk_edit.proofs.on_recipes.RemoveRecipePlans.{IsRemoveRecipeOf, remove_recipe-of}
 use Rattle.mk_edit.proofs.remove_recipe.plan_remove_recipe.Given.{Over}
 use Rattle.mk_edit.proofs.remove_recipe.plan_remove_recipe.Goals.{In_ok-header}
@@ -16,7 +16,8 @@ pub meant_recipe-requires-clause-in_range : goal.meant_recipe-requires-clause-in
 meant_recipe-requires-clause-in_range g c = omega (arith, (rule g (goal.at.meant_recipe-requires-clause-in_range g c).In_ok-header).within)
 
 pub returns-in_err-at : goal.returns-in_err-at
-returns-in_err-at g c = λ read. refused-first _ _ read _ (inl ((rule g (goal.at.returns-in_err-at g c).In_ok-header).missing _ (sym c.in_err-at.was ∙ c.meant_recipe.ensures)))
+returns-in_err-at g c = λ read.
+    refused-on _ _ read _ _ c.from_residual-in_err-at.ensures.1 ((rule g (goal.at.returns-in_err-at g c).In_ok-header).missing _ (sym c.in_err-at.was ∙ c.meant_recipe.ensures))
 
 pub returns : goal.returns
 returns g c =

@@ -3,7 +3,7 @@ use Rattle.std.specs.Prelude.{Ok}
 use Rattle.mk_tree.specs.Trees.{line_view}
 use Rattle.mk_edit_language.specs.EditViews.{edit_of}
 use Rattle.mk_edit.specs.RecipeEdits.{command_range}
-use Rattle.mk_edit.proofs.on_plans.PlanLemmas.{refused-first, memory-first, moves-made}
+use Rattle.mk_edit.proofs.on_plans.PlanLemmas.{refused-first, refused-on, memory-first, moves-made}
 use Rattle.mk_edit.proofs.on_plans.LinePlans.{IsReplaced}
 use Rattle.mk_edit.proofs.on_plans.RangePlans.{IsRangeEdit, line-short, range-long, range-accepted, range-replaced}
 use Rattle.mk_edit.proofs.on_recipes.MeantRecipes.{meant_index}
@@ -30,7 +30,8 @@ pub meant_recipe-requires-clause-in_range : goal.meant_recipe-requires-clause-in
 meant_recipe-requires-clause-in_range g c = omega (arith, (rule g (goal.at.meant_recipe-requires-clause-in_range g c).In_ok-header).within)
 
 pub returns-in_err-at : goal.returns-in_err-at
-returns-in_err-at g c = refused-first _ _ _ _ (inl ((rule g (goal.at.returns-in_err-at g c).In_ok-header).missing _ (sym c.in_err-at.was ∙ c.meant_recipe.ensures)))
+returns-in_err-at g c =
+    refused-on _ _ _ _ _ c.from_residual-in_err-at.ensures.1 ((rule g (goal.at.returns-in_err-at g c).In_ok-header).missing _ (sym c.in_err-at.was ∙ c.meant_recipe.ensures))
 
 pub line-line-requires : goal.line-line-requires
 line-line-requires g c = (rule g (goal.at.line-line-requires g c).In_ok-header).in_range _ (sym c.in_ok-at.was ∙ c.meant_recipe.ensures)
