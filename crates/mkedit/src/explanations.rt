@@ -14,7 +14,8 @@ its end, and no reference that is not closed, such as `$(X`. With `append` it is
 and `prereqs` are such words, and `targets` is not empty. Outside a reference no word has a `#`,
 colon, semicolon, equals sign, vertical bar, backslash or lone `$`, and each reference is closed. No
 target ends in `&`. `place` has such a name or such a target in it.
-`line` does not end in a backslash. No field has a CR or a NUL.
+`line` does not end in a backslash, and neither does `old` of `recipe-replace` and `recipe-remove`,
+which is no word. No field has a CR or a NUL.
 
 Example: the script
     set CC \"gcc #1\"
@@ -82,7 +83,7 @@ only a prerequisite, use `undepend` and `depend` in place of `rename`.
 
 const AMBIGUOUS: &str = "\
 Several assignments or several rules that are read have this name, and no `nth` says which one is
-meant. The report says how many there are.
+meant. Or several recipe lines of the rule have the text OLD. The report says how many there are.
 
 Example: over
     ifdef DEBUG
@@ -97,7 +98,8 @@ is reported as
 
 Say which one: `nth 2 set CC clang`. The name may be that of PLACE:
 `nth 2 assign after-var CC X = 1`. `mkedit vars` and `mkedit rules` list them in order, and
-assignments for targets do not count. There is no `nth all`: write one line for each.
+assignments for targets do not count. There is no `nth all`: write one line for each. For a recipe
+line use `recipe-set` or `recipe-del`, which go by number.
 ";
 
 const ABSENT: &str = "\
