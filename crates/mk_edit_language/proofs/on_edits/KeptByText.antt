@@ -40,6 +40,7 @@ remove_recipe_by_text-keeps nth g o t rs h =
       place = K.place;
       before = K.before;
       after = ap (λ q. classed_lines (text_by t q)) (h ∙ sym h') ∙ K.after;
+      -- no line
       new_are = K.new_are;
       within = K.within;
       few_new = K.few_new;

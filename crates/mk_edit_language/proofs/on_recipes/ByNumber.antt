@@ -97,6 +97,7 @@ remove_by_number t g o nth rs h =
       is_there = A.is_there;
       is_one = A.is_one;
       not_led = refl;
+      -- only one line has the text
       not_absent = there-none _ (text-there (classed_lines t) nth g o A.not_absent);
       not_already = refl;
       not_taken = refl;
