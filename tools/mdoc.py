@@ -12,7 +12,7 @@ END = re.compile(r"\. (?=[A-Z]|$)")
 PUNCTUATION = ".,:;"
 COMMANDS = (
     "nth set append add unset assign rule unrule depend depend-order undepend recipe recipe-set recipe-del "
-    "recipe-insert rename undo redo begin end cancel"
+    "recipe-insert recipe-replace recipe-remove rename undo redo begin end cancel"
 ).split()
 
 

@@ -125,6 +125,8 @@ def antt_edit(fields):
         b"unrule": "RemoveRule",
         b"undepend": "RemovePrereq",
         b"recipe": "AddRecipe",
+        b"recipe-replace": "SetRecipeByText",
+        b"recipe-remove": "RemoveRecipeByText",
     }[command]
     return f"({name} {number} " + " ".join(text(field) for field in rest) + ")"
 
@@ -180,7 +182,8 @@ IMPORTS = [
     (
         "Rattle.mk_edit_language.specs.Edits",
         ["SetValue", "AppendValue", "AddWord", "AddAssign", "RemoveAssign", "AddRule", "RemoveRule", "AddPrereq", "RemovePrereq"]
-        + ["AddRecipe", "SetRecipe", "RemoveRecipe", "InsertRecipe", "RenameTarget"],
+        + ["AddRecipe", "SetRecipe", "RemoveRecipe", "InsertRecipe", "SetRecipeByText", "RemoveRecipeByText"]
+        + ["RenameTarget"],
     ),
     ("Rattle.mk_rows.proofs.edits.Outcomes", ["outcome", "account", "span"]),
     ("Rattle.mk_rows.proofs.edits.Outcomes", ["Becomes", "Refused", "Accepted", "NotMade"]),

@@ -33,7 +33,8 @@ IMPORTS = [
     (
         "Rattle.mk_edit_language.specs.Edits",
         ["SetValue", "AppendValue", "AddWord", "AddAssign", "RemoveAssign", "AddRule", "RemoveRule", "AddPrereq", "RemovePrereq"]
-        + ["AddRecipe", "SetRecipe", "RemoveRecipe", "InsertRecipe", "RenameTarget"],
+        + ["AddRecipe", "SetRecipe", "RemoveRecipe", "InsertRecipe", "SetRecipeByText", "RemoveRecipeByText"]
+        + ["RenameTarget"],
     ),
     ("Rattle.mk_history.specs.Machine", ["Apply", *CALLS.values()]),
     ("Rattle.mk_history.specs.Shown", ["shown_opened"]),

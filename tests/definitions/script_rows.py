@@ -45,6 +45,8 @@ EDITS = {
     b"depend-order": ("AddPrereq", [True], 2),
     b"undepend": ("RemovePrereq", [], 2),
     b"recipe": ("AddRecipe", [], 2),
+    b"recipe-replace": ("SetRecipeByText", [], 3),
+    b"recipe-remove": ("RemoveRecipeByText", [], 2),
 }
 PLACES = {b"before-var": "BeforeVar", b"after-var": "AfterVar", b"before-rule": "BeforeRule"}
 CALLS = {b"undo": "Undo", b"redo": "Redo", b"begin": "Begin", b"end": "End", b"cancel": "Cancel"}
@@ -220,8 +222,10 @@ def antt_nth(nth):
 
 
 # Where the number of the line stands that an edit means.
-NTH_FIRST = {"SetValue", "AppendValue", "AddWord", "RemoveAssign", "RemoveRule", "RemovePrereq"}
-NTH_FIRST |= {"AddRecipe", "SetRecipe", "RemoveRecipe", "InsertRecipe"}
+NTH_FIRST = set(
+    "SetValue AppendValue AddWord RemoveAssign RemoveRule RemovePrereq AddRecipe SetRecipe RemoveRecipe"
+    " InsertRecipe SetRecipeByText RemoveRecipeByText".split()
+)
 
 
 def antt_command(name, *arguments):
@@ -277,7 +281,8 @@ IMPORTS = [
     (
         "Rattle.mk_edit_language.specs.Edits",
         ["SetValue", "AppendValue", "AddWord", "AddAssign", "RemoveAssign", "AddRule", "RemoveRule", "AddPrereq", "RemovePrereq"]
-        + ["AddRecipe", "SetRecipe", "RemoveRecipe", "InsertRecipe", "RenameTarget"],
+        + ["AddRecipe", "SetRecipe", "RemoveRecipe", "InsertRecipe", "SetRecipeByText", "RemoveRecipeByText"]
+        + ["RenameTarget"],
     ),
     ("Rattle.mk_history.specs.Machine", ["Apply", *CALLS.values()]),
     ("Rattle.mk_script.specs.Scripts", ["Chain"]),

@@ -18,7 +18,9 @@ MAKEFILES = ("queries", "corner-queries", "readings/worked")
 # A makefile for the scripts of a table that has no makefiles.
 TEXT = b"X = 1\na: b\n\tc\n"
 LONGEST = 60
-OTHER_COMMANDS = b"assign rule recipe-set recipe-del recipe-insert rename nth bottom".split()
+OTHER_COMMANDS = (
+    b"assign rule recipe-set recipe-del recipe-insert recipe-replace recipe-remove rename nth bottom".split()
+)
 COMMANDS = [*EDITS, *PLACES, *CALLS, *OTHER_COMMANDS]
 WORDS = [
     *(it + b" " for it in COMMANDS if it not in CALLS),

@@ -35,6 +35,8 @@ EDITS = {
     "recipe-set": (b"recipe-set last 2 third", b"second", b"third"),
     "recipe-del": (b"recipe-del last 1", b"\tfirst\n", b""),
     "recipe-insert": (b"recipe-insert last 2 third", b"\tsecond", b"\tthird@\tsecond"),
+    "recipe-replace": (b"recipe-replace last second third", b"second", b"third"),
+    "recipe-remove": (b"recipe-remove last first", b"\tfirst\n", b""),
     "rename": (b"rename last final", b"last:", b"final:"),
 }
 BOTTOM = {
@@ -46,7 +48,8 @@ ALL = (
     b"set LAST two\nappend LAST three\nadd LAST four\nassign after-var LAST NEW = 1\n"
     b'rule before-rule last new : "a b"\ndepend last c\ndepend-order last d\nundepend last a\n'
     b"recipe last third\nrecipe-set last 2 fourth\nrecipe-del last 1\n"
-    b"recipe-insert last 2 fifth\nrename last final\n"
+    b"recipe-insert last 2 fifth\nrecipe-replace last fourth sixth\nrecipe-remove last third\n"
+    b"rename last final\n"
     b"unrule final\nunset LAST\n"
 )
 

@@ -362,5 +362,7 @@ FIELDS = {
     "recipe-set": lambda it: it.for_target(it.number, lambda _: it.command()),
     "recipe-del": lambda it: it.for_target(it.number),
     "recipe-insert": lambda it: it.for_target(it.number, lambda _: it.command()),
+    "recipe-replace": lambda it: it.for_target(lambda _: it.command(), lambda _: it.command()),
+    "recipe-remove": lambda it: it.for_target(lambda _: it.command()),
     "rename": Editor.rename,
 }

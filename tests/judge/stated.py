@@ -154,6 +154,22 @@ def recipe_del(of, nth, target, number):
     return of
 
 
+def place_of_text(of, nth, target, old):
+    """The place of the recipe line of a rule that has this text."""
+    places = recipe_places(of, addressed(of, nth, has_target(target)))
+    return next(it for it in places if of[it].parts == (old,))
+
+
+def recipe_replace(of, nth, target, old, line):
+    of[place_of_text(of, nth, target, old)] = Item("Recipe", (line,))
+    return of
+
+
+def recipe_remove(of, nth, target, old):
+    del of[place_of_text(of, nth, target, old)]
+    return of
+
+
 def recipe_insert(of, nth, target, number, line):
     at = addressed(of, nth, has_target(target))
     found = recipe_places(of, at)
@@ -191,6 +207,8 @@ CHANGES = {
     "recipe-set": recipe_set,
     "recipe-del": recipe_del,
     "recipe-insert": recipe_insert,
+    "recipe-replace": recipe_replace,
+    "recipe-remove": recipe_remove,
     "rename": rename,
 }
 

@@ -23,7 +23,7 @@ QUOTED = ("crates/session_example/src/main.rt", "crates/mk_session/src/session.r
 LAST_CHAPTER = "## 8. Where make reads otherwise\n"
 COMMANDS = (
     "nth set append add unset assign rule unrule depend depend-order undepend recipe recipe-set recipe-del "
-    "recipe-insert rename"
+    "recipe-insert recipe-replace recipe-remove rename"
 )
 EXAMPLE = re.compile(
     rf"^    (\S.*?⏎|X=1) {{2,}}((?:{COMMANDS.replace(' ', '|')}) .*?) {{2,}}(\S.*⏎)$", re.M

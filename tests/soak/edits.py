@@ -426,16 +426,52 @@ class OfRecipeLine(OfRule):
 
 class SetRecipe(OfRecipeLine):
     def plan_in(self, doc):
-        at = self.find_line(doc)
-        line, items = doc.lines[at], items_of(doc.lines)
-        items[at] = ("Recipe", self.line)
-        return [Span(line.start + 1, line.text_end, self.line)], items
+        return exchanged(doc, self.find_line(doc), self.line)
 
 
 class RemoveRecipe(OfRecipeLine):
     def plan_in(self, doc):
-        at = self.find_line(doc)
-        return [removed(doc.lines[at])], items_of(doc.lines[:at] + doc.lines[at + 1 :])
+        return taken_out(doc, self.find_line(doc))
+
+
+def exchanged(doc, at, line):
+    """The plan of another command in the recipe line with this index."""
+    old, items = doc.lines[at], items_of(doc.lines)
+    items[at] = ("Recipe", line)
+    return [Span(old.start + 1, old.text_end, line)], items
+
+
+def taken_out(doc, at):
+    """The plan of the line with this index taken out."""
+    return [removed(doc.lines[at])], items_of(doc.lines[:at] + doc.lines[at + 1 :])
+
+
+class OfRecipeText(OfRule):
+    """An edit of the recipe line with a text."""
+
+    def __init__(self, nth, target, old, line=b""):
+        super().__init__(nth, target)
+        self.old, self.line = old, line
+
+    def fields(self):
+        return [*super().fields(), ("old", self.old, is_command), ("line", self.line, is_command)]
+
+    def find_line(self, doc):
+        lines = doc.recipe_lines(self.find(doc))
+        found = [it for it in lines if doc.lines[it].item == ("Recipe", self.old)]
+        refuse(6, not found)
+        refuse(5, len(found) > 1, len(found))
+        return found[0]
+
+
+class SetRecipeByText(OfRecipeText):
+    def plan_in(self, doc):
+        return exchanged(doc, self.find_line(doc), self.line)
+
+
+class RemoveRecipeByText(OfRecipeText):
+    def plan_in(self, doc):
+        return taken_out(doc, self.find_line(doc))
 
 
 # ---- targets
@@ -489,6 +525,8 @@ KINDS = (
     SetRecipe,
     RemoveRecipe,
     InsertRecipe,
+    SetRecipeByText,
+    RemoveRecipeByText,
     RenameTarget,
 )
 EDITS = {it.__name__: it for it in KINDS}

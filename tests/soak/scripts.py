@@ -34,7 +34,7 @@ OF_RULES = {
     b"recipe": 9,
     b"rename": 9,
 }
-OF_RECIPES = {b"recipe-set": 8, b"recipe-del": 8, b"recipe-insert": 8}
+OF_RECIPES = {b"recipe-set": 8, b"recipe-del": 8, b"recipe-insert": 8, b"recipe-replace": 7, b"recipe-remove": 7}
 NEW_LINES = {b"assign": 10, b"rule": 9}
 GREATEST = 4294967295
 
@@ -293,6 +293,21 @@ class Scripts(Drawing):
     def recipe_del(self):
         target = self.recipe_target()
         return self.of_target(b"recipe-del", target, self.recipe_number(target))
+
+    def recipe_text(self, target):
+        """The text of a recipe line of a rule with this target, where there is one that a command can say."""
+        rules = self.document.rules(target)
+        lines = [self.document.lines[it] for at in rules for it in self.document.recipe_lines(at)]
+        texts = [it.item[1] for it in lines if is_command(it.item[1])]
+        return self.one(texts) if texts and self.chance(0.85) else self.line_text()
+
+    def recipe_replace(self):
+        target = self.recipe_target()
+        return self.of_target(b"recipe-replace", target, self.recipe_text(target), self.line_text())
+
+    def recipe_remove(self):
+        target = self.recipe_target()
+        return self.of_target(b"recipe-remove", target, self.recipe_text(target))
 
     def recipe_insert(self):
         target = self.recipe_target()

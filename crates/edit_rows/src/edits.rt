@@ -196,6 +196,27 @@ fn read_rule_edit(alloc: Global, word: &str, nth: Option<u32>, fields: &[&str]) 
     }
 }
 
+/// The edit of a command on a recipe line by its text.
+fn read_text_edit(alloc: Global, word: &str, nth: Option<u32>, fields: &[&str]) -> Result<Edit> {
+    match (word, fields) {
+        ("recipe-replace", [target, old, line]) => {
+            let (target, old) = unescape_both(alloc, target, old)?;
+            let line = unescape(alloc, line)?;
+            Ok(Edit::SetRecipeByText {
+                nth,
+                target,
+                old,
+                line,
+            })
+        }
+        ("recipe-remove", [target, old]) => {
+            let (target, old) = unescape_both(alloc, target, old)?;
+            Ok(Edit::RemoveRecipeByText { nth, target, old })
+        }
+        _ => bail!("no edit of a recipe: {word}"),
+    }
+}
+
 /// The edit of a command on the recipe of a rule.
 fn read_recipe_edit(alloc: Global, word: &str, nth: Option<u32>, fields: &[&str]) -> Result<Edit> {
     match (word, fields) {
@@ -228,6 +249,6 @@ fn read_recipe_edit(alloc: Global, word: &str, nth: Option<u32>, fields: &[&str]
                 line,
             })
         }
-        _ => bail!("no edit of a recipe: {word}"),
+        _ => read_text_edit(alloc, word, nth, fields),
     }
 }

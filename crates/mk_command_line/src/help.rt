@@ -25,7 +25,8 @@ A line of the script is a command, a comment that begins with #, or blank:
     rule PLACE TARGETS SEP PREREQS                        unrule TARGET
     depend TARGET WORD        depend-order TARGET WORD    undepend TARGET WORD
     recipe TARGET LINE        recipe-set TARGET K LINE    recipe-del TARGET K
-    recipe-insert TARGET K LINE
+    recipe-insert TARGET K LINE                           recipe-remove TARGET OLD
+    recipe-replace TARGET OLD LINE
     undo    redo    begin    end    cancel                try COMMAND    or COMMAND
 PLACE is bottom, before-var NAME, after-var NAME or before-rule TARGET. OP is one of
 = := ::= :::= ?= += != and SEP one of : and ::. A field with blanks in it stands between double

@@ -4,6 +4,7 @@ pub mod RulePlaces
 pub mod RuleEnds
 pub mod RemoveRulePlans
 pub mod RecipePlaces
+pub mod MeantRecipes
 pub mod RemoveRecipePlans
 pub mod AddRecipePlans
 pub mod InsertRecipePlans

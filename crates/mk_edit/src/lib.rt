@@ -11,6 +11,7 @@
 //!
 //! - `moves`: the patches of edits whose causes are decided.
 //! - `remove_rule`: the removal of a rule.
+//! - `meant_recipe`: the recipe line that an edit means.
 //! - `remove_recipe`: the removal of a recipe line.
 //! - `set_recipe`: another command for a recipe line.
 //! - `insertion`: where new lines go, and the causes of refusal that their places decide.
@@ -39,6 +40,7 @@ mod append_value;
 mod header;
 mod insert_recipe;
 mod insertion;
+mod meant_recipe;
 mod moves;
 pub mod planning;
 mod remove_assign;

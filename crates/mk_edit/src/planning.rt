@@ -88,10 +88,12 @@ pub fn plan_with<A: Allocator + Copy>(
             alloc, doc, edit, sought, word, meter,
         ),
         Edit::AddRecipe { .. } => plan_add_recipe(alloc, doc, edit, sought, meter),
-        Edit::SetRecipe { number, line, .. } => {
-            plan_set_recipe(alloc, doc, edit, sought, *number, line, meter)
+        Edit::SetRecipe { line, .. } | Edit::SetRecipeByText { line, .. } => {
+            plan_set_recipe(alloc, doc, edit, sought, line, meter)
         }
-        Edit::RemoveRecipe { number, .. } => plan_remove_recipe(alloc, doc, edit, sought, *number),
+        Edit::RemoveRecipe { .. } | Edit::RemoveRecipeByText { .. } => plan_remove_recipe(
+            alloc, doc, edit, sought,
+        ),
         Edit::InsertRecipe { number, .. } => {
             plan_insert_recipe(alloc, doc, edit, sought, *number, meter)
         }

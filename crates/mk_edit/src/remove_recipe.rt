@@ -6,31 +6,30 @@ ghost use Rattle.mk_edit_parts.specs.Seeking.{IsLineKnown};
 ghost use Rattle.mk_edit.specs.Planned.{Plans};
 ghost use Rattle.mk_edit.specs.RecipeEdits.{IsRemoveRecipe};
 
+use crate::meant_recipe::meant_recipe;
 use crate::moves::take_out;
 use mk_edit_language::{Edit, Refusal};
 use mk_edit_parts::find::find;
-use mk_edit_parts::recipe::recipe_line;
 use mk_edit_parts::seek::Sought;
 use mk_patch::Patch;
 use mk_tree::Doc;
 use std::alloc::Allocator;
 
-/// Plans the removal of a rule's recipe line, by its number from 1. It reads no line anew.
+/// Plans the removal of a rule's recipe line, by its number from 1 or by its text. It reads no line
+/// anew.
 ///
 /// # Errors
 ///
-/// The first cause of the edit that holds: the causes of [`find`], or [`Refusal::Absent`] if the
-/// rule has no recipe line of that number. If no cause holds, [`Refusal::NoMemory`] if a growth was
-/// refused.
+/// The first cause of the edit that holds: the causes of [`find`], or those of [`meant_recipe`]. If
+/// no cause holds, [`Refusal::NoMemory`] if a growth was refused.
 pub(crate) fn plan_remove_recipe<A: Allocator + Copy>(
     alloc: A,
     doc: &Doc<A>,
     edit: &Edit<A>,
     known: Option<Sought>,
-    number: u32,
 ) -> Result<Patch<A>, Refusal>
     requires faithful { IsFaithful doc.now }
-    requires kind { IsRemoveRecipe number (edit_of edit.now) }
+    requires kind { IsRemoveRecipe (edit_of edit.now) }
     requires known { IsLineKnown (edit_of edit.now) doc.now known }
     ensures { (read : ℕ) → Plans (edit_of edit.now) doc.now read read result }
 {
@@ -38,8 +37,6 @@ pub(crate) fn plan_remove_recipe<A: Allocator + Copy>(
     let _size = doc.size();
     let header = find(doc, edit, known)?;
     // No line below leans on a recipe line: a rule is open before it and after it.
-    let Some(at) = recipe_line(doc, header.at + 1, number) else {
-        return Err(Refusal::Absent);
-    };
+    let at = meant_recipe(doc, edit, header.at + 1)?;
     take_out(alloc, at, 1)
 }

@@ -7,6 +7,7 @@ pub mod SpansRise
 pub mod TouchedLineLemmas
 pub mod KeptLineLemmas
 pub mod KeptByEdits
+pub mod KeptByText
 pub mod KeptByRenameTargetLemmas
 pub mod KeptLemmas
 pub mod LengthLemmas

@@ -1,3 +1,5 @@
 -- Lemmas. Recipe lines.
 pub mod RecipeClassLemmas
 pub mod RecipeLemmas
+pub mod ByNumber
+pub mod TextLemmas

@@ -9,7 +9,7 @@ use Rattle.mk_class.specs.Classes.{Class}
 use Rattle.mk_class.specs.Classes.Class.{Assign, TargetAssign, Header}
 use Rattle.mk_class.specs.ClassedLines.{ClassedLine}
 use Rattle.mk_tree.specs.LineTexts.{StandingLine}
-use Rattle.mk_edit_language.specs.Edits.{Place, Bottom, BeforeVar, AfterVar, BeforeRule, Edit, SetValue, AppendValue, AddWord, AddAssign, RemoveAssign, AddRule, RemoveRule, AddPrereq, RemovePrereq, AddRecipe, SetRecipe, RemoveRecipe, InsertRecipe, RenameTarget}
+use Rattle.mk_edit_language.specs.Edits.{Place, Bottom, BeforeVar, AfterVar, BeforeRule, Edit, SetValue, AppendValue, AddWord, AddAssign, RemoveAssign, AddRule, RemoveRule, AddPrereq, RemovePrereq, AddRecipe, SetRecipe, RemoveRecipe, InsertRecipe, SetRecipeByText, RemoveRecipeByText, RenameTarget}
 use Rattle.mk_edit_language.specs.Spots.{spots, picked}
 
 -- a variable by its name among the assignments, or a rule by a target among the headers
@@ -63,6 +63,8 @@ address (AddRecipe nth t c) = Some (Rule nth t)
 address (SetRecipe nth t k c) = Some (Rule nth t)
 address (RemoveRecipe nth t k) = Some (Rule nth t)
 address (InsertRecipe nth t k c) = Some (Rule nth t)
+address (SetRecipeByText nth t o c) = Some (Rule nth t)
+address (RemoveRecipeByText nth t o) = Some (Rule nth t)
 address (RenameTarget o n) = None
 
 -- the targets of a header or of a target assignment

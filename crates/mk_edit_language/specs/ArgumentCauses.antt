@@ -8,7 +8,7 @@ use Rattle.mk_class.specs.ListTests.{is_empty}
 use Rattle.mk_class.specs.Keywords.{is_reserved_word}
 use Rattle.mk_class.specs.RecipePrefix.{is_prefix_name}
 use Rattle.mk_class.specs.Arguments.{is_value, is_word, is_target, is_name, is_command}
-use Rattle.mk_edit_language.specs.Edits.{Place, Bottom, BeforeVar, AfterVar, BeforeRule, Edit, SetValue, AppendValue, AddWord, AddAssign, RemoveAssign, AddRule, RemoveRule, AddPrereq, RemovePrereq, AddRecipe, SetRecipe, RemoveRecipe, InsertRecipe, RenameTarget}
+use Rattle.mk_edit_language.specs.Edits.{Place, Bottom, BeforeVar, AfterVar, BeforeRule, Edit, SetValue, AppendValue, AddWord, AddAssign, RemoveAssign, AddRule, RemoveRule, AddPrereq, RemovePrereq, AddRecipe, SetRecipe, RemoveRecipe, InsertRecipe, SetRecipeByText, RemoveRecipeByText, RenameTarget}
 use Rattle.mk_edit_language.specs.Causes.{where_holds}
 use Rattle.mk_edit_language.specs.declared.refusal.Field.{Field}
 use Rattle.mk_edit_language.specs.declared.refusal.Field.TheVariants as field
@@ -74,6 +74,11 @@ field_tests (SetRecipe nth t k c) =
 field_tests (RemoveRecipe nth t k) = Tested field.Target (is_target t) ∷ []
 field_tests (InsertRecipe nth t k c) =
     Tested field.Target (is_target t) ∷ Tested field.Line (is_command c) ∷ []
+field_tests (SetRecipeByText nth t o c) =
+    Tested field.Target (is_target t) ∷ Tested field.Old (is_command o)
+    ∷ Tested field.Line (is_command c) ∷ []
+field_tests (RemoveRecipeByText nth t o) =
+    Tested field.Target (is_target t) ∷ Tested field.Old (is_command o) ∷ []
 field_tests (RenameTarget o n) =
     Tested field.Old (is_target o) ∷ Tested field.New (is_target n) ∷ []
 
@@ -114,6 +119,8 @@ targets (AddRecipe nth t c) = t ∷ []
 targets (SetRecipe nth t k c) = t ∷ []
 targets (RemoveRecipe nth t k) = t ∷ []
 targets (InsertRecipe nth t k c) = t ∷ []
+targets (SetRecipeByText nth t o c) = t ∷ []
+targets (RemoveRecipeByText nth t o) = t ∷ []
 targets (RenameTarget o n) = o ∷ n ∷ []
 targets e = []
 

@@ -19,9 +19,9 @@ use Rattle.mk_class.specs.declared.rule.Separator.TheVariants.{SingleColon, Doub
 use Rattle.mk_tree.specs.Documents.{text_of}
 use Rattle.mk_tree.specs.Items.{Item, Assign, TargetAssign, Header, Recipe, Sets, items, header_item}
 use Rattle.mk_tree.specs.LineTexts.{StandingLine}
-use Rattle.mk_edit_language.specs.Edits.{Edit, SetValue, AppendValue, AddWord, AddAssign, RemoveAssign, AddRule, RemoveRule, AddPrereq, RemovePrereq, AddRecipe, SetRecipe, RemoveRecipe, InsertRecipe, RenameTarget}
+use Rattle.mk_edit_language.specs.Edits.{Edit, SetValue, AppendValue, AddWord, AddAssign, RemoveAssign, AddRule, RemoveRule, AddPrereq, RemovePrereq, AddRecipe, SetRecipe, RemoveRecipe, InsertRecipe, SetRecipeByText, RemoveRecipeByText, RenameTarget}
 use Rattle.mk_edit_language.specs.Addresses.{Variable, Rule, found}
-use Rattle.mk_edit_language.specs.Stretches.{Stretch, insertion, removal, recipe_found}
+use Rattle.mk_edit_language.specs.Stretches.{Stretch, insertion, removal, recipe_found, text_number}
 use Rattle.mk_edit_language.specs.ValueSpans.{set_value_span}
 use Rattle.mk_edit_language.specs.EditSpans.{where_found}
 use Rattle.mk_edit_language.specs.declared.edit.RuleSeparator.{RuleSeparator}
@@ -150,6 +150,10 @@ change_of t ls (RemoveRecipe nth g k) =
     where_found without_items (removal ls (RemoveRecipe nth g k))
 change_of t ls (InsertRecipe nth g k c) =
     where_found (with_item (Recipe c)) (insertion ls (InsertRecipe nth g k c))
+change_of t ls (SetRecipeByText nth g o c) =
+    where_found (with_items (Recipe c ∷ [])) (recipe_found ls nth g (text_number ls nth g o))
+change_of t ls (RemoveRecipeByText nth g o) =
+    where_found without_items (removal ls (RemoveRecipeByText nth g o))
 change_of t ls (RenameTarget o n) = map (renamed_item o n) (items ls)
 
 abbrev pub change : (text : List ℕ) → Edit → List Item

@@ -3,7 +3,7 @@
 use Rattle.std.specs.Prelude.{ℕ, Bool, List, length, filter, Option, Some, None}
 use Rattle.std.specs.List.{list_any}
 use Rattle.mk_class.specs.ClassedLines.{ClassedLine, classed_lines}
-use Rattle.mk_edit_language.specs.Edits.{Edit, AddAssign, RemoveAssign, AddRule, RemoveRule, AddRecipe, RemoveRecipe, InsertRecipe, RenameTarget}
+use Rattle.mk_edit_language.specs.Edits.{Edit, AddAssign, RemoveAssign, AddRule, RemoveRule, AddRecipe, RemoveRecipe, InsertRecipe, RemoveRecipeByText, RenameTarget}
 use Rattle.mk_edit_language.specs.Stretches.{Stretch, removal}
 use Rattle.mk_edit_language.specs.WordPieces.{renamed_pieces, is_replaced}
 
@@ -17,6 +17,7 @@ cost t (RenameTarget o n) = length (filter (is_renamed o n) (classed_lines t))
 cost t (RemoveAssign nth n) = 0
 cost t (RemoveRule nth g) = 0
 cost t (RemoveRecipe nth g k) = 0
+cost t (RemoveRecipeByText nth g o) = 0
 cost t e = 1
 
 -- how many lines a stretch has
@@ -32,5 +33,6 @@ size t (AddRecipe nth g c) = 0
 size t (InsertRecipe nth g k c) = 0
 size t (RemoveAssign nth n) = 1
 size t (RemoveRecipe nth g k) = 1
+size t (RemoveRecipeByText nth g o) = 1
 size t (RemoveRule nth g) = line_count (removal (classed_lines t) (RemoveRule nth g))
 size t e = cost t e

@@ -10,9 +10,9 @@ use Rattle.mk_class.specs.Classes.Class.{Header}
 use Rattle.mk_class.specs.ClassedLines.{ClassedLine}
 use Rattle.mk_tree.specs.Documents.{text_of}
 use Rattle.mk_tree.specs.LineTexts.{StandingLine}
-use Rattle.mk_edit_language.specs.Edits.{Edit, SetValue, AppendValue, AddWord, AddAssign, RemoveAssign, AddRule, RemoveRule, AddPrereq, RemovePrereq, AddRecipe, SetRecipe, RemoveRecipe, InsertRecipe, RenameTarget}
+use Rattle.mk_edit_language.specs.Edits.{Edit, SetValue, AppendValue, AddWord, AddAssign, RemoveAssign, AddRule, RemoveRule, AddPrereq, RemovePrereq, AddRecipe, SetRecipe, RemoveRecipe, InsertRecipe, SetRecipeByText, RemoveRecipeByText, RenameTarget}
 use Rattle.mk_edit_language.specs.Addresses.{Variable, Rule, found}
-use Rattle.mk_edit_language.specs.Stretches.{Stretch, insertion, removal, recipe_found}
+use Rattle.mk_edit_language.specs.Stretches.{Stretch, insertion, removal, recipe_found, text_number}
 use Rattle.mk_edit_language.specs.NewLines.{new_line_span}
 use Rattle.mk_edit_language.specs.ValueSpans.{value_span, set_value_span, append_value_span}
 use Rattle.mk_edit_language.specs.WordPieces.{add_pieces, remove_pieces, renamed_pieces}
@@ -74,4 +74,8 @@ spans_of t ls (SetRecipe nth g k c) = where_found (recipe_span c) (recipe_found 
 spans_of t ls (RemoveRecipe nth g k) = where_found removed_span (removal ls (RemoveRecipe nth g k))
 spans_of t ls (InsertRecipe nth g k c) =
     where_found (new_line_span t (InsertRecipe nth g k c)) (insertion ls (InsertRecipe nth g k c))
+spans_of t ls (SetRecipeByText nth g o c) =
+    where_found (recipe_span c) (recipe_found ls nth g (text_number ls nth g o))
+spans_of t ls (RemoveRecipeByText nth g o) =
+    where_found removed_span (removal ls (RemoveRecipeByText nth g o))
 spans_of t ls (RenameTarget o n) = renamed_spans o n 0 ls

@@ -31,4 +31,8 @@ edit_of (edit.SetRecipe nth target number line) = edits.SetRecipe nth target.ite
 edit_of (edit.RemoveRecipe nth target number) = edits.RemoveRecipe nth target.items number
 edit_of (edit.InsertRecipe nth target number line) =
     edits.InsertRecipe nth target.items number line.items
+edit_of (edit.SetRecipeByText nth target old line) =
+    edits.SetRecipeByText nth target.items old.items line.items
+edit_of (edit.RemoveRecipeByText nth target old) =
+    edits.RemoveRecipeByText nth target.items old.items
 edit_of (edit.RenameTarget from to) = edits.RenameTarget from.items to.items

@@ -4,7 +4,7 @@ use Rattle.std.specs.Prelude.{ℕ, List, [], ◌∷◌, ◌++◌, length}
 use Rattle.mk_lines.specs.Pieces.{Replacement, replaced}
 use Rattle.mk_class.specs.ClassedLines.{ClassedLine, classed}
 use Rattle.mk_tree.specs.Documents.{text_of, context_of}
-use Rattle.mk_edit_language.specs.Edits.{Edit, AddAssign, RemoveAssign, AddRule, RemoveRule, AddRecipe, RemoveRecipe, InsertRecipe}
+use Rattle.mk_edit_language.specs.Edits.{Edit, AddAssign, RemoveAssign, AddRule, RemoveRule, AddRecipe, RemoveRecipe, InsertRecipe, RemoveRecipeByText}
 use Rattle.mk_edit_language.specs.Stretches.{Stretch}
 use Rattle.mk_edit_language.specs.NewLines.{new_text, new_line_end}
 
@@ -23,6 +23,7 @@ abbrev pub edited_bytes : (text : List ℕ) → Edit → (touched : Stretch) →
 edited_bytes t (RemoveAssign nth n) s rs = []
 edited_bytes t (RemoveRule nth g) s rs = []
 edited_bytes t (RemoveRecipe nth g k) s rs = []
+edited_bytes t (RemoveRecipeByText nth g o) s rs = []
 edited_bytes t (AddAssign p n f v) s rs = new_line_bytes t (AddAssign p n f v) s ∷ []
 edited_bytes t (AddRule p ts c ws) s rs = new_line_bytes t (AddRule p ts c ws) s ∷ []
 edited_bytes t (AddRecipe nth g c) s rs = new_line_bytes t (AddRecipe nth g c) s ∷ []

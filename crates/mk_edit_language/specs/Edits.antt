@@ -14,7 +14,7 @@ pub data Place : Type 0 where
   BeforeRule : (nth : Option ℕ) → (target : List ℕ) → Place
 
 -- An edit. `nth` is the number of the line, from 1, among the lines of the same name or target;
--- `number` is the number of a recipe line, from 1. The targets of a new rule are one text, which is
+-- `number` is the number of a recipe line, from 1, and `old` is its text. The targets of a new rule are one text, which is
 -- cut into words, and so are its prerequisites.
 pub data Edit : Type 0 where
   SetValue : (nth : Option ℕ) → (name value : List ℕ) → Edit
@@ -30,4 +30,6 @@ pub data Edit : Type 0 where
   SetRecipe : (nth : Option ℕ) → (target : List ℕ) → (number : ℕ) → (line : List ℕ) → Edit
   RemoveRecipe : (nth : Option ℕ) → (target : List ℕ) → (number : ℕ) → Edit
   InsertRecipe : (nth : Option ℕ) → (target : List ℕ) → (number : ℕ) → (line : List ℕ) → Edit
+  SetRecipeByText : (nth : Option ℕ) → (target old line : List ℕ) → Edit
+  RemoveRecipeByText : (nth : Option ℕ) → (target old : List ℕ) → Edit
   RenameTarget : (old new : List ℕ) → Edit

@@ -1,6 +1,7 @@
--- The causes that rules decide, and the words of rules and of values: Absent, Already, Taken, SharedRule and Straddles.
+-- The causes that rules decide, and the words of rules and of values: Absent, Already, Taken, SharedRule and Straddles; and
+-- Ambiguous, of a recipe line by its text.
 -- Told in docs/EDITS.md, "Refusals".
-use Rattle.std.specs.Prelude.{ℕ, Bool, true, false, not, ◌||◌, nat_lt, List, [], length, Option, Some, None, is_some}
+use Rattle.std.specs.Prelude.{ℕ, Bool, true, false, not, ◌||◌, nat_lt, List, [], ◌∷◌, length, Option, Some, None, is_some}
 use Rattle.std.specs.List.{list_any}
 use Rattle.mk_lines.specs.Cells.{Cell, joined_byte}
 use Rattle.mk_class.specs.Texts.{is_one_of, word_texts}
@@ -11,12 +12,12 @@ use Rattle.mk_class.specs.Classes.Class.{Assign, Header}
 use Rattle.mk_class.specs.ClassedLines.{ClassedLine}
 use Rattle.mk_tree.specs.RecipeLines.{recipe_run}
 use Rattle.mk_tree.specs.LineTexts.{StandingLine}
-use Rattle.mk_edit_language.specs.Edits.{Edit, AddWord, AddPrereq, RemovePrereq, RemoveRule, AddRecipe, SetRecipe, RemoveRecipe, InsertRecipe, RenameTarget}
+use Rattle.mk_edit_language.specs.Edits.{Edit, AddWord, AddPrereq, RemovePrereq, RemoveRule, AddRecipe, SetRecipe, RemoveRecipe, InsertRecipe, SetRecipeByText, RemoveRecipeByText, RenameTarget}
 use Rattle.mk_edit_language.specs.Addresses.{Variable, Rule, found, targets_of, is_a_target}
-use Rattle.mk_edit_language.specs.Stretches.{recipe_found, recipe_gap}
+use Rattle.mk_edit_language.specs.Stretches.{recipe_found, recipes_of_text, recipe_gap}
 use Rattle.mk_edit_language.specs.Causes.{where_holds}
 use Rattle.mk_edit_language.specs.declared.refusal.Refusal.{Refusal}
-use Rattle.mk_edit_language.specs.declared.refusal.Refusal.TheVariants.{Absent, Already, Taken, SharedRule, Straddles}
+use Rattle.mk_edit_language.specs.declared.refusal.Refusal.TheVariants.{Ambiguous, Absent, Already, Taken, SharedRule, Straddles}
 
 -- the class of the line that is found
 abbrev pub class_found : Option StandingLine → Option (Class Cell)
@@ -42,8 +43,8 @@ assignment_passes p k = false
 abbrev pub has_value_word : List ℕ → Assignment Cell → Bool
 has_value_word w a = is_one_of w (word_texts joined_byte a.value)
 
--- ---- Absent: the word is no prerequisite; there is no recipe line of this number, or no place of
--- ---- this number for a new one
+-- ---- Absent: the word is no prerequisite; there is no recipe line of this number or of this text,
+-- ---- or no place of this number for a new one
 
 -- whether a word is among the normal prerequisites of a header, and among the order-only ones
 abbrev pub is_normal : List ℕ → Headers.Header Cell → Bool
@@ -51,6 +52,12 @@ is_normal w h = is_one_of w (word_texts joined_byte h.normal)
 
 abbrev pub is_order_only : List ℕ → Headers.Header Cell → Bool
 is_order_only w h = is_one_of w (word_texts joined_byte h.order_only)
+
+-- Of the recipe lines that have a text: Absent if there is none, and Ambiguous if there are several.
+abbrev pub not_one : List StandingLine → Option Refusal
+not_one [] = Some Absent
+not_one (s ∷ []) = None
+not_one (s ∷ r ∷ ss) = Some (Ambiguous (length (s ∷ r ∷ ss)))
 
 abbrev pub absent : List ClassedLine → Edit → Option Refusal
 absent ls (RemovePrereq nth t w) =
@@ -60,6 +67,8 @@ absent ls (RemovePrereq nth t w) =
 absent ls (SetRecipe nth t k c) = where_holds (not (is_some (recipe_found ls nth t k))) Absent
 absent ls (RemoveRecipe nth t k) = where_holds (not (is_some (recipe_found ls nth t k))) Absent
 absent ls (InsertRecipe nth t k c) = where_holds (not (is_some (recipe_gap ls nth t k))) Absent
+absent ls (SetRecipeByText nth t o c) = not_one (recipes_of_text ls nth t o)
+absent ls (RemoveRecipeByText nth t o) = not_one (recipes_of_text ls nth t o)
 absent ls e = None
 
 -- ---- Already: the word is in that list of prerequisites, or in the value

@@ -1,11 +1,13 @@
 -- Stretches of lines: those that an edit takes out, and those where it puts a new line.
 -- Told in docs/EDITS.md, "Addresses", "Variables", "Rules" and "Recipes".
-use Rattle.std.specs.Prelude.{ℕ, List, [], ◌∷◌, ◌++◌, map, take, length, Option, Some, None, option_map, option_and_then, ◌≡◌}
+use Rattle.std.specs.Prelude.{ℕ, zero, suc, Bool, if◌then◌else◌, List, [], ◌∷◌, ◌++◌, map, take, drop, filter, length, Option, Some, None, option_map, option_and_then, ◌≡◌}
+use Rattle.std.specs.Str.{bytes_eq}
+use Rattle.mk_lines.specs.PhysicalLines.{without_line_end}
 use Rattle.mk_class.specs.Classes.{is_recipe}
 use Rattle.mk_class.specs.ClassedLines.{ClassedLine}
 use Rattle.mk_tree.specs.RecipeLines.{recipe_run, after_recipe, recipe_lines}
 use Rattle.mk_tree.specs.LineTexts.{StandingLine}
-use Rattle.mk_edit_language.specs.Edits.{Place, Bottom, BeforeVar, AfterVar, BeforeRule, Edit, SetValue, AppendValue, AddWord, AddAssign, RemoveAssign, AddRule, RemoveRule, AddPrereq, RemovePrereq, AddRecipe, SetRecipe, RemoveRecipe, InsertRecipe, RenameTarget}
+use Rattle.mk_edit_language.specs.Edits.{Place, Bottom, BeforeVar, AfterVar, BeforeRule, Edit, SetValue, AppendValue, AddWord, AddAssign, RemoveAssign, AddRule, RemoveRule, AddPrereq, RemovePrereq, AddRecipe, SetRecipe, RemoveRecipe, InsertRecipe, SetRecipeByText, RemoveRecipeByText, RenameTarget}
 use Rattle.mk_edit_language.specs.Spots.{spots, nth_of}
 use Rattle.mk_edit_language.specs.Addresses.{Variable, Rule, found}
 
@@ -62,6 +64,38 @@ abbrev pub recipe_found : List ClassedLine → (nth : Option ℕ) → (target : 
     → Option StandingLine
 recipe_found ls nth t k = option_and_then (recipe_spot k) (found ls (Rule nth t))
 
+-- ---- recipe lines by their text
+
+-- whether a recipe line has this text: after its first byte, up to its line end
+abbrev pub has_text : List ℕ → StandingLine → Bool
+has_text o s = bytes_eq (drop 1 (without_line_end s.line.bytes)) o
+
+-- the recipe lines of the rule that is found
+abbrev pub recipes_found : Option StandingLine → List StandingLine
+recipes_found None = []
+recipes_found (Some h) = recipe_spots h
+
+-- the recipe lines of a rule that have this text
+abbrev pub recipes_of_text : List ClassedLine → (nth : Option ℕ) → (target old : List ℕ)
+    → List StandingLine
+recipes_of_text ls nth t o = filter (has_text o) (recipes_found (found ls (Rule nth t)))
+
+-- a number one line further down; 0 is no number
+abbrev pub one_below : ℕ → ℕ
+one_below zero = zero
+one_below (suc n) = suc (suc n)
+
+-- the number, from 1, of the first of some lines that has this text; 0 if none has it
+abbrev pub first_of_text : List ℕ → List StandingLine → ℕ
+first_of_text o [] = 0
+first_of_text o (s ∷ ss) = if has_text o s then 1 else one_below (first_of_text o ss)
+
+-- the number of the first recipe line of a rule that has this text
+abbrev pub text_number : List ClassedLine → (nth : Option ℕ) → (target old : List ℕ) → ℕ
+text_number ls nth t o = first_of_text o (recipes_found (found ls (Rule nth t)))
+
+-- ---- places of new lines
+
 -- where a new recipe line of a header can go: before each of its recipe lines, and after the last
 abbrev pub recipe_gaps : StandingLine → List Stretch
 recipe_gaps h = map before_line (recipe_spots h) ++ after_rule h ∷ []
@@ -91,6 +125,8 @@ abbrev pub removal : List ClassedLine → Edit → Option Stretch
 removal ls (RemoveAssign nth n) = option_map this_line (found ls (Variable nth n))
 removal ls (RemoveRule nth t) = option_map whole_rule (found ls (Rule nth t))
 removal ls (RemoveRecipe nth t k) = option_map this_line (recipe_found ls nth t k)
+removal ls (RemoveRecipeByText nth t o) =
+    option_map this_line (recipe_found ls nth t (text_number ls nth t o))
 removal ls e = None
 
 -- a stretch of the text's lines
@@ -110,9 +146,12 @@ touched_by ls (AddWord nth n w) = option_map this_line (found ls (Variable nth n
 touched_by ls (AddPrereq order nth t w) = option_map this_line (found ls (Rule nth t))
 touched_by ls (RemovePrereq nth t w) = option_map this_line (found ls (Rule nth t))
 touched_by ls (SetRecipe nth t k c) = option_map this_line (recipe_found ls nth t k)
+touched_by ls (SetRecipeByText nth t o c) =
+    option_map this_line (recipe_found ls nth t (text_number ls nth t o))
 touched_by ls (RemoveAssign nth n) = removal ls (RemoveAssign nth n)
 touched_by ls (RemoveRule nth t) = removal ls (RemoveRule nth t)
 touched_by ls (RemoveRecipe nth t k) = removal ls (RemoveRecipe nth t k)
+touched_by ls (RemoveRecipeByText nth t o) = removal ls (RemoveRecipeByText nth t o)
 touched_by ls (AddAssign p n f v) = option_map between (insertion ls (AddAssign p n f v))
 touched_by ls (AddRule p ts c ws) = option_map between (insertion ls (AddRule p ts c ws))
 touched_by ls (AddRecipe nth t c) = option_map between (insertion ls (AddRecipe nth t c))

@@ -178,6 +178,27 @@ pub enum Edit<A: Allocator = Global> {
         /// The command of the recipe line, without the recipe prefix.
         line: Vec<u8, A>,
     },
+    /// Gives a recipe line another command. It is the only recipe line of its rule that has this
+    /// text.
+    SetRecipeByText {
+        /// Which of the rules for this target, from 1.
+        nth: Option<u32>,
+        /// One of the rule's targets.
+        target: Vec<u8, A>,
+        /// The text of the recipe line, without the recipe prefix.
+        old: Vec<u8, A>,
+        /// The new command, without the recipe prefix.
+        line: Vec<u8, A>,
+    },
+    /// Takes out a recipe line. It is the only recipe line of its rule that has this text.
+    RemoveRecipeByText {
+        /// Which of the rules for this target, from 1.
+        nth: Option<u32>,
+        /// One of the rule's targets.
+        target: Vec<u8, A>,
+        /// The text of the recipe line, without the recipe prefix.
+        old: Vec<u8, A>,
+    },
     /// Gives a target another name, wherever it stands as a target or as a prerequisite. A report
     /// calls the fields `old` and `new`.
     RenameTarget {

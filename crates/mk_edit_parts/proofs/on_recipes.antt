@@ -2,3 +2,4 @@
 pub mod WalksDown
 pub mod WalkLemmas
 pub mod GapLemmas
+pub mod TextWalks

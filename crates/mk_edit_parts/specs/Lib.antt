@@ -16,3 +16,6 @@ pub mod NewPrerequisites
 pub mod RenamedRanges
 pub mod RenamedTexts
 pub mod Glances
+-- # Vocabulary of private contracts
+-- The recipe lines of a text
+pub mod TextMatches

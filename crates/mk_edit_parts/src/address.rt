@@ -34,7 +34,9 @@ pub fn address_of<A: Allocator>(edit: &Edit<A>) -> Option<Address<'_>>
         | Edit::AddRecipe { nth, target, .. }
         | Edit::SetRecipe { nth, target, .. }
         | Edit::RemoveRecipe { nth, target, .. }
-        | Edit::InsertRecipe { nth, target, .. } => Some(Address::Rule(*nth, target)),
+        | Edit::InsertRecipe { nth, target, .. }
+        | Edit::SetRecipeByText { nth, target, .. }
+        | Edit::RemoveRecipeByText { nth, target, .. } => Some(Address::Rule(*nth, target)),
         Edit::RenameTarget { .. } => None,
     }
 }

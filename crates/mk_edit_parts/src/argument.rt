@@ -1,11 +1,12 @@
 //! The causes of refusal that the fields of an edit decide by themselves.
 ghost use Rattle.std.specs.Prelude.{◌≡◌, ◌||◌, ◌&&◌, ◌∷◌, [], not};
 ghost use Rattle.std.specs.List.{list_any};
-ghost use Rattle.mk_class.specs.Arguments.{is_name, is_target, is_value, is_word};
+ghost use Rattle.mk_class.specs.Arguments.{is_command, is_name, is_target, is_value, is_word};
 ghost use Rattle.mk_class.specs.Keywords.{is_reserved_word};
 ghost use Rattle.mk_class.specs.ListTests.{is_empty};
 ghost use Rattle.mk_class.specs.RecipePrefix.{is_prefix_name};
 ghost use Rattle.mk_edit_language.specs.ArgumentCauses.{Tested, are_targets, are_words, bad_argument, first_failed, is_place, is_value_word, names, place_names, place_targets, targets};
+ghost use Rattle.mk_edit_language.specs.declared.refusal.Field.TheVariants.{Line, Old, Prereqs, Target, Targets};
 ghost use Rattle.mk_lines.specs.Units.{units};
 ghost use Rattle.mk_lines.specs.Words.{is_gap, words_in};
 ghost use Rattle.mk_edit_language.specs.EditViews.{edit_of, place_of};
@@ -36,12 +37,7 @@ pub fn bad_field<A: Allocator>(edit: &Edit<A>) -> Option<Field>
             targets,
             prereqs,
             ..
-        } => first_failed(
-            Field::Targets,
-            are_targets(targets),
-            Field::Prereqs,
-            are_words(prereqs),
-        ),
+        } => bad_lists(targets, prereqs),
         Edit::RemoveRule { target, .. } | Edit::RemoveRecipe { target, .. } => {
             failed(Field::Target, is_target(target))
         }
@@ -50,12 +46,14 @@ pub fn bad_field<A: Allocator>(edit: &Edit<A>) -> Option<Field>
         }
         Edit::AddRecipe { target, line, .. }
         | Edit::SetRecipe { target, line, .. }
-        | Edit::InsertRecipe { target, line, .. } => first_failed(
-            Field::Target,
-            is_target(target),
-            Field::Line,
-            is_command(line),
-        ),
+        | Edit::InsertRecipe { target, line, .. } => bad_command(target, Field::Line, line),
+        Edit::SetRecipeByText {
+            target,
+            old,
+            line,
+            ..
+        } => bad_exchange(target, old, line),
+        Edit::RemoveRecipeByText { target, old, .. } => bad_command(target, Field::Old, old),
         Edit::RenameTarget { from, to } => {
             first_failed(Field::Old, is_target(from), Field::New, is_target(to))
         }
@@ -78,6 +76,42 @@ fn first_failed(one: Field, one_passes: bool, other: Field, other_passes: bool) 
         failed(other, other_passes)
     } else {
         Some(one)
+    }
+}
+
+// The first field that fails its test, of the targets and the prerequisites of a new rule.
+fn bad_lists(targets: &[u8], prereqs: &[u8]) -> Option<Field>
+    ensures { field_refusal result
+        ≡ first_failed (Tested Targets (are_targets targets.now)
+        ∷ Tested Prereqs (are_words prereqs.now) ∷ []) }
+{
+    first_failed(
+        Field::Targets,
+        are_targets(targets),
+        Field::Prereqs,
+        are_words(prereqs),
+    )
+}
+
+// The first field that fails its test, of a target and the text of a recipe line.
+fn bad_command(target: &[u8], field: Field, line: &[u8]) -> Option<Field>
+    ensures { field_refusal result
+        ≡ first_failed (Tested Target (is_target target.now)
+        ∷ Tested field (is_command line.now) ∷ []) }
+{
+    first_failed(Field::Target, is_target(target), field, is_command(line))
+}
+
+// The first field that fails its test, of a target, the text of a recipe line and another command.
+fn bad_exchange(target: &[u8], old: &[u8], line: &[u8]) -> Option<Field>
+    ensures { field_refusal result
+        ≡ first_failed (Tested Target (is_target target.now) ∷ Tested Old (is_command old.now)
+        ∷ Tested Line (is_command line.now) ∷ []) }
+{
+    if is_target(target) {
+        first_failed(Field::Old, is_command(old), Field::Line, is_command(line))
+    } else {
+        Some(Field::Target)
     }
 }
 
@@ -200,7 +234,9 @@ pub fn is_reserved<A: Allocator>(edit: &Edit<A>) -> bool
         | Edit::AddRecipe { target, .. }
         | Edit::SetRecipe { target, .. }
         | Edit::RemoveRecipe { target, .. }
-        | Edit::InsertRecipe { target, .. } => is_reserved_word(target),
+        | Edit::InsertRecipe { target, .. }
+        | Edit::SetRecipeByText { target, .. }
+        | Edit::RemoveRecipeByText { target, .. } => is_reserved_word(target),
         Edit::RenameTarget { from, to } => is_reserved_word(from) || is_reserved_word(to),
     }
 }

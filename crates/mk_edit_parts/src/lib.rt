@@ -19,6 +19,7 @@
 //! - [`new_line`]: the text of new lines.
 //! - [`prerequisite`]: the prerequisites in the line of a rule.
 //! - [`recipe`]: the recipe of a rule, by a walk down from its header.
+//! - [`recipe_text`]: the recipe lines that have a text.
 //! - [`word_parts`]: the words of a line that a rename replaces.
 //! - [`glance`]: whether a word may be one of a text's words, and from where on.
 //! - [`tally`]: the count of these words.
@@ -37,6 +38,7 @@ pub mod place;
 pub mod prerequisite;
 pub mod range;
 pub mod recipe;
+pub mod recipe_text;
 pub mod renamed_line;
 pub mod seek;
 pub mod tally;

@@ -175,6 +175,34 @@ pub fn insert_recipe<'a>(
     })
 }
 
+/// Gives a recipe line of a target another command, by its text.
+pub fn set_recipe_by_text<'a>(
+    heap: Heap<'a>,
+    target: &[u8],
+    old: &[u8],
+    line: &[u8],
+) -> Result<Edit<Heap<'a>>, AllocError> {
+    Ok(Edit::SetRecipeByText {
+        nth: None,
+        target: Vec::from_slice(heap, target)?,
+        old: Vec::from_slice(heap, old)?,
+        line: Vec::from_slice(heap, line)?,
+    })
+}
+
+/// Takes out a recipe line of a target, by its text.
+pub fn remove_recipe_by_text<'a>(
+    heap: Heap<'a>,
+    target: &[u8],
+    old: &[u8],
+) -> Result<Edit<Heap<'a>>, AllocError> {
+    Ok(Edit::RemoveRecipeByText {
+        nth: None,
+        target: Vec::from_slice(heap, target)?,
+        old: Vec::from_slice(heap, old)?,
+    })
+}
+
 /// Gives a target another name.
 pub fn rename_target<'a>(
     heap: Heap<'a>,

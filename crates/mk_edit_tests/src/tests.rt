@@ -7,7 +7,8 @@ use crate::checks::{
 };
 use crate::edits::{
     add_assign, add_prereq, add_recipe, add_rule, add_word, append_value, insert_recipe,
-    remove_assign, remove_prereq, remove_recipe, remove_rule, rename_target, set_recipe, set_value,
+    remove_assign, remove_prereq, remove_recipe, remove_recipe_by_text, remove_rule, rename_target,
+    set_recipe, set_recipe_by_text, set_value,
 };
 use mk_class::{Flavor, Meter};
 use mk_edit::{Edit, Field, Refusal, RuleSeparator, plan};
@@ -146,6 +147,30 @@ fn a_recipe_line_is_put_in_at_a_number(rt: HostRuntime) -> Result<(), Fail> {
     )?;
     let edit = insert_recipe(&heap, b"foo", 2, b"ls");
     check_accepted(&heap, b"foo:\n\ta", edit, b"foo:\n\ta\n\tls\n")
+}
+
+#[test]
+fn a_recipe_line_gets_another_command_by_its_text(rt: HostRuntime) -> Result<(), Fail> {
+    let heap = Watched::new(rt.alloc());
+    let edit = set_recipe_by_text(&heap, b"all", b"c", b"x y");
+    check_accepted(
+        &heap,
+        b"all:\n\ta \\\n\tb\n\tc\n",
+        edit,
+        b"all:\n\ta \\\n\tb\n\tx y\n",
+    )
+}
+
+#[test]
+fn a_recipe_line_is_taken_out_by_its_text(rt: HostRuntime) -> Result<(), Fail> {
+    let heap = Watched::new(rt.alloc());
+    let edit = remove_recipe_by_text(&heap, b"foo", b"y");
+    check_accepted(
+        &heap,
+        b"foo:\n\tx\nifdef A\n\ty\nendif\nbar:\n\ty\n",
+        edit,
+        b"foo:\n\tx\nifdef A\nendif\nbar:\n\ty\n",
+    )
 }
 
 #[test]

@@ -5,7 +5,7 @@ use Rattle.std.specs.Fmt.{digits}
 use Rattle.mk_class.specs.declared.assignment.Flavor.TheVariants.{Recursive, Simple}
 use Rattle.mk_edit_language.specs.declared.edit.RuleSeparator.TheVariants.{Single}
 use Rattle.mk_edit_language.specs.Edits.{Bottom, BeforeVar}
-use Rattle.mk_edit_language.specs.Edits.{SetValue, AppendValue, AddWord, AddAssign, RemoveAssign, AddRule, RemoveRule, AddPrereq, RemovePrereq, AddRecipe, SetRecipe, RemoveRecipe, RenameTarget}
+use Rattle.mk_edit_language.specs.Edits.{SetValue, AppendValue, AddWord, AddAssign, RemoveAssign, AddRule, RemoveRule, AddPrereq, RemovePrereq, AddRecipe, SetRecipe, RemoveRecipe, SetRecipeByText, RenameTarget}
 use Rattle.mk_history.specs.Machine.{Apply, Undo, Redo, Begin, End, Cancel}
 use Rattle.mk_history.specs.Shown.{shown_opened}
 use Rattle.mk_script.specs.Scripts.{Step}
@@ -187,3 +187,7 @@ row_add_of_a_word_that_is_there_is_refused = refl
 row_add_of_two_words_is_refused : came_to false 100 (codes "F = x\n") (on_line 1 (Apply (AddWord None (codes "F") (codes "a b"))) ∷ []) ≡ ends (Refused 1) (codes "1: refused 1 BadArgument word\n") None
 unfolding digits
 row_add_of_two_words_is_refused = refl
+
+row_recipe_replace_tests_the_old_text : came_to false 100 (codes "c:\n\ta\n") (on_line 1 (Apply (SetRecipeByText None (codes "c") (codes "a\\") (codes "x"))) ∷ []) ≡ ends (Refused 1) (codes "1: refused 1 BadArgument old\n") None
+unfolding digits
+row_recipe_replace_tests_the_old_text = refl

@@ -3,7 +3,7 @@
 use Rattle.std.specs.Prelude.{ℕ, true, false, if◌then◌else◌, List, Option, Some, None, option_map, codes}
 use Rattle.std.specs.Str.{bytes_eq}
 use Rattle.mk_class.specs.declared.assignment.Flavor.{Flavor}
-use Rattle.mk_edit_language.specs.Edits.{Place, Bottom, BeforeVar, AfterVar, BeforeRule, Edit, SetValue, AppendValue, AddWord, AddAssign, RemoveAssign, AddRule, RemoveRule, AddPrereq, RemovePrereq, AddRecipe, SetRecipe, RemoveRecipe, InsertRecipe, RenameTarget}
+use Rattle.mk_edit_language.specs.Edits.{Place, Bottom, BeforeVar, AfterVar, BeforeRule, Edit, SetValue, AppendValue, AddWord, AddAssign, RemoveAssign, AddRule, RemoveRule, AddPrereq, RemovePrereq, AddRecipe, SetRecipe, RemoveRecipe, InsertRecipe, SetRecipeByText, RemoveRecipeByText, RenameTarget}
 use Rattle.mk_edit_language.specs.declared.edit.RuleSeparator.{RuleSeparator}
 use Rattle.mk_history.specs.Machine.{Command, Apply}
 use Rattle.mk_script.specs.Lines.{Saying, Plain, Try, Or}
@@ -50,6 +50,9 @@ of_one make rest = option_map make (one_field rest)
 
 abbrev pub of_two : (List ℕ → List ℕ → Edit) → (rest : List ℕ) → Option Edit
 of_two make rest = option_map (λ p. make p.0 p.1) (two_fields rest)
+
+abbrev pub of_three : (List ℕ → List ℕ → List ℕ → Edit) → (rest : List ℕ) → Option Edit
+of_three make rest = option_map (λ p. make p.0 p.1 p.2) (three_fields rest)
 
 abbrev pub add_assign_of : Place → Option Flavor → (name value : List ℕ) → Option Edit
 add_assign_of place None name value = None
@@ -117,6 +120,8 @@ edit_by_word nth (Some word.RecipeSet) rest =
 edit_by_word nth (Some word.RecipeDel) rest = remove_recipe_after nth (two_fields rest)
 edit_by_word nth (Some word.RecipeInsert) rest =
     numbered_line_after (InsertRecipe nth) (three_fields rest)
+edit_by_word nth (Some word.RecipeReplace) rest = of_three (SetRecipeByText nth) rest
+edit_by_word nth (Some word.RecipeRemove) rest = of_two (RemoveRecipeByText nth) rest
 edit_by_word nth (Some word.Rename) rest = rename_target_of nth rest
 
 -- an edit, from its first field and what follows that field

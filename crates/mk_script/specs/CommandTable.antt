@@ -2,7 +2,7 @@
 -- Told in docs/EDITS.md, "The script".
 use Rattle.std.specs.Prelude.{◌≡◌, ℕ, Bool, true, false, List, [], ◌∷◌, ◌++◌, Option, Some, None, codes}
 use Rattle.mk_class.specs.OperatorTexts.{operator_text}
-use Rattle.mk_edit_language.specs.Edits.{Place, Bottom, BeforeVar, AfterVar, BeforeRule, Edit, SetValue, AppendValue, AddWord, AddAssign, RemoveAssign, AddRule, RemoveRule, AddPrereq, RemovePrereq, AddRecipe, SetRecipe, RemoveRecipe, InsertRecipe, RenameTarget}
+use Rattle.mk_edit_language.specs.Edits.{Place, Bottom, BeforeVar, AfterVar, BeforeRule, Edit, SetValue, AppendValue, AddWord, AddAssign, RemoveAssign, AddRule, RemoveRule, AddPrereq, RemovePrereq, AddRecipe, SetRecipe, RemoveRecipe, InsertRecipe, SetRecipeByText, RemoveRecipeByText, RenameTarget}
 use Rattle.mk_edit_language.specs.NewLines.{rule_separator_text}
 use Rattle.mk_history.specs.Machine.{Command, Apply, Undo, Redo, Begin, End, Cancel}
 use Rattle.mk_script.specs.Numbers.{IsNumber}
@@ -68,6 +68,10 @@ IsCommand fields (Apply (RemoveRecipe nth target number)) =
 IsCommand fields (Apply (InsertRecipe nth target number line)) =
     (digits : List ℕ) × IsNumber digits number
     × IsAfterNth nth fields (codes "recipe-insert" ∷ target ∷ digits ∷ line ∷ [])
+IsCommand fields (Apply (SetRecipeByText nth target old line)) =
+    IsAfterNth nth fields (codes "recipe-replace" ∷ target ∷ old ∷ line ∷ [])
+IsCommand fields (Apply (RemoveRecipeByText nth target old)) =
+    IsAfterNth nth fields (codes "recipe-remove" ∷ target ∷ old ∷ [])
 IsCommand fields (Apply (RenameTarget old new)) = fields ≡ codes "rename" ∷ old ∷ new ∷ []
 IsCommand fields Undo = fields ≡ codes "undo" ∷ []
 IsCommand fields Redo = fields ≡ codes "redo" ∷ []

@@ -1,7 +1,7 @@
 -- Laws of lines and of scripts. Each law is the contract of a public function.
 -- Told in docs/PROOFS.md, "Scripts (mk_script)".
 use Rattle.std.specs.Prelude.{◌≡◌, ◌⊎◌, ℕ, ◌≤◌, List, [], ◌∷◌, ◌++◌, map, Option, Some, None}
-use Rattle.mk_edit_language.specs.Edits.{Edit, SetValue, AppendValue, AddWord, AddAssign, RemoveAssign, AddRule, RemoveRule, AddPrereq, RemovePrereq, AddRecipe, SetRecipe, RemoveRecipe, InsertRecipe, RenameTarget}
+use Rattle.mk_edit_language.specs.Edits.{Edit, SetValue, AppendValue, AddWord, AddAssign, RemoveAssign, AddRule, RemoveRule, AddPrereq, RemovePrereq, AddRecipe, SetRecipe, RemoveRecipe, InsertRecipe, SetRecipeByText, RemoveRecipeByText, RenameTarget}
 use Rattle.mk_history.specs.Machine.{Command, Apply}
 use Rattle.mk_script.specs.Fields.{quoted, HasFields}
 use Rattle.mk_script.specs.CommandTable.{nth_of_place}
@@ -54,6 +54,8 @@ HasNumbersOfScripts (SetRecipe nth target number line) = CanBeWritten nth × (nu
 HasNumbersOfScripts (RemoveRecipe nth target number) = CanBeWritten nth × (number ≤ 4294967295)
 HasNumbersOfScripts (InsertRecipe nth target number line) =
     CanBeWritten nth × (number ≤ 4294967295)
+HasNumbersOfScripts (SetRecipeByText nth target old line) = CanBeWritten nth
+HasNumbersOfScripts (RemoveRecipeByText nth target old) = CanBeWritten nth
 HasNumbersOfScripts (RenameTarget old new) = Unit {0}
 
 -- a command whose numbers a script can write

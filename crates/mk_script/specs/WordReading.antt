@@ -35,7 +35,8 @@ edit_words =
     ∷ (word.Depend, codes "depend") ∷ (word.DependOrder, codes "depend-order")
     ∷ (word.Undepend, codes "undepend") ∷ (word.Recipe, codes "recipe")
     ∷ (word.RecipeSet, codes "recipe-set") ∷ (word.RecipeDel, codes "recipe-del")
-    ∷ (word.RecipeInsert, codes "recipe-insert") ∷ (word.Rename, codes "rename") ∷ []
+    ∷ (word.RecipeInsert, codes "recipe-insert") ∷ (word.RecipeReplace, codes "recipe-replace")
+    ∷ (word.RecipeRemove, codes "recipe-remove") ∷ (word.Rename, codes "rename") ∷ []
 
 -- the first words of places
 abbrev pub places : List (PlaceWord × List ℕ)

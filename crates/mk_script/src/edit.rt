@@ -6,7 +6,7 @@ ghost use Rattle.std.specs.Prelude.{◌≡◌, IfOk, true, false};
 ghost use Rattle.mk_edit_language.specs.Edits as edits;
 ghost use Rattle.mk_edit_language.specs.EditViews.{edit_of, place_of};
 ghost use Rattle.mk_script.specs.SeenFields.{field_text};
-ghost use Rattle.mk_script.specs.CommandReading.{add_assign_after, edit, of_one, of_two, place_at_front, numbered_line_after, remove_recipe_after, rename_target_of, add_rule_after};
+ghost use Rattle.mk_script.specs.CommandReading.{add_assign_after, edit, of_one, of_three, of_two, place_at_front, numbered_line_after, remove_recipe_after, rename_target_of, add_rule_after};
 ghost use Rattle.mk_script.specs.FieldReading.{three_fields, two_fields};
 ghost use Rattle.mk_script.specs.ReaderAnswers.{IsFound, IsRead, place_and_rest, written_place};
 
@@ -107,6 +107,8 @@ pub(crate) fn read_edit<A: Allocator + Copy>(
         EditWord::RecipeSet => read_recipe_set(alloc, nth, rest),
         EditWord::RecipeDel => read_recipe_del(alloc, nth, rest),
         EditWord::RecipeInsert => read_recipe_insert(alloc, nth, rest),
+        EditWord::RecipeReplace => read_recipe_replace(alloc, nth, rest),
+        EditWord::RecipeRemove => read_recipe_remove(alloc, nth, rest),
         EditWord::Rename => read_rename(alloc, nth, rest),
     }
 }
@@ -330,6 +332,40 @@ fn read_recipe_insert<A: Allocator + Copy>(
         number,
         line,
     })
+}
+
+// `recipe-replace TARGET OLD LINE`.
+fn read_recipe_replace<A: Allocator + Copy>(
+    alloc: A,
+    nth: Option<u32>,
+    rest: &[u8],
+) -> Result<Edit<A>, LineFault>
+    ensures { IsRead edit_of (of_three (edits.SetRecipeByText nth) rest.now) result }
+{
+    let (target, old, line) = three_fields(rest)?;
+    let target = target.to_vec(alloc)?;
+    let old = old.to_vec(alloc)?;
+    let line = line.to_vec(alloc)?;
+    Ok(Edit::SetRecipeByText {
+        nth,
+        target,
+        old,
+        line,
+    })
+}
+
+// `recipe-remove TARGET OLD`.
+fn read_recipe_remove<A: Allocator + Copy>(
+    alloc: A,
+    nth: Option<u32>,
+    rest: &[u8],
+) -> Result<Edit<A>, LineFault>
+    ensures { IsRead edit_of (of_two (edits.RemoveRecipeByText nth) rest.now) result }
+{
+    let (target, old) = two_fields(rest)?;
+    let target = target.to_vec(alloc)?;
+    let old = old.to_vec(alloc)?;
+    Ok(Edit::RemoveRecipeByText { nth, target, old })
 }
 
 // `rename OLD NEW`. No number may stand before it.

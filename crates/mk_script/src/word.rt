@@ -42,6 +42,10 @@ pub(crate) enum EditWord {
     RecipeDel,
     /// `recipe-insert`.
     RecipeInsert,
+    /// `recipe-replace`.
+    RecipeReplace,
+    /// `recipe-remove`.
+    RecipeRemove,
     /// `rename`.
     Rename,
 }
@@ -91,6 +95,10 @@ pub(crate) fn edit_word(word: Field<'_>) -> Option<EditWord>
         Some(EditWord::RecipeDel)
     } else if word.is(b"recipe-insert") {
         Some(EditWord::RecipeInsert)
+    } else if word.is(b"recipe-replace") {
+        Some(EditWord::RecipeReplace)
+    } else if word.is(b"recipe-remove") {
+        Some(EditWord::RecipeRemove)
     } else if word.is(b"rename") {
         Some(EditWord::Rename)
     } else {

@@ -129,8 +129,19 @@ fn recipe_edit(rt: &HostRuntime, numbers: &mut Numbers) -> Result<Edit, AllocErr
     let target = numbers.one_of(rt, &TARGETS)?;
     let number = if numbers.below(3) == 0 { 2 } else { 1 };
     let line = numbers.one_of(rt, &LINES)?;
-    Ok(match numbers.below(4) {
+    Ok(match numbers.below(6) {
         0 => Edit::AddRecipe { nth, target, line },
+        3 => Edit::SetRecipeByText {
+            nth,
+            target,
+            old: numbers.one_of(rt, &LINES)?,
+            line,
+        },
+        4 => Edit::RemoveRecipeByText {
+            nth,
+            target,
+            old: line,
+        },
         2 => Edit::InsertRecipe {
             nth,
             target,

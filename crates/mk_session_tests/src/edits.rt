@@ -182,6 +182,39 @@ pub fn insert_recipe<A: Allocator + Copy>(
     })
 }
 
+/// Gives the recipe line of a target that has a text another command.
+pub fn set_recipe_by_text<A: Allocator + Copy>(
+    alloc: A,
+    target: &[u8],
+    old: &[u8],
+    line: &[u8],
+) -> Result<Edit<A>, AllocError> {
+    let target = Vec::from_slice(alloc, target)?;
+    let old = Vec::from_slice(alloc, old)?;
+    let line = Vec::from_slice(alloc, line)?;
+    Ok(Edit::SetRecipeByText {
+        nth: None,
+        target,
+        old,
+        line,
+    })
+}
+
+/// Takes out the recipe line of a target that has a text.
+pub fn remove_recipe_by_text<A: Allocator + Copy>(
+    alloc: A,
+    target: &[u8],
+    old: &[u8],
+) -> Result<Edit<A>, AllocError> {
+    let target = Vec::from_slice(alloc, target)?;
+    let old = Vec::from_slice(alloc, old)?;
+    Ok(Edit::RemoveRecipeByText {
+        nth: None,
+        target,
+        old,
+    })
+}
+
 /// Gives a target another name.
 pub fn rename_target<A: Allocator + Copy>(
     alloc: A,

@@ -320,6 +320,16 @@ const REFUSED_EDITS: [Refused; 14] = [
         Refusal::Straddles,
     ),
     (
+        b"a:\n\tx\n\tx\n",
+        Step::SetRecipeByText(b"a", b"x", b"y"),
+        Refusal::Ambiguous(2),
+    ),
+    (
+        b"a:\n\tx\n",
+        Step::RemoveRecipeByText(b"a", b"y"),
+        Refusal::Absent,
+    ),
+    (
         b"all:\n",
         Step::RenameTarget(b"all", b"include"),
         Refusal::Reserved,

@@ -1,7 +1,8 @@
 //! Calls of a session as constants, each with its answer, and sessions that are asked for them.
 use crate::edits::{
     add_assign, add_order_prereq, add_recipe, add_rule, add_word, append_value, insert_recipe,
-    remove_assign, remove_prereq, remove_recipe, remove_rule, rename_target, set_recipe, set_value,
+    remove_assign, remove_prereq, remove_recipe, remove_recipe_by_text, remove_rule, rename_target,
+    set_recipe, set_recipe_by_text, set_value,
 };
 use crate::texts::is_as_parsed;
 use mk_lines::Fault;
@@ -38,6 +39,10 @@ pub enum Step {
     RemoveRecipe(&'static [u8]),
     /// Target and command.
     InsertRecipe(&'static [u8], &'static [u8]),
+    /// Target, text and command.
+    SetRecipeByText(&'static [u8], &'static [u8], &'static [u8]),
+    /// Target and text.
+    RemoveRecipeByText(&'static [u8], &'static [u8]),
     /// The old and the new target.
     RenameTarget(&'static [u8], &'static [u8]),
     Undo,
@@ -67,6 +72,10 @@ impl Step {
             Step::SetRecipe(target, line) => set_recipe(alloc, target, line),
             Step::RemoveRecipe(target) => remove_recipe(alloc, target),
             Step::InsertRecipe(target, line) => insert_recipe(alloc, target, line),
+            Step::SetRecipeByText(target, old, line) => {
+                set_recipe_by_text(alloc, target, old, line)
+            }
+            Step::RemoveRecipeByText(target, old) => remove_recipe_by_text(alloc, target, old),
             Step::RenameTarget(from, to) => rename_target(alloc, from, to),
             Step::Undo => return Ok(Command::Undo),
             Step::Redo => return Ok(Command::Redo),

@@ -26,7 +26,7 @@ const FRONT: &[u8] = b"A=1\nall: a b\n\tx\n\ty\n";
 
 // An edit of each kind, by its command in a script, with the number of lines that it changes in such
 // a document.
-const EDITS: [(&str, Step, usize); 13] = [
+const EDITS: [(&str, Step, usize); 15] = [
     ("set", Step::SetValue(b"A", b"2"), 1),
     ("append", Step::AppendValue(b"A", b"2"), 1),
     ("add", Step::AddWord(b"A", b"2"), 1),
@@ -40,6 +40,12 @@ const EDITS: [(&str, Step, usize); 13] = [
     ("recipe-set", Step::SetRecipe(b"all", b"z"), 1),
     ("recipe-del", Step::RemoveRecipe(b"all"), 1),
     ("recipe-insert", Step::InsertRecipe(b"all", b"z"), 1),
+    (
+        "recipe-replace",
+        Step::SetRecipeByText(b"all", b"x", b"z"),
+        1,
+    ),
+    ("recipe-remove", Step::RemoveRecipeByText(b"all", b"y"), 1),
     ("rename", Step::RenameTarget(b"all", b"tidy"), 1),
 ];
 
@@ -97,7 +103,7 @@ fn an_edit_takes_memory_for_its_lines_alone(rt: HostRuntime) -> Result<(), Fail>
 #[test]
 fn an_edit_takes_the_same_memory_in_a_long_file(rt: HostRuntime) -> Result<(), Fail> {
     let found = growths_of_first_edits(&rt, 1)?;
-    for lines in [1_000, 100_000] {
+    for lines in [1_000, 50_000] {
         assert_eq!(rt; growths_of_first_edits(&rt, lines)?, found);
     }
     Ok(())

@@ -15,7 +15,8 @@ and `prereqs` are such words, and `targets` is not empty. Outside a reference no
 colon, semicolon, equals sign, vertical bar, backslash or lone `$`, and each reference is closed. No
 target ends in `&`. `place` has such a name or such a target in it. With `add`, `word` is a word of a
 value: it is what `value` has to be, and is not empty.
-`line` does not end in a backslash. No field has a CR or a NUL.
+`line` does not end in a backslash, and neither does `old` of `recipe-replace` and `recipe-remove`,
+which is no word. No field has a CR or a NUL.
 
 Example: the script
     set CC \"gcc #1\"
@@ -83,7 +84,7 @@ only a prerequisite, use `undepend` and `depend` in place of `rename`.
 
 const AMBIGUOUS: &str = "\
 Several assignments or several rules that are read have this name, and no `nth` says which one is
-meant. The report says how many there are.
+meant. Or several recipe lines of the rule have the text OLD. The report says how many there are.
 
 Example: over
     ifdef DEBUG
@@ -98,12 +99,13 @@ is reported as
 
 Say which one: `nth 2 set CC clang`. The name may be that of PLACE:
 `nth 2 assign after-var CC X = 1`. `mkedit vars` and `mkedit rules` list them in order, and
-assignments for targets do not count. There is no `nth all`: write one line for each.
+assignments for targets do not count. There is no `nth all`: write one line for each. For a recipe
+line use `recipe-set` or `recipe-del`, which go by number.
 ";
 
 const ABSENT: &str = "\
-The word to take out is no prerequisite of the rule, or the rule has no K-th recipe line. For
-`recipe-insert` K may be one more than the number of recipe lines.
+The word to take out is no prerequisite of the rule, the rule has no K-th recipe line, or none whose
+text is OLD. For `recipe-insert` K may be one more than the number of recipe lines.
 
 Example: over
     hello: main.o
@@ -172,7 +174,8 @@ the script
 is reported as
     1: refused 10 Straddles
 
-Edit by hand, or use `recipe-set` and `recipe-del`, which are not refused.
+Edit by hand, or use `recipe-set`, `recipe-del`, `recipe-replace` and `recipe-remove`, which are not
+refused.
 ";
 
 const OPEN_VALUE: &str = "\

@@ -1,6 +1,6 @@
 -- What the planning of every edit has to show, if its moves lead from the lines before the edit to the lines after it.
-use Rattle.std.proofs.Common.{◌≡◌, refl, sym, ap, ◌∙◌, subst, arith, ℕ, ◌+◌, ◌<◌, ◌≤◌, List, [], ◌∷◌, ◌++◌, length, take, Option, Some, None, option_map, inr}
-use Rattle.std.specs.Prelude.{◌^◌, ◌-◌, min, Ok, Err, Result, IfOk, IsOkUnless}
+use Rattle.std.proofs.Common.{◌≡◌, refl, sym, ap, ◌∙◌, subst, arith, ℕ, ◌+◌, ◌<◌, ◌≤◌, List, [], ◌∷◌, ◌++◌, length, take, Option, Some, None, option_map, inl, inr}
+use Rattle.std.specs.Prelude.{◌^◌, ◌-◌, min, Ok, Err, Result, IfOk, IsErrAnd, IsOkUnless}
 use Rattle.std.proofs.lemmas.List.{length-map}
 use Rattle.std.proofs.Math.Seq.{take-append_seam}
 use Rattle.mk_lines.specs.Limits.{max_text}
@@ -10,7 +10,7 @@ use Rattle.mk_tree.specs.Documents.{IsFaithful, document_lines, context_of}
 use Rattle.mk_tree.specs.LineTexts.{line_in}
 use Rattle.mk_tree.specs.LocatedLines.{LocatedLine, located_line, located_lines, located_text, size_of}
 use Rattle.mk_tree.proofs.on_documents.DocumentLemmas.{faithful-own}
-use Rattle.mk_edit_language.specs.Edits.{Edit, SetValue, AppendValue, AddWord, AddAssign, AddRule, AddPrereq, RemovePrereq, AddRecipe, SetRecipe, InsertRecipe}
+use Rattle.mk_edit_language.specs.Edits.{Edit, SetValue, AppendValue, AddWord, AddAssign, AddRule, AddPrereq, RemovePrereq, AddRecipe, SetRecipe, InsertRecipe, SetRecipeByText}
 use Rattle.mk_edit_language.specs.Stretches.{Stretch, between, insertion, touched_by}
 use Rattle.mk_edit_language.specs.Costs.{cost, size}
 use Rattle.mk_edit_language.specs.EditedLines.{edited_bytes, new_line_bytes}
@@ -100,6 +100,7 @@ changes-one t (AddWord nth n w) rs s m h few k = record { cost_is = refl; size_i
 changes-one t (AddPrereq order nth g w) rs s m h few k = record { cost_is = refl; size_is = refl }
 changes-one t (RemovePrereq nth g w) rs s m h few k = record { cost_is = refl; size_is = refl }
 changes-one t (SetRecipe nth g n c) rs s m h few k = record { cost_is = refl; size_is = refl }
+changes-one t (SetRecipeByText nth g o c) rs s m h few k = record { cost_is = refl; size_is = refl }
 changes-one t (AddAssign p n f v) rs s m h few k = absurd (touched-some (insertion (classed_lines t) (AddAssign p n f v)) s h few)
 changes-one t (AddRule p ts c ws) rs s m h few k = absurd (touched-some (insertion (classed_lines t) (AddRule p ts c ws)) s h few)
 changes-one t (AddRecipe nth g c) rs s m h few k = absurd (touched-some (insertion (classed_lines t) (AddRecipe nth g c)) s h few)
@@ -125,6 +126,11 @@ puts-in t e rs s h = absurd (cc)
 -- a refusal, before a line is read
 pub refused-first : (e : Edit) (ls : List LocatedLine) (read : ℕ) (r : Refusal) → IsRefusal (located_text ls) e r → Plans e ls read read (Err r)
 refused-first e ls read r h = record { planned = tt; refused = h; counted = tt; few_read = omega arith; forward = omega arith }
+
+-- a refusal that is handed on, before a line is read
+pub refused-on : (e : Edit) (ls : List LocatedLine) (read : ℕ) (r : Refusal) (result : Result (List Move) Refusal) → IsErrAnd result (λ q. q ≡ r) → spans (located_text ls) e ≡ Err r → Plans e ls read read result
+refused-on e ls read r (Ok patch) i h = absurd i
+refused-on e ls read r (Err q) i h = refused-first e ls read q (inl (h ∙ ap Err (sym i)))
 
 -- a growth was refused, before a line was read
 pub memory-first : (e : Edit) (ls : List LocatedLine) (read : ℕ) (rs : List Replacement) → spans (located_text ls) e ≡ Ok rs → Plans e ls read read (Err NoMemory)

@@ -1,24 +1,28 @@
 -- Another command for a recipe line: the edit is one of a range of the line.
 use Rattle.std.proofs.Common.{◌≡◌, refl, sym, ap, ◌∙◌, subst, arith, ℕ, ◌+◌, ◌<◌, ◌≤◌, not, List, [], ◌∷◌, ◌++◌, length, length-append, Option, Some, None, is_some, option_map}
-use Rattle.std.specs.Prelude.{Err, slice_get}
+use Rattle.std.specs.Prelude.{Ok, Err, slice_get}
 use Rattle.std.proofs.lemmas.List.{map-append, length-map}
 use Rattle.mk_lines.specs.PhysicalLines.{without_line_end, line_end, line_end_bytes}
+use Rattle.mk_lines.specs.Pieces.{Replacement}
 use Rattle.mk_lines.specs.declared.split.Span.{Span}
 use Rattle.mk_lines.proofs.on_lines.LineEndLemmas.{without_line_end-line_end}
-use Rattle.mk_class.specs.ClassedLines.{classed_lines}
+use Rattle.mk_class.specs.ClassedLines.{ClassedLine, classed_lines}
 use Rattle.mk_tree.specs.Documents.{IsFaithful, text_of}
 use Rattle.mk_tree.specs.LocatedLines.{LocatedLine, located_line, located_lines, located_text}
 use Rattle.mk_tree.specs.LineTexts.{StandingLine}
 use Rattle.mk_tree.proofs.Indices.{get_middle}
 use Rattle.mk_edit_language.specs.Addresses.{Rule}
-use Rattle.mk_edit_language.specs.Edits.{Edit, SetRecipe}
+use Rattle.mk_edit_language.specs.Edits.{Edit, SetRecipe, SetRecipeByText}
 use Rattle.mk_edit_language.specs.Spots.{nth_of}
-use Rattle.mk_edit_language.specs.Stretches.{this_line}
+use Rattle.mk_edit_language.specs.Stretches.{this_line, recipe_found, text_number, touched_by}
+use Rattle.mk_edit_language.specs.EditedLines.{respanned_bytes, edited_bytes}
+use Rattle.mk_edit_language.specs.LineCauses.{too_long}
 use Rattle.mk_edit_language.specs.EditSpans.{recipe_span, spans_of, where_found}
 use Rattle.mk_edit_language.specs.Causes.{where_holds}
 use Rattle.mk_edit_language.specs.RuleCauses.{absent}
 use Rattle.mk_edit_language.specs.RisingSpans.{Rise}
-use Rattle.mk_edit_language.specs.Refusals.{spans}
+use Rattle.mk_edit_language.specs.Refusals.{first_cause, causes, spans}
+use Rattle.mk_edit_language.specs.declared.refusal.Refusal.{Refusal}
 use Rattle.mk_edit_language.specs.declared.refusal.Refusal.TheVariants.{Absent}
 use Rattle.mk_edit_language.proofs.on_edits.SpansRise.{spans-rise}
 use Rattle.mk_edit_parts.specs.Found.{IsAddressed, IsPlaceOf}
@@ -31,6 +35,7 @@ use Rattle.mk_edit.proofs.on_plans.RangePlans.{IsRangeEdit}
 use Rattle.mk_edit.proofs.on_plans.RemovalPlans.{place-found}
 use Rattle.mk_edit.proofs.on_recipes.OwnCauses.{own-refused}
 use Rattle.mk_edit.proofs.on_recipes.RulePlaces.{IsRuleAt, rule-at}
+use Rattle.mk_edit.proofs.on_recipes.MeantRecipes.{meant_index, number-meant, number-missing, text-missing, text-meant}
 use Rattle.mk_edit.proofs.on_recipes.RecipePlaces.{index_in_rule, found-none, IsRecipeAt, found-some}
 
 -- a recipe line stands below its header
@@ -52,57 +57,93 @@ shown-at ls nth g n at l h R k =
     let q : Some l ≡ Some (located_line s.line) = k ∙ (ap (λ z. slice_get z at) shown ∙ get_middle A B (located_line s.line) at place) in
     cc
 
--- the range of the command is the span of the edit
-set_recipe-range : (nth : Option ℕ) (g : List ℕ) (n : ℕ) (c : List ℕ) (ls : List LocatedLine) (f : Found) (at : ℕ) (l : LocatedLine) → IsFaithful ls → IsAddressed (SetRecipe nth g n c) ls f → IsRecipeAt ls nth g n at → Some l ≡ slice_get ls at
-    → IsRangeEdit (SetRecipe nth g n c) ls at l (command_range l.bytes) c
-set_recipe-range nth g n c ls f at l h A R k =
+-- the range of the command is the span of an edit that gives this line another command
+command-range : (e : Edit) (nth : Option ℕ) (g : List ℕ) (n : ℕ) (c : List ℕ) (ls : List LocatedLine) (at : ℕ) (l : LocatedLine) → (R : IsRecipeAt ls nth g n at) → IsFaithful ls → Some l ≡ slice_get ls at
+    → touched_by (classed_lines (located_text ls)) e ≡ option_map this_line (recipe_found (classed_lines (located_text ls)) nth g n)
+    → ((rs : List Replacement) → edited_bytes (located_text ls) e (this_line R.spot) rs ≡ respanned_bytes (this_line R.spot) rs ∷ [])
+    → spans_of (located_text ls) (classed_lines (located_text ls)) e ≡ where_found (recipe_span c) (recipe_found (classed_lines (located_text ls)) nth g n)
+    → first_cause (causes (located_text ls) (classed_lines (located_text ls)) e) ≡ first_cause (too_long (located_text ls) (spans_of (located_text ls) (classed_lines (located_text ls)) e) ∷ [])
+    → IsRangeEdit e ls at l (command_range l.bytes) c
+command-range e nth g n c ls at l R h k touched left spanned caused =
     let t = located_text ls in
     let cs = classed_lines t in
-    let e = SetRecipe nth g n c in
     let s = R.spot in
     let base = length (text_of s.above) in
     let bytes : l.bytes ≡ s.line.bytes = ap (λ (z : LocatedLine). z.bytes) (shown-at ls nth g n at l h R k) in
     let one : spans_of t cs e ≡ record { start = base + 1; end = base + length (without_line_end l.bytes); new = c } ∷ [] =
-    ap (where_found (recipe_span c)) R.found_is ∙ ap (λ m. record { start = base + 1; end = base + length (without_line_end m); new = c } ∷ []) (sym bytes) in
+    spanned ∙ (ap (where_found (recipe_span c)) R.found_is ∙ ap (λ m. record { start = base + 1; end = base + length (without_line_end m); new = c } ∷ []) (sym bytes)) in
     let rises = subst (Rise 0 (length t)) one (spans-rise t e) in
     record {
       spot = s;
       place_is = R.place_is;
-      touched_is = ap (option_map this_line) R.found_is;
-      left_is = λ rs. refl;
+      touched_is = touched ∙ ap (option_map this_line) R.found_is;
+      left_is = left;
       bytes_are = sym bytes;
       rises = omega (arith, rises.1);
       within = omega (arith, ap length (without_line_end-line_end l.bytes), length-append (without_line_end l.bytes) (line_end_bytes (line_end l.bytes)));
       spans_are = one;
-      causes_are = addressed-own e ls f _ A (passed (absent cs e) _ _ (ap (λ (o : Option StandingLine). where_holds (not (is_some o)) Absent) R.found_is) refl);
+      causes_are = caused;
     }
 
 -- What the code asks of a document if a recipe line gets another command, and what follows from the answers.
-pub record IsSetRecipeOf (n : ℕ) (c : List ℕ) (e : Edit) (ls : List LocatedLine) (f : Found) : Type 0 where
+pub record IsSetRecipeOf (c : List ℕ) (e : Edit) (ls : List LocatedLine) (f : Found) : Type 0 where
   pub within : f.at < length ls
   pub place : IsPlaceOf ls f
-  pub missing : None ≡ index_in_rule ls (f.at + 1) n → spans (located_text ls) e ≡ Err Absent
-  pub below : (at : ℕ) → Some at ≡ index_in_rule ls (f.at + 1) n → f.at < at
-  pub in_range : (at : ℕ) → Some at ≡ index_in_rule ls (f.at + 1) n → at < length ls
-  pub range : (at : ℕ) (l : LocatedLine) (r : Span) → Some at ≡ index_in_rule ls (f.at + 1) n → Some l ≡ slice_get ls at → r ≡ command_range l.bytes → IsRangeEdit e ls at l r c
+  pub missing : (r : Refusal) → Err r ≡ meant_index e ls f → spans (located_text ls) e ≡ Err r
+  pub below : (at : ℕ) → Ok at ≡ meant_index e ls f → f.at < at
+  pub in_range : (at : ℕ) → Ok at ≡ meant_index e ls f → at < length ls
+  pub range : (at : ℕ) (l : LocatedLine) (r : Span) → Ok at ≡ meant_index e ls f → Some l ≡ slice_get ls at → r ≡ command_range l.bytes → IsRangeEdit e ls at l r c
 
-set_recipe : (nth : Option ℕ) (g : List ℕ) (n : ℕ) (c : List ℕ) (ls : List LocatedLine) (f : Found) → IsFaithful ls → IsAddressed (SetRecipe nth g n c) ls f → IsSetRecipeOf n c (SetRecipe nth g n c) ls f
+set_recipe : (nth : Option ℕ) (g : List ℕ) (n : ℕ) (c : List ℕ) (ls : List LocatedLine) (f : Found) → IsFaithful ls → IsAddressed (SetRecipe nth g n c) ls f → IsSetRecipeOf c (SetRecipe nth g n c) ls f
 set_recipe nth g n c ls f h A = record {
   within = R.line.within;
   place = place-found ls (Rule nth g) f A.meant;
-  missing = λ m. own-refused e ls f Absent A (holds (absent (classed_lines (located_text ls)) e) _ Absent (ap (λ (o : Option StandingLine). where_holds (not (is_some o)) Absent) (found-none ls nth g f n R m)));
-  below = λ at m. omega (arith, place-below ls (f.at + 1) n at m);
-  in_range = λ at m. (found-some ls nth g f n at h R m).within;
-  range = λ at l r m k i. subst (λ (z : Span). IsRangeEdit e ls at l z c) (sym i) (set_recipe-range nth g n c ls f at l h A (found-some ls nth g f n at h R m) k);
+  missing = λ r m.
+      let q = number-missing r (index_in_rule ls (f.at + 1) n) m in
+      own-refused e ls f r A (holds (absent cs e) _ r (ap (λ (o : Option StandingLine). where_holds (not (is_some o)) Absent) (found-none ls nth g f n R q.0) ∙ ap (λ (z : Refusal). Some z) q.1));
+  below = λ at m. omega (arith, place-below ls (f.at + 1) n at (number-meant at (index_in_rule ls (f.at + 1) n) m));
+  in_range = λ at m. (found-some ls nth g f n at h R (number-meant at (index_in_rule ls (f.at + 1) n) m)).within;
+  range = λ at l r m k i.
+      let Q = found-some ls nth g f n at h R (number-meant at (index_in_rule ls (f.at + 1) n) m) in
+      subst (λ (z : Span). IsRangeEdit e ls at l z c) (sym i)
+      (command-range e nth g n c ls at l Q h k refl (λ rs. refl) refl (addressed-own e ls f _ A (passed (absent cs e) _ _ (ap (λ (o : Option StandingLine). where_holds (not (is_some o)) Absent) Q.found_is) refl)));
 }
   where
     e : Edit
     e = SetRecipe nth g n c
 
+    cs : List ClassedLine
+    cs = classed_lines (located_text ls)
+
     R : IsRuleAt ls nth g f
     R = rule-at ls nth g f h A.is_there A.is_one A.meant
 
-pub set_recipe-of : (n : ℕ) (c : List ℕ) (e : Edit) (ls : List LocatedLine) (f : Found) → IsFaithful ls → IsSetRecipe n c e → IsAddressed e ls f → IsSetRecipeOf n c e ls f
-set_recipe-of n c (SetRecipe nth g k d) ls f h i A =
-    subst (λ m. IsSetRecipeOf m c (SetRecipe nth g k d) ls f) i.0 (subst (λ z. IsSetRecipeOf k z (SetRecipe nth g k d) ls f) i.1 (set_recipe nth g k d ls f h A))
-set_recipe-of n c e ls f h i A = absurd i
+set_by_text : (nth : Option ℕ) (g o c : List ℕ) (ls : List LocatedLine) (f : Found) → IsFaithful ls → IsAddressed (SetRecipeByText nth g o c) ls f → IsSetRecipeOf c (SetRecipeByText nth g o c) ls f
+set_by_text nth g o c ls f h A = record {
+  within = R.line.within;
+  place = place-found ls (Rule nth g) f A.meant;
+  missing = λ r m. own-refused e ls f r A (holds (absent cs e) _ r (text-missing ls nth g o f r R m));
+  below = λ at m. omega (arith, place-below ls (f.at + 1) n at (text-meant ls nth g o f at R m).number);
+  in_range = λ at m. (found-some ls nth g f n at h R (text-meant ls nth g o f at R m).number).within;
+  range = λ at l r m k i.
+      let T = text-meant ls nth g o f at R m in
+      subst (λ (z : Span). IsRangeEdit e ls at l z c) (sym i)
+      (command-range e nth g n c ls at l (found-some ls nth g f n at h R T.number) h k refl (λ rs. refl) refl (addressed-own e ls f _ A (passed (absent cs e) _ _ T.one refl)));
+}
+  where
+    e : Edit
+    e = SetRecipeByText nth g o c
+
+    cs : List ClassedLine
+    cs = classed_lines (located_text ls)
+
+    n : ℕ
+    n = text_number cs nth g o
+
+    R : IsRuleAt ls nth g f
+    R = rule-at ls nth g f h A.is_there A.is_one A.meant
+
+pub set_recipe-of : (c : List ℕ) (e : Edit) (ls : List LocatedLine) (f : Found) → IsFaithful ls → IsSetRecipe c e → IsAddressed e ls f → IsSetRecipeOf c e ls f
+set_recipe-of c (SetRecipe nth g k d) ls f h i A = subst (λ z. IsSetRecipeOf z (SetRecipe nth g k d) ls f) i (set_recipe nth g k d ls f h A)
+set_recipe-of c (SetRecipeByText nth g o d) ls f h i A = subst (λ z. IsSetRecipeOf z (SetRecipeByText nth g o d) ls f) i (set_by_text nth g o d ls f h A)
+set_recipe-of c e ls f h i A = absurd i

@@ -1,5 +1,5 @@
 -- What it says of an edit that no cause refuses it.
-use Rattle.std.proofs.Common.{◌≡◌, refl, ℕ, List, [], ◌∷◌, Bool, true, false, not, Option, Some, None, is_some}
+use Rattle.std.proofs.Common.{◌≡◌, refl, ap, ◌∙◌, ℕ, List, [], ◌∷◌, Bool, true, false, not, Option, Some, None, is_some}
 use Rattle.std.specs.Prelude.{Ok}
 use Rattle.mk_lines.specs.Pieces.{Replacement}
 use Rattle.mk_class.specs.ClassedLines.{classed_lines}
@@ -89,6 +89,21 @@ accepted t e rs h =
       not_long = r.0;
       spans_are = u.1;
     }
+
+-- one more cause that does not hold
+none-before : (o : Option Refusal) (cs : List (Option Refusal)) → o ≡ None → first_cause cs ≡ None → first_cause (o ∷ cs) ≡ None
+none-before o cs h k = ap (λ z. first_cause (z ∷ cs)) h ∙ k
+
+-- an edit of which no cause holds has its spans
+pub accepted-spans : (t : List ℕ) (e : Edit) (rs : List Replacement) → IsAccepted t e rs → spans t e ≡ Ok rs
+accepted-spans t e rs A =
+    let ls = classed_lines t in
+    let none : first_cause (causes t ls e) ≡ None =
+    none-before _ _ A.arguments (none-before _ _ A.not_reserved (none-before _ _ A.prefix_read (none-before _ _ A.is_there
+    (none-before _ _ A.is_one (none-before _ _ A.not_led (none-before _ _ A.not_absent (none-before _ _ A.not_already
+    (none-before _ _ A.not_taken (none-before _ _ A.not_shared (none-before _ _ A.not_straddling (none-before _ _ A.value_closed
+    (none-before _ _ A.line_closed (none-before _ _ A.define_closed (none-before _ _ A.not_leaning (none-before _ _ A.not_long refl))))))))))))))) in
+    ap (λ o. unless_refused o (spans_of t ls e)) none ∙ ap Ok A.spans_are
 
 -- an address that is neither missing nor one of several means a line
 pub spot-picked : (nth : Option ℕ) (ss : List StandingLine) → is_missing nth ss ≡ false → is_several nth ss ≡ false → (s : StandingLine) × (picked nth ss ≡ Some s)

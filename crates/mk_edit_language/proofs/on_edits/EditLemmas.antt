@@ -1,5 +1,5 @@
 -- The reading law of every edit.
-use Rattle.mk_edit_language.specs.Edits.{Edit, SetValue, AppendValue, AddWord, AddAssign, RemoveAssign, AddRule, RemoveRule, AddPrereq, RemovePrereq, AddRecipe, SetRecipe, RemoveRecipe, InsertRecipe, RenameTarget}
+use Rattle.mk_edit_language.specs.Edits.{Edit, SetValue, AppendValue, AddWord, AddAssign, RemoveAssign, AddRule, RemoveRule, AddPrereq, RemovePrereq, AddRecipe, SetRecipe, RemoveRecipe, InsertRecipe, SetRecipeByText, RemoveRecipeByText, RenameTarget}
 use Rattle.mk_edit_language.specs.EditLaws.{ReadsAsChanged}
 use Rattle.mk_edit_language.proofs.on_values.LastFoldLemmas.{set_value-reads}
 use Rattle.mk_edit_language.proofs.on_values.AppendValueLemmas.{append_value-reads}
@@ -11,6 +11,7 @@ use Rattle.mk_edit_language.proofs.on_removals.RemovalLemmas.{remove_rule-reads,
 use Rattle.mk_edit_language.proofs.on_prerequisites.AddPrereqLemmas.{add_prereq-reads}
 use Rattle.mk_edit_language.proofs.on_prerequisites.RemovePrereqLemmas.{remove_prereq-reads}
 use Rattle.mk_edit_language.proofs.on_renames.RenameTargetLemmas.{rename_target-reads}
+use Rattle.mk_edit_language.proofs.on_recipes.TextLemmas.{set_recipe_by_text-reads, remove_recipe_by_text-reads}
 use Rattle.mk_edit_language.proofs.on_recipes.RecipeLemmas.{add_recipe-reads, insert_recipe-reads, set_recipe-reads}
 
 -- each edit reads as changed, by the law of its kind
@@ -28,4 +29,6 @@ edits-read (AddRecipe nth g c) = add_recipe-reads nth g c
 edits-read (SetRecipe nth g k c) = set_recipe-reads nth g k c
 edits-read (RemoveRecipe nth g k) = remove_recipe-reads nth g k
 edits-read (InsertRecipe nth g k c) = insert_recipe-reads nth g k c
+edits-read (SetRecipeByText nth g o c) = set_recipe_by_text-reads nth g o c
+edits-read (RemoveRecipeByText nth g o) = remove_recipe_by_text-reads nth g o
 edits-read (RenameTarget o n) = rename_target-reads o n

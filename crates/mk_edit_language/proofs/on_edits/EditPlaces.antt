@@ -7,10 +7,10 @@ use Rattle.mk_class.specs.ClassedLines.{ClassedLine}
 use Rattle.mk_tree.specs.RecipeLines.{recipe_run, after_recipe}
 use Rattle.mk_tree.proofs.on_changes.RecipeRunLemmas.{recipe_run-after}
 use Rattle.mk_tree.specs.LineTexts.{StandingLine}
-use Rattle.mk_edit_language.specs.Edits.{Place, Bottom, BeforeVar, AfterVar, BeforeRule, Edit, SetValue, AppendValue, AddWord, AddAssign, RemoveAssign, AddRule, RemoveRule, AddPrereq, RemovePrereq, AddRecipe, SetRecipe, RemoveRecipe, InsertRecipe, RenameTarget}
+use Rattle.mk_edit_language.specs.Edits.{Place, Bottom, BeforeVar, AfterVar, BeforeRule, Edit, SetValue, AppendValue, AddWord, AddAssign, RemoveAssign, AddRule, RemoveRule, AddPrereq, RemovePrereq, AddRecipe, SetRecipe, RemoveRecipe, InsertRecipe, SetRecipeByText, RemoveRecipeByText, RenameTarget}
 use Rattle.mk_edit_language.specs.Spots.{nth_of}
 use Rattle.mk_edit_language.specs.Addresses.{Address, Variable, Rule, assigns, is_rule_for, found}
-use Rattle.mk_edit_language.specs.Stretches.{Stretch, this_line, before_line, after_line, bottom, whole_rule, after_rule, recipe_spots, recipe_gaps, recipe_gap, recipe_found, place_found, insertion, removal, IsStretchOf}
+use Rattle.mk_edit_language.specs.Stretches.{Stretch, this_line, before_line, after_line, bottom, whole_rule, after_rule, recipe_spots, recipe_gaps, recipe_gap, recipe_found, text_number, place_found, insertion, removal, IsStretchOf}
 use Rattle.mk_edit_language.proofs.on_lines.SpotLemmas.{picked-is, recipe-found, recipe_spot-is}
 
 -- a spot of the text's lines
@@ -103,6 +103,8 @@ insertion-stretch ls (RemovePrereq nth g w) s h = absurd (cc)
 insertion-stretch ls (SetRecipe nth g k c) s h = absurd (cc)
 insertion-stretch ls (RemoveRecipe nth g k) s h = absurd (cc)
 insertion-stretch ls (InsertRecipe nth g k c) s h = gap-stretch ls nth g k s h
+insertion-stretch ls (SetRecipeByText nth g o c) s h = absurd (cc)
+insertion-stretch ls (RemoveRecipeByText nth g o) s h = absurd (cc)
 insertion-stretch ls (RenameTarget o n) s h = absurd (cc)
 
 -- the lines that an edit takes out
@@ -120,4 +122,8 @@ removal-stretch ls (RemovePrereq nth g w) s h = absurd (cc)
 removal-stretch ls (AddRecipe nth g c) s h = absurd (cc)
 removal-stretch ls (InsertRecipe nth g k c) s h = absurd (cc)
 removal-stretch ls (SetRecipe nth g k c) s h = absurd (cc)
+removal-stretch ls (SetRecipeByText nth g o c) s h = absurd (cc)
+removal-stretch ls (RemoveRecipeByText nth g o) s h =
+    let k = text_number ls nth g o in
+    mapped (IsStretchOf ls) this_line (recipe_found ls nth g k) (λ x i. this-stretch ls x (recipe_found-spot ls nth g k x i)) s h
 removal-stretch ls (RenameTarget o n) s h = absurd (cc)

@@ -1,7 +1,8 @@
 -- Each edit leaves the lines that its spans do not touch.
-use Rattle.mk_edit_language.specs.Edits.{Edit, SetValue, AppendValue, AddWord, AddAssign, RemoveAssign, AddRule, RemoveRule, AddPrereq, RemovePrereq, AddRecipe, SetRecipe, RemoveRecipe, InsertRecipe, RenameTarget}
+use Rattle.mk_edit_language.specs.Edits.{Edit, SetValue, AppendValue, AddWord, AddAssign, RemoveAssign, AddRule, RemoveRule, AddPrereq, RemovePrereq, AddRecipe, SetRecipe, RemoveRecipe, InsertRecipe, SetRecipeByText, RemoveRecipeByText, RenameTarget}
 use Rattle.mk_edit_language.specs.OutsideLaws.{LeavesOthers}
 use Rattle.mk_edit_language.proofs.on_edits.KeptByEdits.{set_value-keeps, append_value-keeps, add_word-keeps, add_assign-keeps, remove_assign-keeps, add_rule-keeps, remove_rule-keeps, add_prereq-keeps, remove_prereq-keeps, add_recipe-keeps, set_recipe-keeps, remove_recipe-keeps, insert_recipe-keeps}
+use Rattle.mk_edit_language.proofs.on_edits.KeptByText.{set_recipe_by_text-keeps, remove_recipe_by_text-keeps}
 use Rattle.mk_edit_language.proofs.on_edits.KeptByRenameTargetLemmas.{rename_target-keeps}
 
 -- each edit leaves these lines, by the law of its kind
@@ -19,4 +20,6 @@ edits-keep (AddRecipe nth g c) = add_recipe-keeps nth g c
 edits-keep (SetRecipe nth g k c) = set_recipe-keeps nth g k c
 edits-keep (RemoveRecipe nth g k) = remove_recipe-keeps nth g k
 edits-keep (InsertRecipe nth g k c) = insert_recipe-keeps nth g k c
+edits-keep (SetRecipeByText nth g o c) = set_recipe_by_text-keeps nth g o c
+edits-keep (RemoveRecipeByText nth g o) = remove_recipe_by_text-keeps nth g o
 edits-keep (RenameTarget o n) = rename_target-keeps o n

@@ -30,9 +30,9 @@ use Rattle.mk_tree.specs.Documents.{text_of, context_of}
 use Rattle.mk_tree.proofs.on_documents.LinesInText.{line-in_text, run-in_text, AreClassed, AreClassed-class, AreClassed-tail, AreClassed-lines}
 use Rattle.mk_tree.proofs.on_documents.DocumentLemmas.{text_of-classed_lines}
 use Rattle.mk_tree.specs.LineTexts.{StandingLine}
-use Rattle.mk_edit_language.specs.Edits.{Edit, SetValue, AppendValue, AddWord, AddAssign, RemoveAssign, AddRule, RemoveRule, AddPrereq, RemovePrereq, AddRecipe, SetRecipe, RemoveRecipe, InsertRecipe, RenameTarget}
+use Rattle.mk_edit_language.specs.Edits.{Edit, SetValue, AppendValue, AddWord, AddAssign, RemoveAssign, AddRule, RemoveRule, AddPrereq, RemovePrereq, AddRecipe, SetRecipe, RemoveRecipe, InsertRecipe, SetRecipeByText, RemoveRecipeByText, RenameTarget}
 use Rattle.mk_edit_language.specs.Addresses.{Variable, Rule, found}
-use Rattle.mk_edit_language.specs.Stretches.{Stretch, insertion, removal, recipe_found, IsStretchOf}
+use Rattle.mk_edit_language.specs.Stretches.{Stretch, insertion, removal, recipe_found, IsStretchOf, text_number}
 use Rattle.mk_edit_language.specs.NewLines.{new_line_span}
 use Rattle.mk_edit_language.specs.ValueSpans.{value_span, set_value_span, append_value_span, assignment_span}
 use Rattle.mk_edit_language.specs.WordPieces.{add_pieces, remove_pieces, rename_pieces, renamed_pieces, header_pieces, kept, put_last, prerequisite_text, removed_words, renamed_words}
@@ -322,6 +322,12 @@ spans-rise t (SetRecipe nth g k c) = rise-found t (recipe_span c) (recipe_found 
 spans-rise t (RemoveRecipe nth g k) = rise-found t removed_span (removal (classed_lines t) (RemoveRecipe nth g k)) (λ s i. rise-removed t s (removal-stretch (classed_lines t) (RemoveRecipe nth g k) s i))
 spans-rise t (InsertRecipe nth g k c) = rise-found t (new_line_span t (InsertRecipe nth g k c)) (insertion (classed_lines t) (InsertRecipe nth g k c))
     (λ s i. rise-inserted t (InsertRecipe nth g k c) s (insertion-stretch (classed_lines t) (InsertRecipe nth g k c) s i))
+spans-rise t (SetRecipeByText nth g o c) =
+    let ls = classed_lines t in
+    let k = text_number ls nth g o in
+    rise-found t (recipe_span c) (recipe_found ls nth g k) (λ s i. rise-recipe t c s (recipe_found-spot ls nth g k s i) (recipe_found-recipe ls nth g k s i))
+spans-rise t (RemoveRecipeByText nth g o) =
+    rise-found t removed_span (removal (classed_lines t) (RemoveRecipeByText nth g o)) (λ s i. rise-removed t s (removal-stretch (classed_lines t) (RemoveRecipeByText nth g o) s i))
 spans-rise t (RenameTarget o n) =
     let r = rise-renamed o n start (classed_lines t) 0 (AreClassed-lines t (classed_lines t) refl) in
     Rise-until 0 (0 + length (text_of (classed_lines t))) (length t) (renamed_spans o n 0 (classed_lines t)) r (omega (arith, ap length (text_of-classed_lines t)))

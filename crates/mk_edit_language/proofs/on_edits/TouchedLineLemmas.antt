@@ -6,9 +6,9 @@ use Rattle.mk_lines.specs.Pieces.{Replacement}
 use Rattle.mk_class.specs.ClassedLines.{classed_lines}
 use Rattle.mk_tree.specs.Documents.{text_of}
 use Rattle.mk_tree.specs.LineTexts.{StandingLine}
-use Rattle.mk_edit_language.specs.Edits.{Edit, SetValue, AppendValue, AddWord, AddAssign, RemoveAssign, AddRule, RemoveRule, AddPrereq, RemovePrereq, AddRecipe, SetRecipe, RemoveRecipe, InsertRecipe, RenameTarget}
+use Rattle.mk_edit_language.specs.Edits.{Edit, SetValue, AppendValue, AddWord, AddAssign, RemoveAssign, AddRule, RemoveRule, AddPrereq, RemovePrereq, AddRecipe, SetRecipe, RemoveRecipe, InsertRecipe, SetRecipeByText, RemoveRecipeByText, RenameTarget}
 use Rattle.mk_edit_language.specs.Addresses.{Variable, Rule, found}
-use Rattle.mk_edit_language.specs.Stretches.{Stretch, this_line, bottom, insertion, removal, recipe_found, IsStretchOf}
+use Rattle.mk_edit_language.specs.Stretches.{Stretch, this_line, bottom, insertion, removal, recipe_found, text_number, IsStretchOf}
 use Rattle.mk_edit_language.specs.NewLines.{new_line_span}
 use Rattle.mk_edit_language.specs.ValueSpans.{value_span, set_value_span, append_value_span}
 use Rattle.mk_edit_language.specs.WordPieces.{add_pieces, remove_pieces}
@@ -83,6 +83,15 @@ few-of_one t (SetRecipe nth g m c) p = few-found t (SetRecipe nth g m c) (recipe
     few-spot t (SetRecipe nth g m c) (recipe_span c s) s q (recipe-rises t c s q (recipe_found-recipe (classed_lines t) nth g m s i)) (omega arith))
 few-of_one t (InsertRecipe nth g k c) p = few-found t (InsertRecipe nth g k c) (new_line_span t (InsertRecipe nth g k c)) (insertion (classed_lines t) (InsertRecipe nth g k c))
     (λ s i. few-inserted t (InsertRecipe nth g k c) s (insertion-stretch (classed_lines t) (InsertRecipe nth g k c) s i))
+few-of_one t (SetRecipeByText nth g o c) p =
+    let k = text_number (classed_lines t) nth g o in
+    few-found t (SetRecipeByText nth g o c) (recipe_span c) (recipe_found (classed_lines t) nth g k)
+    (λ s i. let q = recipe_found-spot (classed_lines t) nth g k s i in
+    few-spot t (SetRecipeByText nth g o c) (recipe_span c s) s q (recipe-rises t c s q (recipe_found-recipe (classed_lines t) nth g k s i)) (omega arith))
+few-of_one t (RemoveRecipeByText nth g o) p =
+    let k = text_number (classed_lines t) nth g o in
+    few-found t (RemoveRecipeByText nth g o) removed_span (removal (classed_lines t) (RemoveRecipeByText nth g o))
+    (λ s i. few-removed t (RemoveRecipeByText nth g o) s (removal-stretch (classed_lines t) (RemoveRecipeByText nth g o) s i) (one-gone (recipe_found (classed_lines t) nth g k) s i))
 few-of_one t (RenameTarget o n) p = absurd p
 
 -- The law: the spans of an accepted edit of one place stand within at most as many lines as the edit's size says.

@@ -19,14 +19,15 @@ use Rattle.mk_tree.proofs.on_changes.RecipeRunLemmas.{recipe_run-after, recipe_r
 use Rattle.mk_tree.specs.Leaning.{AgreeButForFlag}
 use Rattle.mk_tree.proofs.on_changes.LeaningLemmas.{agrees-self, agrees-then}
 use Rattle.mk_tree.specs.LineTexts.{StandingLine}
-use Rattle.mk_edit_language.specs.Edits.{Edit, SetValue, AppendValue, AddWord, AddAssign, RemoveAssign, AddRule, RemoveRule, AddPrereq, RemovePrereq, AddRecipe, SetRecipe, RemoveRecipe, InsertRecipe, RenameTarget}
-use Rattle.mk_edit_language.specs.Stretches.{Stretch, removal, this_line, whole_rule}
+use Rattle.mk_edit_language.specs.Edits.{Edit, SetValue, AppendValue, AddWord, AddAssign, RemoveAssign, AddRule, RemoveRule, AddPrereq, RemovePrereq, AddRecipe, SetRecipe, RemoveRecipe, InsertRecipe, SetRecipeByText, RemoveRecipeByText, RenameTarget}
+use Rattle.mk_edit_language.specs.Stretches.{Stretch, removal, this_line, whole_rule, text_number}
 use Rattle.mk_edit_language.specs.EditSpans.{removed_span, where_found}
 use Rattle.mk_edit_language.specs.RuleCauses.{has_conditional}
 use Rattle.mk_edit_language.specs.LineCauses.{removal_leans}
 use Rattle.mk_edit_language.specs.Refusals.{spans, text_by, text_after}
 use Rattle.mk_edit_language.specs.Changes.{change, without_items}
 use Rattle.mk_edit_language.proofs.on_edits.Accepted.{accepted, where_holds-none}
+use Rattle.mk_edit_language.proofs.on_recipes.ByNumber.{remove_by_number}
 use Rattle.mk_edit_language.proofs.on_lines.SpotLemmas.{recipe-found, recipe-class, rule-found}
 use Rattle.mk_edit_language.proofs.on_removals.RemoveAssignLemmas.{stretch-lines, stretch-removed, assignment-agrees}
 use Rattle.mk_edit_language.proofs.on_values.SetValueLemmas.{not_prefix}
@@ -167,4 +168,9 @@ removed-lines (RemovePrereq nth g w) t rs s h k = absurd (cc)
 removed-lines (AddRecipe nth g c) t rs s h k = absurd (cc)
 removed-lines (InsertRecipe nth g number c) t rs s h k = absurd (cc)
 removed-lines (SetRecipe nth g number c) t rs s h k = absurd (cc)
+removed-lines (SetRecipeByText nth g o c) t rs s h k = absurd (cc)
+removed-lines (RemoveRecipeByText nth g o) t rs s h k =
+    let number = text_number (classed_lines t) nth g o in
+    let h' = remove_by_number t g o nth rs h in
+    ap (λ q. classed_lines (text_by t q)) (h ∙ sym h') ∙ remove_recipe-lines t g nth number rs s h' k
 removed-lines (RenameTarget o n) t rs s h k = absurd (cc)

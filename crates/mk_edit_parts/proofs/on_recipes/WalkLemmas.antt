@@ -133,7 +133,7 @@ index-told n p m at (l ∷ ls) h =
 -- ---- the lines of a faithful document
 
 -- the lines from an index on
-faithful-from : (ls : List LocatedLine) (at : ℕ) → IsFaithful ls → drop at ls ≡ located_lines (lines_from ls at)
+pub faithful-from : (ls : List LocatedLine) (at : ℕ) → IsFaithful ls → drop at ls ≡ located_lines (lines_from ls at)
 faithful-from ls at h = ap (drop at) h ∙ drop-map located_line at (classed_lines (located_text ls))
 
 -- the recipe below an index
@@ -156,7 +156,7 @@ recipe-line ls at zero f = index-passed 0 0 at (drop at ls) (omega arith) ∙ no
 recipe-line ls at (suc n) f = ap (recipe_index_from (suc n) 0 at) (faithful-from ls at f) ∙ index-told (suc n) 0 n at (lines_from ls at) (omega arith)
 
 -- no line is from the end on
-past-end : (ls : List LocatedLine) (at : ℕ) → length ls ≤ at → drop at ls ≡ []
+pub past-end : (ls : List LocatedLine) (at : ℕ) → length ls ≤ at → drop at ls ≡ []
 past-end [] zero h = refl
 past-end [] (suc at) h = refl
 past-end (l ∷ ls) zero h = absurd (omega (arith, h))

@@ -5,7 +5,7 @@ use Rattle.mk_class.specs.declared.assignment.Flavor.TheVariants.{Recursive, Sim
 use Rattle.mk_edit_language.specs.declared.edit.RuleSeparator.TheVariants.{Single, Double}
 use Rattle.mk_edit_language.specs.declared.refusal.Refusal.TheVariants.{BadArgument, Reserved, RecipePrefix, NoSuch, Ambiguous, Absent, Already, Taken, SharedRule, Straddles, OpenValue, OpenLine, OpenDefine, Leans}
 use Rattle.mk_edit_language.specs.Edits.{Bottom, BeforeVar, AfterVar, BeforeRule}
-use Rattle.mk_edit_language.specs.Edits.{SetValue, AppendValue, AddWord, AddAssign, RemoveAssign, AddRule, RemoveRule, AddPrereq, RemovePrereq, AddRecipe, SetRecipe, RemoveRecipe, InsertRecipe, RenameTarget}
+use Rattle.mk_edit_language.specs.Edits.{SetValue, AppendValue, AddWord, AddAssign, RemoveAssign, AddRule, RemoveRule, AddPrereq, RemovePrereq, AddRecipe, SetRecipe, RemoveRecipe, InsertRecipe, SetRecipeByText, RemoveRecipeByText, RenameTarget}
 use Rattle.mk_rows.proofs.edits.Outcomes.{outcome}
 use Rattle.mk_rows.proofs.edits.Outcomes.{Becomes, Refused}
 use Rattle.mk_edit_language.specs.declared.refusal.Field.TheVariants as field
@@ -438,3 +438,36 @@ row_recipe_insert_after_an_open_line_is_refused = refl
 
 row_recipe_insert_ends_a_last_line_without_line_end : outcome (codes "c:\n\ta") (InsertRecipe None (codes "c") 2 (codes "x")) ≡ Becomes (codes "c:\n\ta\n\tx\n")
 row_recipe_insert_ends_a_last_line_without_line_end = refl
+
+row_recipe_replace_by_the_text : outcome (codes "c:\n\trm -f x\n\ttrue\n") (SetRecipeByText None (codes "c") (codes "rm -f x") (codes "rm -rf x")) ≡ Becomes (codes "c:\n\trm -rf x\n\ttrue\n")
+row_recipe_replace_by_the_text = refl
+
+row_recipe_remove_of_a_text_that_stands_twice_is_refused : outcome (codes "c:\n\ttrue\n\ttrue\n") (RemoveRecipeByText None (codes "c") (codes "true")) ≡ Refused (Ambiguous 2)
+row_recipe_remove_of_a_text_that_stands_twice_is_refused = refl
+
+row_recipe_remove_of_a_text_that_is_not_there_is_refused : outcome (codes "c:\n\ttrue\n") (RemoveRecipeByText None (codes "c") (codes "false")) ≡ Refused Absent
+row_recipe_remove_of_a_text_that_is_not_there_is_refused = refl
+
+row_recipe_remove_by_the_text : outcome (codes "c:\n\ttrue\n\tls\n") (RemoveRecipeByText None (codes "c") (codes "ls")) ≡ Becomes (codes "c:\n\ttrue\n")
+row_recipe_remove_by_the_text = refl
+
+row_recipe_replace_looks_at_the_meant_rule_alone : outcome (codes "c:\n\ta\nd:\n\tb\n") (SetRecipeByText None (codes "d") (codes "a") (codes "x")) ≡ Refused Absent
+row_recipe_replace_looks_at_the_meant_rule_alone = refl
+
+row_recipe_replace_finds_no_folded_line : outcome (codes "c:\n\ta \\\n\tb\n") (SetRecipeByText None (codes "c") (codes "a b") (codes "x")) ≡ Refused Absent
+row_recipe_replace_finds_no_folded_line = refl
+
+row_recipe_replace_of_the_rule_that_nth_picks : outcome (codes "c:\n\ta\nc:\n\ta\n") (SetRecipeByText (Some 2) (codes "c") (codes "a") (codes "x")) ≡ Becomes (codes "c:\n\ta\nc:\n\tx\n")
+row_recipe_replace_of_the_rule_that_nth_picks = refl
+
+row_recipe_replace_tests_the_old_text : outcome (codes "c:\n\ta\n") (SetRecipeByText None (codes "c") (codes "a\\") (codes "x")) ≡ Refused (BadArgument field.Old)
+row_recipe_replace_tests_the_old_text = refl
+
+row_recipe_replace_across_a_conditional : outcome (codes "foo:\n\tx\nifdef A\n\ty\nendif\n") (SetRecipeByText None (codes "foo") (codes "y") (codes "z")) ≡ Becomes (codes "foo:\n\tx\nifdef A\n\tz\nendif\n")
+row_recipe_replace_across_a_conditional = refl
+
+row_recipe_remove_of_an_empty_line : outcome (codes "c:\n\t\n\ta\n") (RemoveRecipeByText None (codes "c") []) ≡ Becomes (codes "c:\n\ta\n")
+row_recipe_remove_of_an_empty_line = refl
+
+row_recipe_replace_counts_a_line_by_its_whole_text : outcome (codes "c:\n\ttrue \n\ttrue\n") (SetRecipeByText None (codes "c") (codes "true") (codes "x")) ≡ Becomes (codes "c:\n\ttrue \n\tx\n")
+row_recipe_replace_counts_a_line_by_its_whole_text = refl

@@ -12,7 +12,7 @@ pub struct Script {
 }
 
 /// Each command, each place, operator and separator, numbers, quotes and line ends.
-pub static SCRIPTS: [Script; 20] = [
+pub static SCRIPTS: [Script; 21] = [
     Script {
         text: b"",
         steps: b"",
@@ -87,6 +87,11 @@ pub static SCRIPTS: [Script; 20] = [
         text: b"nth 2 recipe-insert t 1 ls",
         steps: b"1 InsertRecipe 2|t|1|ls\n",
         growths: 3,
+    },
+    Script {
+        text: b"recipe-replace t \"a b\" ls\nnth 1 recipe-remove t \"a b\"",
+        steps: b"1 SetRecipeByText -|t|a b|ls\n2 RemoveRecipeByText 1|t|a b\n",
+        growths: 6,
     },
     Script {
         text: b"begin\nend\nredo\nbegin\ncancel\nundo",

@@ -234,6 +234,26 @@ fn put_recipe_edit<A: Allocator>(
             number,
             line,
         } => put_numbered_line(alloc, out, b"InsertRecipe", *nth, target, *number, line),
+        _ => put_text_edit(alloc, out, edit),
+    }
+}
+
+// An edit of a recipe line by its text.
+fn put_text_edit<A: Allocator>(
+    alloc: Global,
+    out: &mut Vec<u8>,
+    edit: &Edit<A>,
+) -> Result<(), AllocError> {
+    match edit {
+        Edit::SetRecipeByText {
+            nth,
+            target,
+            old,
+            line,
+        } => put_named(alloc, out, b"SetRecipeByText", *nth, &[target, old, line]),
+        Edit::RemoveRecipeByText { nth, target, old } => {
+            put_named(alloc, out, b"RemoveRecipeByText", *nth, &[target, old])
+        }
         _ => out.extend_from_slice(b"?"),
     }
 }

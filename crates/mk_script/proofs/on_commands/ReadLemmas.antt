@@ -5,7 +5,7 @@ use Rattle.std.specs.Str.{bytes_eq}
 use Rattle.mk_class.specs.declared.assignment.Flavor.{Flavor}
 use Rattle.mk_class.specs.OperatorTexts.{operator_text}
 use Rattle.mk_edit_language.specs.declared.edit.RuleSeparator.{RuleSeparator}
-use Rattle.mk_edit_language.specs.Edits.{Place, Bottom, BeforeVar, AfterVar, BeforeRule, Edit, SetValue, AppendValue, AddWord, AddAssign, RemoveAssign, AddRule, RemoveRule, AddPrereq, RemovePrereq, AddRecipe, SetRecipe, RemoveRecipe, InsertRecipe, RenameTarget}
+use Rattle.mk_edit_language.specs.Edits.{Place, Bottom, BeforeVar, AfterVar, BeforeRule, Edit, SetValue, AppendValue, AddWord, AddAssign, RemoveAssign, AddRule, RemoveRule, AddPrereq, RemovePrereq, AddRecipe, SetRecipe, RemoveRecipe, InsertRecipe, SetRecipeByText, RemoveRecipeByText, RenameTarget}
 use Rattle.mk_edit_language.specs.NewLines.{rule_separator_text}
 use Rattle.mk_history.specs.Machine.{Command, Apply, Undo, Redo, Begin, End, Cancel}
 use Rattle.mk_script.specs.Fields.{HasFields}
@@ -99,6 +99,9 @@ remove_recipe-read nth target digits text n is h =
 of_two-read : (make : List ℕ → List ℕ → Edit) (a b text : List ℕ) → HasFields text (a ∷ b ∷ []) → option_map (λ (p : List ℕ × List ℕ). make p.0 p.1) (two_fields text) ≡ Some (make a b)
 of_two-read make a b text h = ap (λ o. option_map (λ (p : List ℕ × List ℕ). make p.0 p.1) o) (two-read text a b h)
 
+of_three-read : (make : List ℕ → List ℕ → List ℕ → Edit) (a b c text : List ℕ) → HasFields text (a ∷ b ∷ c ∷ []) → option_map (λ (p : List ℕ × List ℕ × List ℕ). make p.0 p.1 p.2) (three_fields text) ≡ Some (make a b c)
+of_three-read make a b c text h = ap (λ o. option_map (λ (p : List ℕ × List ℕ × List ℕ). make p.0 p.1 p.2) o) (three-read text a b c h)
+
 of_one-read : (make : List ℕ → Edit) (a text : List ℕ) → HasFields text (a ∷ []) → option_map make (one_field text) ≡ Some (make a)
 of_one-read make a text h = ap (λ o. option_map make o) (one-read text a h)
 
@@ -140,6 +143,11 @@ edit-read line fields (RemoveRecipe nth target n) h is =
 edit-read line fields (InsertRecipe nth target n text) h is =
     addressed-read nth line (codes "recipe-insert") (target ∷ is.0 ∷ text ∷ []) fields _ (edit_word (codes "recipe-insert") refl refl) h is.2
     (λ rest. numbered_line-read (InsertRecipe nth) target is.0 text rest n is.1)
+edit-read line fields (SetRecipeByText nth target old text) h is =
+    addressed-read nth line (codes "recipe-replace") (target ∷ old ∷ text ∷ []) fields _ (edit_word (codes "recipe-replace") refl refl) h is
+    (of_three-read (SetRecipeByText nth) target old text)
+edit-read line fields (RemoveRecipeByText nth target old) h is =
+    addressed-read nth line (codes "recipe-remove") (target ∷ old ∷ []) fields _ (edit_word (codes "recipe-remove") refl refl) h is (of_two-read (RemoveRecipeByText nth) target old)
 edit-read line fields (RenameTarget old new) h is =
     addressed-read None line (codes "rename") (old ∷ new ∷ []) fields _ (edit_word (codes "rename") refl refl) h is (of_two-read RenameTarget old new)
 

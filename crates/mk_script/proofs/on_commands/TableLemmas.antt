@@ -51,6 +51,8 @@ word_text word.Recipe = codes "recipe"
 word_text word.RecipeSet = codes "recipe-set"
 word_text word.RecipeDel = codes "recipe-del"
 word_text word.RecipeInsert = codes "recipe-insert"
+word_text word.RecipeReplace = codes "recipe-replace"
+word_text word.RecipeRemove = codes "recipe-remove"
 word_text word.Rename = codes "rename"
 
 abbrev place_text : PlaceWord → List ℕ
@@ -61,7 +63,7 @@ place_text place.BeforeRule = codes "before-rule"
 
 pub named-word : (text : List ℕ) (k : EditWord) → named edit_words text ≡ Some k → text ≡ word_text k
 named-word text k h =
-    named-entry (λ w t. t ≡ word_text w) edit_words (refl, (refl, (refl, (refl, (refl, (refl, (refl, (refl, (refl, (refl, (refl, (refl, (refl, (refl, (refl, tt))))))))))))))) text k h
+    named-entry (λ w t. t ≡ word_text w) edit_words (refl, (refl, (refl, (refl, (refl, (refl, (refl, (refl, (refl, (refl, (refl, (refl, (refl, (refl, (refl, (refl, (refl, tt))))))))))))))))) text k h
 
 pub named-place : (text : List ℕ) (k : PlaceWord) → named places text ≡ Some k → text ≡ place_text k
 named-place text k h = named-entry (λ w t. t ≡ place_text w) places (refl, (refl, (refl, (refl, tt)))) text k h

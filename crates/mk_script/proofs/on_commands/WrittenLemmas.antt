@@ -6,7 +6,7 @@ use Rattle.std.proofs.lemmas.Slice.Eq.{bytes_eq-Decides}
 use Rattle.mk_class.specs.declared.assignment.Flavor.{Flavor}
 use Rattle.mk_class.specs.OperatorTexts.{operator_text}
 use Rattle.mk_edit_language.specs.declared.edit.RuleSeparator.{RuleSeparator}
-use Rattle.mk_edit_language.specs.Edits.{Place, Bottom, BeforeVar, AfterVar, BeforeRule, Edit, SetValue, AppendValue, AddWord, AddAssign, RemoveAssign, AddRule, RemoveRule, AddPrereq, RemovePrereq, AddRecipe, SetRecipe, RemoveRecipe, InsertRecipe, RenameTarget}
+use Rattle.mk_edit_language.specs.Edits.{Place, Bottom, BeforeVar, AfterVar, BeforeRule, Edit, SetValue, AppendValue, AddWord, AddAssign, RemoveAssign, AddRule, RemoveRule, AddPrereq, RemovePrereq, AddRecipe, SetRecipe, RemoveRecipe, InsertRecipe, SetRecipeByText, RemoveRecipeByText, RenameTarget}
 use Rattle.mk_edit_language.specs.NewLines.{rule_separator_text}
 use Rattle.mk_history.specs.Machine.{Command, Apply}
 use Rattle.mk_script.specs.Numbers.{IsNumber}
@@ -16,7 +16,7 @@ use Rattle.mk_script.specs.Lines.{HasCommand}
 use Rattle.mk_script.specs.FieldReading.{is_blank, first_field, one_field, two_fields, three_fields}
 use Rattle.mk_script.specs.NumberReading.{number}
 use Rattle.mk_script.specs.WordReading.{named, calls, edit_words, places, operators, separators}
-use Rattle.mk_script.specs.CommandReading.{placed_at, bottom, place_by_word, place_at_front, place_after, of_one, of_two, add_assign_after, add_assign_at, add_assign_of, add_rule_after, add_rule_at, add_rule_of, numbered_line_after, numbered_line_of, remove_recipe_after, remove_recipe_of, rename_target_of, edit_by_word, edit, edit_after_nth, edit_after_number, numbered_edit, addressed_edit, call_or_edit, command_after, command}
+use Rattle.mk_script.specs.CommandReading.{placed_at, bottom, place_by_word, place_at_front, place_after, of_one, of_two, of_three, add_assign_after, add_assign_at, add_assign_of, add_rule_after, add_rule_at, add_rule_of, numbered_line_after, numbered_line_of, remove_recipe_after, remove_recipe_of, rename_target_of, edit_by_word, edit, edit_after_nth, edit_after_number, numbered_edit, addressed_edit, call_or_edit, command_after, command}
 use Rattle.mk_script.specs.declared.word.EditWord.{EditWord}
 use Rattle.mk_script.specs.declared.word.EditWord.TheVariants as word
 use Rattle.mk_script.specs.declared.word.PlaceWord.{PlaceWord}
@@ -180,6 +180,20 @@ add_rule-written nth rest e h = go (place_at_front nth rest) refl h
     go None k m = absurd (cc)
     go (Some p) k m = of_place p k (three_fields p.1) refl m
 
+three-written : (nth : Option ℕ) (word rest : List ℕ) (e : Edit) (make : List ℕ → List ℕ → List ℕ → Edit) → of_three make rest ≡ Some e
+    → ((a b c : List ℕ) (fields : List (List ℕ)) → IsAfterNth nth fields (word ∷ a ∷ b ∷ c ∷ []) → IsCommand fields (Apply (make a b c))) → IsWrittenEdit nth word rest e
+three-written nth word rest e make h is = go (three_fields rest) refl h
+  where
+    go : (o : Option (List ℕ × List ℕ × List ℕ)) → three_fields rest ≡ o → option_map (λ (p : List ℕ × List ℕ × List ℕ). make p.0 p.1 p.2) o ≡ Some e → IsWrittenEdit nth word rest e
+    go None k m = absurd (cc)
+    go (Some p) k m =
+        let same : make p.0 p.1 p.2 ≡ e = cc in
+        record {
+          args = p.0 ∷ p.1 ∷ p.2 ∷ [];
+          args_are = three-is rest p.0 p.1 p.2 k;
+          is_command = λ fields a. subst (λ z. IsCommand fields (Apply z)) same (is p.0 p.1 p.2 fields a);
+        }
+
 numbered_line-written : (nth : Option ℕ) (word rest : List ℕ) (e : Edit) (make : List ℕ → ℕ → List ℕ → Edit) → numbered_line_after make (three_fields rest) ≡ Some e
     → ((target digits line : List ℕ) (n : ℕ) (fields : List (List ℕ)) → IsNumber digits n → IsAfterNth nth fields (word ∷ target ∷ digits ∷ line ∷ []) → IsCommand fields (Apply (make target n line)))
     → IsWrittenEdit nth word rest e
@@ -237,6 +251,8 @@ by_word-written nth word.Recipe rest e h = two-written nth (codes "recipe") rest
 by_word-written nth word.RecipeSet rest e h = numbered_line-written nth (codes "recipe-set") rest e (SetRecipe nth) h (λ target digits line n fields i a. (digits, i, a))
 by_word-written nth word.RecipeDel rest e h = remove_recipe-written nth rest e h
 by_word-written nth word.RecipeInsert rest e h = numbered_line-written nth (codes "recipe-insert") rest e (InsertRecipe nth) h (λ target digits line n fields i a. (digits, i, a))
+by_word-written nth word.RecipeReplace rest e h = three-written nth (codes "recipe-replace") rest e (SetRecipeByText nth) h (λ a b c fields k. k)
+by_word-written nth word.RecipeRemove rest e h = two-written nth (codes "recipe-remove") rest e (RemoveRecipeByText nth) h (λ a b fields k. k)
 by_word-written nth word.Rename rest e h = rename_target-written nth rest e h
 
 edit-written : (nth : Option ℕ) (first rest : List ℕ) (e : Edit) → edit nth first rest ≡ Some e → IsWrittenEdit nth first rest e

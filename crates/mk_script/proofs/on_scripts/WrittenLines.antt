@@ -7,7 +7,7 @@ use Rattle.std.proofs.lemmas.Fmt.{decimal_is_IsNumeral, length-decimal-le}
 use Rattle.mk_lines.specs.Lists.{Each}
 use Rattle.mk_lines.specs.Bytes.{is_blank_byte}
 use Rattle.mk_class.specs.OperatorTexts.{operator_text}
-use Rattle.mk_edit_language.specs.Edits.{Edit, SetValue, AppendValue, AddWord, AddAssign, RemoveAssign, AddRule, RemoveRule, AddPrereq, RemovePrereq, AddRecipe, SetRecipe, RemoveRecipe, InsertRecipe, RenameTarget}
+use Rattle.mk_edit_language.specs.Edits.{Edit, SetValue, AppendValue, AddWord, AddAssign, RemoveAssign, AddRule, RemoveRule, AddPrereq, RemovePrereq, AddRecipe, SetRecipe, RemoveRecipe, InsertRecipe, SetRecipeByText, RemoveRecipeByText, RenameTarget}
 use Rattle.mk_edit_language.specs.NewLines.{rule_separator_text}
 use Rattle.mk_history.specs.Machine.{Command, Apply, Undo, Redo, Begin, End, Cancel}
 use Rattle.mk_script.specs.Fields.{quoted, HasFields}
@@ -99,6 +99,8 @@ edit-line (RemoveRecipe nth target number) h =
     fields-command nth (codes "recipe-del" ∷ target ∷ decimal number ∷ []) (Apply (RemoveRecipe nth target number)) h.0 (λ fields k. (decimal number, decimal-number number h.1, k))
 edit-line (InsertRecipe nth target number line) h =
     fields-command nth (codes "recipe-insert" ∷ target ∷ decimal number ∷ line ∷ []) (Apply (InsertRecipe nth target number line)) h.0 (λ fields k. (decimal number, decimal-number number h.1, k))
+edit-line (SetRecipeByText nth target old line) h = fields-command nth (codes "recipe-replace" ∷ target ∷ old ∷ line ∷ []) (Apply (SetRecipeByText nth target old line)) h (λ fields k. k)
+edit-line (RemoveRecipeByText nth target old) h = fields-command nth (codes "recipe-remove" ∷ target ∷ old ∷ []) (Apply (RemoveRecipeByText nth target old)) h (λ fields k. k)
 edit-line (RenameTarget old new) h = fields-command None (codes "rename" ∷ old ∷ new ∷ []) (Apply (RenameTarget old new)) tt (λ fields k. k)
 
 command-line : (c : Command Edit) → HasNumbers c → (line : List ℕ) × HasCommand line c

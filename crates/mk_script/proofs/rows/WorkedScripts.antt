@@ -5,7 +5,7 @@ use Rattle.bstr.specs.Text.{line_len, lines_from}
 use Rattle.mk_class.specs.declared.assignment.Flavor.TheVariants.{Recursive, Simple}
 use Rattle.mk_edit_language.specs.declared.edit.RuleSeparator.TheVariants.{Single, Double}
 use Rattle.mk_edit_language.specs.Edits.{Bottom, BeforeVar, AfterVar, BeforeRule}
-use Rattle.mk_edit_language.specs.Edits.{SetValue, AppendValue, AddWord, AddAssign, RemoveAssign, AddRule, RemoveRule, AddPrereq, RemovePrereq, AddRecipe, SetRecipe, RemoveRecipe, InsertRecipe, RenameTarget}
+use Rattle.mk_edit_language.specs.Edits.{SetValue, AppendValue, AddWord, AddAssign, RemoveAssign, AddRule, RemoveRule, AddPrereq, RemovePrereq, AddRecipe, SetRecipe, RemoveRecipe, InsertRecipe, SetRecipeByText, RemoveRecipeByText, RenameTarget}
 use Rattle.mk_history.specs.Machine.{Apply, Undo, Redo, Begin, End, Cancel}
 use Rattle.mk_script.proofs.on_scripts.ReaderLemmas.{on_line, read_script}
 
@@ -492,3 +492,47 @@ row_recipe_insert_below_a_prefix_that_is_reset = refl
 row_recipe_insert_after_an_open_line_is_refused : read_script (codes "recipe-insert foo 2 y") ≡ Ok (on_line 1 (Apply (InsertRecipe None (codes "foo") 2 (codes "y"))) ∷ [])
 unfolding line_len lines_from
 row_recipe_insert_after_an_open_line_is_refused = refl
+
+row_recipe_replace_by_the_text : read_script (codes "recipe-replace c \"rm -f x\" \"rm -rf x\"") ≡ Ok (on_line 1 (Apply (SetRecipeByText None (codes "c") (codes "rm -f x") (codes "rm -rf x"))) ∷ [])
+unfolding line_len lines_from
+row_recipe_replace_by_the_text = refl
+
+row_recipe_remove_of_a_text_that_stands_twice_is_refused : read_script (codes "recipe-remove c true") ≡ Ok (on_line 1 (Apply (RemoveRecipeByText None (codes "c") (codes "true"))) ∷ [])
+unfolding line_len lines_from
+row_recipe_remove_of_a_text_that_stands_twice_is_refused = refl
+
+row_recipe_remove_of_a_text_that_is_not_there_is_refused : read_script (codes "recipe-remove c false") ≡ Ok (on_line 1 (Apply (RemoveRecipeByText None (codes "c") (codes "false"))) ∷ [])
+unfolding line_len lines_from
+row_recipe_remove_of_a_text_that_is_not_there_is_refused = refl
+
+row_recipe_remove_by_the_text : read_script (codes "recipe-remove c ls") ≡ Ok (on_line 1 (Apply (RemoveRecipeByText None (codes "c") (codes "ls"))) ∷ [])
+unfolding line_len lines_from
+row_recipe_remove_by_the_text = refl
+
+row_recipe_replace_looks_at_the_meant_rule_alone : read_script (codes "recipe-replace d a x") ≡ Ok (on_line 1 (Apply (SetRecipeByText None (codes "d") (codes "a") (codes "x"))) ∷ [])
+unfolding line_len lines_from
+row_recipe_replace_looks_at_the_meant_rule_alone = refl
+
+row_recipe_replace_finds_no_folded_line : read_script (codes "recipe-replace c \"a b\" x") ≡ Ok (on_line 1 (Apply (SetRecipeByText None (codes "c") (codes "a b") (codes "x"))) ∷ [])
+unfolding line_len lines_from
+row_recipe_replace_finds_no_folded_line = refl
+
+row_recipe_replace_of_the_rule_that_nth_picks : read_script (codes "nth 2 recipe-replace c a x") ≡ Ok (on_line 1 (Apply (SetRecipeByText (Some 2) (codes "c") (codes "a") (codes "x"))) ∷ [])
+unfolding line_len lines_from
+row_recipe_replace_of_the_rule_that_nth_picks = refl
+
+row_recipe_replace_tests_the_old_text : read_script (codes "recipe-replace c \"a\\\\\" x") ≡ Ok (on_line 1 (Apply (SetRecipeByText None (codes "c") (codes "a\\") (codes "x"))) ∷ [])
+unfolding line_len lines_from
+row_recipe_replace_tests_the_old_text = refl
+
+row_recipe_replace_across_a_conditional : read_script (codes "recipe-replace foo y z") ≡ Ok (on_line 1 (Apply (SetRecipeByText None (codes "foo") (codes "y") (codes "z"))) ∷ [])
+unfolding line_len lines_from
+row_recipe_replace_across_a_conditional = refl
+
+row_recipe_remove_of_an_empty_line : read_script (codes "recipe-remove c \"\"") ≡ Ok (on_line 1 (Apply (RemoveRecipeByText None (codes "c") [])) ∷ [])
+unfolding line_len lines_from
+row_recipe_remove_of_an_empty_line = refl
+
+row_recipe_replace_counts_a_line_by_its_whole_text : read_script (codes "recipe-replace c true x") ≡ Ok (on_line 1 (Apply (SetRecipeByText None (codes "c") (codes "true") (codes "x"))) ∷ [])
+unfolding line_len lines_from
+row_recipe_replace_counts_a_line_by_its_whole_text = refl

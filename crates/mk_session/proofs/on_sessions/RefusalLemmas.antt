@@ -7,13 +7,14 @@ use Rattle.mk_history.specs.Machine as machine
 use Rattle.mk_history.specs.Machine.{Command, Apply, Undo, Redo, Begin, End, Cancel}
 use Rattle.mk_history.specs.Shown.{Shown, shown_edited, shown_ended, shown_back, shown_forward}
 use Rattle.mk_session.specs.Sessions.{answer, edited, text_with, session_refusal}
-use Rattle.mk_edit_language.specs.Edits.{Place, Bottom, Edit, AppendValue, AddWord, AddAssign, AddRule, RemoveRule, AddPrereq, RemovePrereq, AddRecipe, SetRecipe, RemoveRecipe, InsertRecipe, RenameTarget}
+use Rattle.mk_edit_language.specs.Edits.{Place, Bottom, Edit, AppendValue, AddWord, AddAssign, AddRule, RemoveRule, AddPrereq, RemovePrereq, AddRecipe, SetRecipe, RemoveRecipe, InsertRecipe, SetRecipeByText, RemoveRecipeByText, RenameTarget}
+use Rattle.mk_tree.specs.LineTexts.{StandingLine}
 use Rattle.mk_edit_language.specs.Addresses.{Address, address}
 use Rattle.mk_edit_language.specs.EditSpans.{spans_of}
 use Rattle.mk_edit_language.specs.Causes.{where_holds}
 use Rattle.mk_edit_language.specs.ArgumentCauses.{FieldTest, Tested, first_failed, field_tests, bad_argument, reserved}
 use Rattle.mk_edit_language.specs.AddressCauses.{unread_prefix, no_such, no_such_line, ambiguous, ambiguous_line, prefix_led}
-use Rattle.mk_edit_language.specs.RuleCauses.{absent, already, taken, shared_rule, straddles}
+use Rattle.mk_edit_language.specs.RuleCauses.{not_one, absent, already, taken, shared_rule, straddles}
 use Rattle.mk_edit_language.specs.LineCauses.{open_value, open_line, open_define, open_define_at, leaning, too_long}
 use Rattle.mk_edit_language.specs.Refusals.{first_cause, unless_refused, causes, spans}
 use Rattle.mk_edit_language.specs.declared.refusal.Refusal.{Refusal}
@@ -59,11 +60,18 @@ prefix_led-other ls (AddRule p ts c ws) h = where_holds-other _ RecipePrefix (λ
 prefix_led-other ls (RenameTarget o n) h = where_holds-other _ RecipePrefix (λ k. absurd (cc)) h
 prefix_led-other ls e h = nothing-other h
 
+not_one-other : (ss : List StandingLine) → IsOther (not_one ss)
+not_one-other [] h = absurd (cc)
+not_one-other (s ∷ []) h = absurd (cc)
+not_one-other (s ∷ r ∷ ss) h = absurd (cc)
+
 absent-other : (ls : List ClassedLine) (e : Edit) → IsOther (absent ls e)
 absent-other ls (RemovePrereq nth t w) h = where_holds-other _ Absent (λ k. absurd (cc)) h
 absent-other ls (SetRecipe nth t k c) h = where_holds-other _ Absent (λ k. absurd (cc)) h
 absent-other ls (RemoveRecipe nth t k) h = where_holds-other _ Absent (λ k. absurd (cc)) h
 absent-other ls (InsertRecipe nth t k c) h = where_holds-other _ Absent (λ k. absurd (cc)) h
+absent-other ls (SetRecipeByText nth t o c) h = not_one-other _ h
+absent-other ls (RemoveRecipeByText nth t o) h = not_one-other _ h
 absent-other ls e h = nothing-other h
 
 already-other : (ls : List ClassedLine) (e : Edit) → IsOther (already ls e)
