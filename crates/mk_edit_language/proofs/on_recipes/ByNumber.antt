@@ -11,7 +11,7 @@ use Rattle.mk_edit_language.specs.Addresses.{Rule, found}
 use Rattle.mk_edit_language.specs.Stretches.{has_text, recipes_found, recipes_of_text, one_below, first_of_text, recipe_spot, recipe_spots, recipe_found, text_number}
 use Rattle.mk_edit_language.specs.Causes.{where_holds}
 use Rattle.mk_edit_language.specs.ArgumentCauses.{Tested, first_failed}
-use Rattle.mk_edit_language.specs.RuleCauses.{not_one}
+use Rattle.mk_edit_language.specs.RuleCauses.{not_one, absent}
 use Rattle.mk_edit_language.specs.Refusals.{spans}
 use Rattle.mk_edit_language.specs.declared.refusal.Field.{Field}
 use Rattle.mk_edit_language.specs.declared.refusal.Field.TheVariants as field
@@ -90,6 +90,7 @@ pub remove_by_number : (t g o : List ℕ) (nth : Option ℕ) (rs : List Replacem
 remove_by_number t g o nth rs h =
     let A = accepted t (RemoveRecipeByText nth g o) rs h in
     let u = two-passed field.Target field.Old (is_target g) (is_command o) A.arguments in
+    let there : absent (classed_lines t) (RemoveRecipe nth g (text_number (classed_lines t) nth g o)) ≡ None = there-none _ (text-there (classed_lines t) nth g o A.not_absent) in
     accepted-spans t (RemoveRecipe nth g (text_number (classed_lines t) nth g o)) rs (record {
       arguments = ap (λ z. first_failed (Tested field.Target z ∷ [])) u.0;
       not_reserved = A.not_reserved;
@@ -97,8 +98,7 @@ remove_by_number t g o nth rs h =
       is_there = A.is_there;
       is_one = A.is_one;
       not_led = refl;
-      -- only one line has the text
-      not_absent = there-none _ (text-there (classed_lines t) nth g o A.not_absent);
+      not_absent = there;
       not_already = refl;
       not_taken = refl;
       not_shared = refl;
