@@ -4,7 +4,7 @@ Most fields are names, targets, words and numbers that stand in the makefile as 
 is reached, so that many edits are accepted.
 """
 
-from argument_rows import is_name, is_target, is_word
+from argument_rows import is_command, is_name, is_target, is_word
 from tests.lib.reading import PREFIX_NAME, texts, units
 
 from . import document
