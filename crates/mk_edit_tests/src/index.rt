@@ -5,7 +5,7 @@ use mk_class::{Flavor, Meter};
 use mk_edit::Edit;
 use mk_edit_parts::address::Address;
 use mk_edit_parts::window::Known;
-use mk_index::{Finder, Index};
+use mk_index::{Finder, Index, Scope};
 use mk_tree::Doc;
 use std::alloc::AllocError;
 use std::test::Fail;
@@ -14,7 +14,7 @@ use watched::Watched;
 // How many lines of a makefile the index tells for a name, unless it leaves the name to a walk.
 fn told<'a>(heap: Heap<'a>, makefile: &[u8], name: &[u8]) -> Result<Option<usize>, Fail> {
     let doc = document(heap, makefile)?;
-    let mut index = Index::new(heap, &doc)?;
+    let mut index = Index::new(heap, &doc, Scope::Names)?;
     index.refresh(&doc)?;
     match index.sought(heap, &doc, Some(Address::Variable(None, name))) {
         Some(sought) => Ok(Some(sought.count)),

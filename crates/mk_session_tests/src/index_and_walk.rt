@@ -66,7 +66,7 @@ const CALLS: &[Step] = &[
 ];
 
 // Edits of each kind. Some of them are refused after some of the calls.
-const EDITS: [Step; 19] = [
+const EDITS: [Step; 20] = [
     Step::SetValue(b"A", b"7"),
     Step::SetValue(b"B", b"7"),
     Step::SetValue(b"C", b"7"),
@@ -227,7 +227,7 @@ fn refused_in_turn<'a>(
 }
 
 // An edit of each kind, each of which is accepted.
-const ACCEPTED: [Step; 13] = [
+const ACCEPTED: [Step; 14] = [
     Step::SetValue(b"C", b"2"),
     Step::AppendValue(b"M", b"3"),
     Step::AddWord(b"M", b"4"),

@@ -264,7 +264,7 @@ fn each_refused_growth_of_a_begin_changes_nothing(rt: HostRuntime) -> Result<(),
 type Refused = (&'static [u8], Step, Refusal);
 
 // One of each kind at least.
-const REFUSED_EDITS: [Refused; 14] = [
+const REFUSED_EDITS: [Refused; 17] = [
     (
         b"ifdef A\nCC=x\nelse\nCC=y\nendif\n",
         Step::SetValue(b"CC", b"z"),

@@ -26,7 +26,7 @@ const FRONT: &[u8] = b"A=1\nall: a b\n\tx\n\ty\n";
 
 // An edit of each kind, by its command in a script, with the number of lines that it changes in such
 // a document.
-const EDITS: [(&str, Step, usize); 15] = [
+const EDITS: [(&str, Step, usize); 16] = [
     ("set", Step::SetValue(b"A", b"2"), 1),
     ("append", Step::AppendValue(b"A", b"2"), 1),
     ("add", Step::AddWord(b"A", b"2"), 1),
