@@ -115,6 +115,7 @@ fn growths_of_indexed_edits(rt: &HostRuntime, lines: usize) -> Result<Vec<Growth
     let heap = Watched::new(rt.alloc());
     let session = session_over(rt, &heap, lines)?;
     session.expect_edits();
+    session.expect_renames();
     growths_of_step(&heap, session, Step::SetValue(b"A", b"2"))?;
     session.undo()?;
     let mut found = Vec::new(rt.alloc());
@@ -126,14 +127,15 @@ fn growths_of_indexed_edits(rt: &HostRuntime, lines: usize) -> Result<Vec<Growth
 }
 
 // The most bytes that an index of so many lines takes for an edit: a mark of a byte for each block of
-// 64 lines, with one more block. What it notes of the few blocks that are marked has its room in what
-// an edit takes by itself.
+// 16 lines, with one more block, and for each group of 128 blocks, with one more group. What it notes of
+// the few blocks that are marked has its room in what an edit takes by itself.
 fn most_bytes_of_marks(lines: usize) -> u64 {
-    (lines as u64 / 64).saturating_add(1)
+    let blocks = (lines as u64 / 16).saturating_add(1);
+    blocks.saturating_add(blocks / 128).saturating_add(1)
 }
 
 #[test]
-fn an_edit_by_an_index_takes_a_byte_more_for_each_64_lines(rt: HostRuntime) -> Result<(), Fail> {
+fn an_edit_by_an_index_takes_a_byte_more_for_each_16_lines(rt: HostRuntime) -> Result<(), Fail> {
     for count in [2_000usize, 100_000] {
         let found = growths_of_indexed_edits(&rt, count)?;
         let marks = most_bytes_of_marks(count.saturating_add(4));
