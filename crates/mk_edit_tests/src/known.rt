@@ -14,6 +14,7 @@ use mk_edit_parts::address::address_of;
 use mk_edit_parts::seek::{Found, Sought, seek};
 use mk_edit_parts::window::{Known, Window};
 use mk_index::{Finder, IndexedDoc};
+use mk_lines::split_first_word;
 use mk_tree::Doc;
 use std::alloc::AllocError;
 use std::test::Fail;
@@ -78,9 +79,19 @@ fn is_same(left: Sought, right: Sought) -> bool {
 
 // ---- what is known for a rename
 
-// Whether a word stands somewhere in a text.
-fn holds(text: &[u8], word: &[u8]) -> bool {
-    text.windows(word.len().max(1)).any(|part| part == word)
+// Whether a line that is no recipe line has a word, by itself or before a colon.
+fn holds(line: &[u8], word: &[u8]) -> bool {
+    if line.starts_with(b"\t") {
+        return false;
+    }
+    let mut rest = line.strip_suffix(b"\n").unwrap_or(line);
+    while let Some((first, after)) = split_first_word(rest) {
+        if first == word || first.strip_suffix(b":") == Some(word) {
+            return true;
+        }
+        rest = after;
+    }
+    false
 }
 
 // The context before a line, as the text above it is read anew.
@@ -94,7 +105,7 @@ fn context_before<'a>(heap: Heap<'a>, doc: &Doc<Heap<'a>>, at: usize) -> Result<
 }
 
 // Checks the windows that are known for a rename by a walk over all lines: the context before each is
-// the one there, no line outside of them holds either word, and the last one reaches the end.
+// the one there, no line outside of them has either word, and the last one reaches the end.
 fn check_windows<'a>(
     heap: Heap<'a>,
     doc: &Doc<Heap<'a>>,
