@@ -7,7 +7,7 @@ from typing import NamedTuple, Union
 
 from shared import BENCH, DATA, cost, is_made, text_of
 
-OUT_OF_MKEDIT, OUT_OF_SED = DATA / "out-of-mkedit", DATA / "out-of-sed"
+OUT_OF_MKEDIT, OUT_BESIDE = DATA / "out-of-mkedit", DATA / "out-beside"
 QUERIES = ("vars", "rules", "check", "caveats")
 READER = BENCH.parent / "tests/lib/reading.py"
 
@@ -19,7 +19,7 @@ class Job(NamedTuple):
     kind: str
     size: int
     words: list
-    # the words of a sed that has to put out the same, or a file that has it
+    # the words of a sed or of another program that has to put out the same, or a file that has it
     wanted: Union[list, Path]
 
     def text(self):
@@ -79,13 +79,14 @@ def rename(size):
 def many(kind, count, size):
     """A script of commands of a kind, whose names stand all over a makefile of pairs.
 
-    What it has to put out is what the plain program puts into the file that is wanted.
+    What it has to put out is what the plain program puts out, which has to be built.
     """
     commands = DATA / f"many-{kind.replace(' ', '-')}-{count}-{size}"
     text, made_by = text_of("pairs", size), BENCH / "make_many.py"
     if not is_made(commands, text, made_by):
         subprocess.run([made_by, kind, str(count), text, commands], check=True)
-    return Job(f"{count:,} {kind}", "pairs", size, ["edit", commands], DATA / "out-of-plain")
+    words = ["edit", commands]
+    return Job(f"{count:,} {kind}", "pairs", size, words, [DATA / "plain", *words])
 
 
 def query(name, size):
@@ -106,8 +107,8 @@ def checked(program, job, bound=None):
     if used is None:
         return None
     if isinstance(wanted, list):
-        cost([*wanted, job.text()], OUT_OF_SED)
-        wanted = OUT_OF_SED
+        cost([*wanted, job.text()], OUT_BESIDE)
+        wanted = OUT_BESIDE
     if not filecmp.cmp(OUT_OF_MKEDIT, wanted, shallow=False):
         raise SystemExit(f"wrong output: {job.name}, {job.kind}, {job.size:,} bytes")
     return used

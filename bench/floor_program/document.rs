@@ -30,8 +30,10 @@ pub struct Document {
     pub size: usize,
     /// What the lines leave at the end. The reading of the last line tells it.
     pub end: Context,
-    /// Where the assignments stand, if many edits ask for it.
-    pub index: Option<Index>,
+    /// Where variables are assigned, if many edits ask for it.
+    pub variables: Option<Index>,
+    /// Where the words of rules stand, likewise.
+    pub words: Option<Index>,
     inverses: VecDeque<Inverse>,
     pub folding: Folding,
 }
@@ -43,7 +45,8 @@ impl Document {
         let lines = reader.tree(25);
         let (end, folding) = (reader.context, reader.folding);
         let inverses = VecDeque::with_capacity(DEPTH);
-        Document { size: text.len(), text, lines, end, index: None, inverses, folding }
+        let (variables, words) = (None, None);
+        Document { size: text.len(), text, lines, end, variables, words, inverses, folding }
     }
 
     /// Whether a line can follow the last one.
@@ -70,7 +73,7 @@ impl Document {
     pub fn put_in(&mut self, raw: &[u8]) {
         let before = self.end;
         let new = node_of(raw, &mut self.end, &mut self.folding);
-        if let Some(index) = &mut self.index {
+        for index in [&mut self.variables, &mut self.words].into_iter().flatten() {
             index.put_in(&new.line, self.lines.lines, &self.text);
         }
         self.lines = tree_of(mem::take(&mut self.lines), new, Tree::default());
@@ -97,7 +100,7 @@ impl Document {
             Inverse::TakeOut(end) => {
                 self.size -= self.last().map_or(0, |it| it.raw(&self.text).len());
                 self.lines = without_last(mem::take(&mut self.lines));
-                (self.end, self.index) = (end, None);
+                (self.end, self.variables, self.words) = (end, None, None);
             }
         }
         true

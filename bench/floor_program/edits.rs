@@ -4,7 +4,7 @@
 use crate::bytes::words;
 use crate::class::Class;
 use crate::document::{Document, MAX_TEXT};
-use crate::index::{Index, sought_by_walk};
+use crate::index::{Index, Listed, sought_by_walk};
 use crate::rename::rename;
 use crate::script::{Command, is_name, is_reserved, is_value, is_word};
 
@@ -25,7 +25,7 @@ pub enum Refusal {
     NotHere,
 }
 
-/// A script with this number of `set`, or more, makes an index.
+/// A script with this number of `set` or of `rename`, or more, makes an index for them.
 pub const MANY: usize = 10;
 
 impl Document {
@@ -64,7 +64,7 @@ impl Document {
         test(is_name(name) && is_value(value), Refusal::BadArgument)?;
         test(name != b".RECIPEPREFIX", Refusal::Reserved)?;
         test(!self.end.sets_prefix, Refusal::RecipePrefix)?;
-        let (count, at) = match &self.index {
+        let (count, at) = match &self.variables {
             Some(index) => index.sought(name, &self.lines, &self.text),
             None => sought_by_walk(name, &self.lines, &self.text),
         };
@@ -97,8 +97,12 @@ impl Document {
         Ok(())
     }
 
-    pub fn make_index(&mut self) {
-        self.index = Some(Index::of(&self.lines, &self.text));
+    pub fn make_index(&mut self, listed: Listed) {
+        let index = Some(Index::of(listed, &self.lines, &self.text));
+        match listed {
+            Listed::Variables => self.variables = index,
+            Listed::Words => self.words = index,
+        }
     }
 }
 

@@ -1,20 +1,21 @@
-//! Where the assignments stand, by their names: made by one walk over the lines, and kept over edits.
+//! Where the variables of assignments stand, or the words of rules, in a table: made by one walk over
+//! the lines, and kept over edits.
 
-use crate::bytes::hash;
 use crate::class::Class;
+use crate::rename::each_word;
+use crate::table::Table;
 use crate::tree::{Line, Tree};
 
-/// An assignment, and the number of the last one before it in its bucket, from 1.
-struct Entry {
-    hash: u32,
-    line: u32,
-    before: u32,
+/// What is listed of a line: the variable that it assigns, or its targets and prerequisites.
+#[derive(Clone, Copy)]
+pub enum Listed {
+    Variables,
+    Words,
 }
 
 pub struct Index {
-    /// The number of the last entry of each bucket, from 1.
-    buckets: Vec<u32>,
-    entries: Vec<Entry>,
+    listed: Listed,
+    pub table: Table,
 }
 
 /// The name of the variable that a line assigns.
@@ -26,41 +27,34 @@ pub fn name_of<'a>(line: &'a Line, text: &'a [u8]) -> Option<&'a [u8]> {
 }
 
 impl Index {
-    pub fn of(lines: &Tree, text: &[u8]) -> Index {
-        let buckets = (lines.lines as usize / 4).next_power_of_two();
-        let mut index = Index { buckets: vec![0; buckets], entries: Vec::new() };
+    pub fn of(listed: Listed, lines: &Tree, text: &[u8]) -> Index {
+        let mut index = Index { listed, table: Table::new(lines.lines as usize / 4) };
         let mut at = 0;
         lines.walk(&mut |line| {
-            index.put_in(line, at, text);
+            index.list(line, at, text);
             at += 1;
         });
+        index.table.link();
         index
     }
 
     /// Puts in the line at this index, which is behind all others.
     pub fn put_in(&mut self, line: &Line, at: u32, text: &[u8]) {
-        let Some(name) = name_of(line, text) else {
-            return;
-        };
-        let hash = hash(name);
-        let bucket = hash as usize & (self.buckets.len() - 1);
-        self.entries.push(Entry { hash, line: at, before: self.buckets[bucket] });
-        self.buckets[bucket] = self.entries.len() as u32;
+        self.list(line, at, text);
+        self.table.link();
+    }
+
+    fn list(&mut self, line: &Line, at: u32, text: &[u8]) {
+        match self.listed {
+            Listed::Variables => name_of(line, text).into_iter().for_each(|it| self.table.list(it, at)),
+            Listed::Words => each_word(line, text, |_, it| self.table.list(it, at)),
+        }
     }
 
     /// How many lines assign a variable, and the first of them.
     pub fn sought(&self, name: &[u8], lines: &Tree, text: &[u8]) -> (u32, u32) {
-        let hash = hash(name);
-        let (mut count, mut first) = (0, 0);
-        let mut next = self.buckets[hash as usize & (self.buckets.len() - 1)];
-        while next > 0 {
-            let entry = &self.entries[next as usize - 1];
-            if entry.hash == hash && name_of(lines.line(entry.line), text) == Some(name) {
-                (count, first) = (count + 1, entry.line);
-            }
-            next = entry.before;
-        }
-        (count, first)
+        let found = self.table.lines(name).filter(|it| name_of(lines.line(*it), text) == Some(name));
+        found.fold((0, 0), |(count, _), it| (count + 1, it))
     }
 }
 

@@ -15,7 +15,8 @@
 //! Then what a script and a query cannot leave out on top of that:
 //!
 //!     floor edit SCRIPT FILE    does the commands of the script, one after the other, keeps what
-//!                               undoes the last 100, and writes the lines
+//!                               undoes the last 100, and writes the lines; for 10 `set` or more it
+//!                               makes an index of variables, and for 10 `rename` or more one of words
 //!     floor vars FILE           prints what the query of this name prints; likewise rules, check and
 //!                               caveats
 //!
@@ -51,9 +52,11 @@ mod reading;
 mod rename;
 mod script;
 mod small;
+mod table;
 mod tree;
 
 use document::Document;
+use index::Listed;
 use lines::Lines;
 use reading::Kept;
 use script::Command;
@@ -101,9 +104,14 @@ fn edit(script: &str, name: &str, out: &mut Out) -> io::Result<()> {
         process::exit(2)
     });
     over(name, Kept::Classes, |document| {
-        let sets = commands.iter().filter(|(_, it)| matches!(it, Command::Set { .. })).count();
-        if sets >= edits::MANY {
-            document.make_index();
+        let are_many = |is_meant: fn(&Command<'_>) -> bool| {
+            commands.iter().filter(|(_, it)| is_meant(it)).count() >= edits::MANY
+        };
+        if are_many(|it| matches!(it, Command::Set { .. })) {
+            document.make_index(Listed::Variables);
+        }
+        if are_many(|it| matches!(it, Command::Rename { .. })) {
+            document.make_index(Listed::Words);
         }
         let mut line = Vec::new();
         for (number, command) in &commands {

@@ -1,7 +1,9 @@
 //! `rename`. One walk decides all causes of refusal, and keeps the indices of the lines that have the
 //! word: it looks at the targets and prerequisites of each rule and at the targets of each
-//! assignment for targets, once, for the old word and for the new one. Then one way down from the
-//! top, which goes only where such lines stand, exchanges them.
+//! assignment for targets, once, for the old word and for the new one. Where there is an index of
+//! words, it goes down to the lines of these two words in place of the walk. Then one way down from
+//! the top, which goes only where such lines stand, exchanges them. No line gets another index, and
+//! each other word stays in its line, so the index gets the new word alone.
 
 use crate::bytes::words_of_part;
 use crate::class::{Class, Context};
@@ -23,7 +25,19 @@ fn parts(class: Class) -> ([(usize, usize); 3], bool) {
     (parts.map(|(start, end)| (start as usize, end as usize)), is_tidy)
 }
 
-/// What a walk finds.
+/// Calls a function with each target and prerequisite of a line, and with its offset.
+pub fn each_word(line: &Line, text: &[u8], mut see: impl FnMut(usize, &[u8])) {
+    if !matches!(line.class, Class::Header(_) | Class::TargetAssign(..)) {
+        return;
+    }
+    let joined = line.joined(text);
+    let (parts, is_tidy) = parts(line.class);
+    for (start, end) in parts {
+        words_of_part(joined, start, end, is_tidy).for_each(|(offset, word)| see(offset, word));
+    }
+}
+
+/// What the lines tell of a rename.
 #[derive(Default)]
 struct Effect {
     is_there: bool,
@@ -54,20 +68,36 @@ impl Effect {
     }
 }
 
+/// What the lines of the two words tell, or all lines where there is no index.
+fn effect(document: &Document, old: &[u8], new: &[u8]) -> Effect {
+    let (mut effect, lines, text) = (Effect::default(), &document.lines, &document.text);
+    let Some(index) = &document.words else {
+        let mut at = 0;
+        lines.walk(&mut |line| {
+            effect.see(line, at, text, old, new);
+            at += 1;
+        });
+        return effect;
+    };
+    let mut indices: Vec<u32> = index.table.lines(old).chain(index.table.lines(new)).collect();
+    indices.sort_unstable();
+    indices.dedup();
+    indices.into_iter().for_each(|it| effect.see(lines.line(it), it, text, old, new));
+    effect
+}
+
 /// The bytes of a line with the new word for each old one.
 fn renamed(line: &Line, text: &[u8], old: &[u8], new: &[u8], bytes: &mut Vec<u8>) {
-    let (raw, joined) = (line.raw(text), line.joined(text));
-    let mut done = 0;
+    let (raw, mut done) = (line.raw(text), 0);
     bytes.clear();
-    let (parts, is_tidy) = parts(line.class);
-    for (start, end) in parts {
-        for (offset, _) in words_of_part(joined, start, end, is_tidy).filter(|(_, it)| *it == old) {
+    each_word(line, text, |offset, word| {
+        if word == old {
             let at = line.raw_offset(offset);
             bytes.extend_from_slice(&raw[done..at]);
             bytes.extend_from_slice(new);
             done = at + old.len();
         }
-    }
+    });
     bytes.extend_from_slice(&raw[done..]);
 }
 
@@ -77,11 +107,7 @@ pub fn rename(document: &mut Document, old: &[u8], new: &[u8], bytes: &mut Vec<u
     // a word over folds has other bytes in the line
     test(!old.contains(&b' ') && old != new, Refusal::NotHere)?;
     test(!document.end.sets_prefix, Refusal::RecipePrefix)?;
-    let (mut effect, mut at) = (Effect::default(), 0);
-    document.lines.walk(&mut |line| {
-        effect.see(line, at, &document.text, old, new);
-        at += 1;
-    });
+    let effect = effect(document, old, new);
     test(effect.is_there, Refusal::NoSuch)?;
     test(!effect.is_taken, Refusal::Taken)?;
     let size = document.size + effect.words * new.len() - effect.words * old.len();
@@ -94,6 +120,9 @@ pub fn rename(document: &mut Document, old: &[u8], new: &[u8], bytes: &mut Vec<u
     };
     document.lines.exchange_each(0, &effect.indices, &mut make, &mut kept);
     document.size = size;
+    if let Some(index) = &mut document.words {
+        effect.indices.iter().for_each(|it| index.table.put_in(new, *it));
+    }
     document.keep(Inverse::ExchangeEach(kept));
     Ok(())
 }

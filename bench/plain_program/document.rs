@@ -1,8 +1,8 @@
 //! The lines of a text, in a linked list, and what takes edits back.
 
-use crate::index::Index;
 use crate::lines::Lines;
 use crate::parts::{Class, class_of, words_of_rule};
+use crate::table::Table;
 use std::io::{self, BufWriter, Write};
 use std::mem;
 
@@ -38,9 +38,9 @@ pub struct Document {
     /// The first one is none: it stands before the first line and after the last.
     lines: Vec<Line>,
     wanted: Wanted,
-    pub variables: Index,
+    pub variables: Table,
     /// By targets, and where that is wanted by prerequisites too.
-    pub rules: Index,
+    pub rules: Table,
     /// What each edit has changed. The last one may still be at work.
     done: Vec<Vec<Change>>,
     undone: Vec<Vec<Change>>,
@@ -52,8 +52,8 @@ impl Document {
         let mut document = Document {
             text: Vec::new(),
             lines: Vec::with_capacity(text.len() / 32),
-            variables: Index::new(size_if(wanted.variables)),
-            rules: Index::new(size_if(wanted.targets || wanted.words)),
+            variables: Table::new(size_if(wanted.variables)),
+            rules: Table::new(size_if(wanted.targets || wanted.words)),
             wanted,
             done: Vec::new(),
             undone: Vec::new(),

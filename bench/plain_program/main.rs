@@ -20,12 +20,13 @@
 mod bytes;
 mod document;
 mod edits;
-mod index;
 #[path = "../floor_program/lines.rs"]
 #[allow(dead_code, reason = "folds are not looked at here")]
 mod lines;
 mod parts;
 mod script;
+#[path = "../floor_program/table.rs"]
+mod table;
 
 use document::Document;
 use std::fs::File;
