@@ -1,6 +1,6 @@
 -- How a run ends, by the step at which it ends.
-use Rattle.std.proofs.Common.{◌≡◌, refl, sym, ap, subst, ◌∙◌, arith, ℕ, suc, zero, Bool, true, false, List, [], Option, Some, None, inl, inr}
-use Rattle.std.specs.Prelude.{◌↔◌, IfSome}
+use Rattle.std.proofs.Common.{◌≡◌, refl, sym, ap, subst, ◌∙◌, arith, ℕ, suc, zero, Bool, true, false, List, [], Option, Some, None, inl, inr, rules}
+use Rattle.std.specs.Prelude.{◌↔◌, ◌||◌, IfSome, IsTrue}
 use Rattle.std.specs.Io.KnownBytes.{Appends}
 use Rattle.std.proofs.KnownBytes.{Appends-nil, Keeps-refl}
 use Rattle.mk_history.specs.Shown.{Shown, shown_opened}
@@ -258,6 +258,19 @@ stopped-reached k steps first last failed report BadDepth stops = absurd stops
 stopped-reached k steps first last failed report TooLong stops = absurd stops
 stopped-reached k steps first last failed report TooDeep stops = absurd stops
 stopped-reached k steps first last failed report Read stops = absurd stops
+
+-- the steps stopped for a write where the sink of the report failed, and only there
+pub stopped-writes : (k : Bool) (steps : List Step) (first last : Shown (List ℕ)) (failed : Bool) (report : Written) (outcome : o.Outcome) (out : Bool) → out ≡ false → StopsSteps k steps first last failed report outcome
+    → (outcome ≡ Write → IsTrue (out || failed)) × (IsTrue (out || failed) → outcome ≡ Write)
+stopped-writes k steps first last failed report (Refused n) out off (works, are) = rw (off, works) ((λ e. absurd (cc)), (λ t. absurd (let h = t in cc)))
+stopped-writes k steps first last failed report NoMemory out off (works, left) = rw (off, works) ((λ e. absurd (cc)), (λ t. absurd (let h = t in cc)))
+stopped-writes k steps first last failed report Write out off (fails, cut, left) = rw (off, fails) ((λ e. search rules), (λ t. refl))
+stopped-writes k steps first last failed report Done out off stops = absurd stops
+stopped-writes k steps first last failed report (NotACommand line) out off stops = absurd stops
+stopped-writes k steps first last failed report BadDepth out off stops = absurd stops
+stopped-writes k steps first last failed report TooLong out off stops = absurd stops
+stopped-writes k steps first last failed report TooDeep out off stops = absurd stops
+stopped-writes k steps first last failed report Read out off stops = absurd stops
 
 -- where the steps were reached, no outcome comes at which none can have been
 pub reached-other : (outcome other : o.Outcome) → may_report outcome ≡ true → may_report other ≡ false → outcome ≡ other → ⊥

@@ -4,7 +4,7 @@ use Rattle.mk_run.specs.Outcome.{is_printed, outcome_of}
 use Rattle.mk_run.specs.RunEnds.{written}
 use Rattle.mk_run.specs.RunSteps.{EndsSteps}
 use Rattle.mk_run.specs.declared.outcome.Outcome.{Outcome}
-use Rattle.mk_run.proofs.on_runs.RunLemmas.{stopped-ends, stopped-reached, done-ends, refused-ends, cut-ends, printed-refused}
+use Rattle.mk_run.proofs.on_runs.RunLemmas.{stopped-ends, stopped-reached, stopped-writes, done-ends, refused-ends, cut-ends, printed-refused}
 use Rattle.mk_run.proofs.engine.obey_and_put_out.Goals as goal
 
 pub returns-in-Err-clause-ends : goal.returns-in-Err-clause-ends
@@ -14,6 +14,10 @@ returns-in-Err-clause-ends g c =
 pub returns-in-Err-clause-reached : goal.returns-in-Err-clause-reached
 returns-in-Err-clause-reached g c =
     (stopped-reached c.args.keep_going (map step_of c.args.steps.now) c.args.session.now.shown c.obey_all.new.session.shown _ _ c.in-Err.early c.in-Err.ensures.stops).0
+
+pub returns-in-Err-clause-write : goal.returns-in-Err-clause-write
+returns-in-Err-clause-write g c =
+    stopped-writes c.args.keep_going (map step_of c.args.steps.now) c.args.session.now.shown c.obey_all.new.session.shown _ _ c.in-Err.early _ c.requires.out_works c.in-Err.ensures.stops
 
 pub returns-in-Err-clause-out : goal.returns-in-Err-clause-out
 returns-in-Err-clause-out g c =
