@@ -256,6 +256,19 @@ def makefile(source):
     return Writer(source).text()
 
 
+def recipes_by_target(text, lines):
+    """The texts of the recipe lines of each target, but of those that end in a backslash."""
+    found, targets, physical = {}, (), text.split(b"\n")
+    for it in lines:
+        if it.kind == "Header":
+            targets = it.parts[0]
+        elif it.kind == "Recipe":
+            command = physical[it.number - 1][1:].rstrip(b"\r")
+            for target in targets if command[-1:] != b"\\" else ():
+                found.setdefault(target, []).append(command)
+    return found
+
+
 class Editor:
     """Draws edits for a makefile."""
 
@@ -266,6 +279,7 @@ class Editor:
         lines, _ = reading.read(text)
         self.names = [it.parts[1] for it in lines if it.kind == "Assign"]
         self.rules = [it.parts for it in lines if it.kind == "Header"]
+        self.recipes = recipes_by_target(text, lines)
 
     def edits(self):
         """One edit of each kind, in a random order."""
@@ -329,6 +343,13 @@ class Editor:
         target = self.target()
         return target and (target, *(it(target) for it in rest))
 
+    def for_recipe_line(self, *rest):
+        """A target with the text of a line of its recipe."""
+        if not self.recipes:
+            return None
+        target = self.one(list(self.recipes))
+        return (target, self.one(self.recipes[target]), *(it(target) for it in rest))
+
     def assign(self):
         name = self.one(VARIABLES)
         operator = self.one([b"=", b":=", b"::=", b"?=", b"+="])
@@ -362,7 +383,7 @@ FIELDS = {
     "recipe-set": lambda it: it.for_target(it.number, lambda _: it.command()),
     "recipe-del": lambda it: it.for_target(it.number),
     "recipe-insert": lambda it: it.for_target(it.number, lambda _: it.command()),
-    "recipe-replace": lambda it: it.for_target(lambda _: it.command(), lambda _: it.command()),
-    "recipe-remove": lambda it: it.for_target(lambda _: it.command()),
+    "recipe-replace": lambda it: it.for_recipe_line(lambda _: it.command()),
+    "recipe-remove": lambda it: it.for_recipe_line(),
     "rename": Editor.rename,
 }
