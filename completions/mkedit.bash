@@ -19,7 +19,7 @@ _mkedit_refusals="BadArgument Reserved RecipePrefix NoSuch Ambiguous Absent Alre
 
 _mkedit() {
     local word=${COMP_WORDS[COMP_CWORD]} before=${COMP_WORDS[COMP_CWORD - 1]}
-    local command= commands="edit vars rules check caveats explain help"
+    local command= commands="edit vars rules recipes check caveats explain help"
     ((COMP_CWORD > 1)) && command=${COMP_WORDS[1]}
     COMPREPLY=()
     if [[ $command == edit && $before == @(-d|--depth|-e|--expression|--backup) ]]; then

@@ -8,6 +8,7 @@ complete -c mkedit -n __fish_use_subcommand -s V -l version -d 'Print version'
 complete -c mkedit -n __fish_use_subcommand -a edit -d 'Runs a script of edits over a makefile, and prints the text'
 complete -c mkedit -n __fish_use_subcommand -a vars -d 'Lists the assignments of a makefile'
 complete -c mkedit -n __fish_use_subcommand -a rules -d 'Lists the rules of a makefile'
+complete -c mkedit -n __fish_use_subcommand -a recipes -d 'Lists the recipe lines of a makefile with their numbers'
 complete -c mkedit -n __fish_use_subcommand -a check -d 'Lists the lines of a makefile that are kept and not read inside'
 complete -c mkedit -n __fish_use_subcommand -a caveats -d 'Lists the lines of a makefile that make may read otherwise'
 complete -c mkedit -n __fish_use_subcommand -a explain -d 'Says why a command is refused, and what to do then'
@@ -20,8 +21,8 @@ complete -c mkedit -n '__fish_seen_subcommand_from edit' -s i -l in-place -d 'FI
 complete -c mkedit -n '__fish_seen_subcommand_from edit' -l backup -x -d 'With -i, keeps the old file under FILE with this suffix at its end'
 complete -c mkedit -n '__fish_seen_subcommand_from edit' -s e -l expression -x -d 'A line of a script, in place of SCRIPT; several -e are its lines'
 
-complete -c mkedit -n '__fish_seen_subcommand_from edit vars rules check caveats; and not __fish_seen_subcommand_from help' -F
-complete -c mkedit -n '__fish_seen_subcommand_from help' -a 'edit vars rules check caveats explain help'
+complete -c mkedit -n '__fish_seen_subcommand_from edit vars rules recipes check caveats; and not __fish_seen_subcommand_from help' -F
+complete -c mkedit -n '__fish_seen_subcommand_from help' -a 'edit vars rules recipes check caveats explain help'
 # made by tools/texts: refusals
 set -l refusals BadArgument Reserved RecipePrefix NoSuch Ambiguous Absent Already Taken SharedRule Straddles OpenValue OpenLine OpenDefine Leans TooLong NothingToUndo NothingToRedo GroupOpen NoGroup NoMemory
 # made until here

@@ -8,6 +8,7 @@ _mkedit_commands() {
         'edit:Runs a script of edits over a makefile, and prints the text'
         'vars:Lists the assignments of a makefile'
         'rules:Lists the rules of a makefile'
+        'recipes:Lists the recipe lines of a makefile with their numbers'
         'check:Lists the lines of a makefile that are kept and not read inside'
         'caveats:Lists the lines of a makefile that make may read otherwise'
         'explain:Says why a command is refused, and what to do then'
@@ -65,7 +66,7 @@ _mkedit() {
     [[ $state == argument ]] || return
     case $line[1] in
         edit) _mkedit_edit ;;
-        vars | rules | check | caveats) _mkedit_query ;;
+        vars | rules | recipes | check | caveats) _mkedit_query ;;
         explain) _mkedit_explain ;;
         help) _arguments '1:command:_mkedit_commands' ;;
     esac

@@ -16,6 +16,7 @@ CALLS = (
     "mk_script::parse_script",
     "mk_queries::vars",
     "mk_queries::rules",
+    "mk_queries::recipes",
     "mk_queries::check",
     "mk_queries::caveats",
     "mk_edit::plan",

@@ -183,7 +183,7 @@ def made(table):
 
 
 # What the two kinds of files import beside what both need.
-TEXTS = ("Rattle.mk_queries.specs.Queries.{vars_text, rules_text, check_text}", "Rattle.mk_queries.specs.Caveats.{caveats_text}")
+TEXTS = ("Rattle.mk_queries.specs.Queries.{vars_text, rules_text, recipes_text, check_text}", "Rattle.mk_queries.specs.Caveats.{caveats_text}")
 ANSWERS = ("Rattle.mk_rows.proofs.queries.Answers.{Answers, answers}",)
 
 

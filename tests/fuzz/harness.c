@@ -198,7 +198,7 @@ static void edit_and_undo(text script, text makefile, options said) {
 }
 
 static void ask(text makefile) {
-    static const char *queries[] = {"vars", "rules", "check", "caveats"};
+    static const char *queries[] = {"vars", "rules", "recipes", "check", "caveats"};
     fill(makefile_file.number, makefile);
     for (size_t at = 0; at < sizeof queries / sizeof *queries; at++) {
         const char *line[] = {"mkedit", queries[at], makefile_file.name};

@@ -7,7 +7,7 @@ the hostile part: that part stays as it is, and the block becomes what docs/EDIT
 
 from typing import NamedTuple
 
-QUERIES = ("vars", "rules", "check", "caveats")
+QUERIES = ("vars", "rules", "recipes", "check", "caveats")
 
 BLOCK = b"LAST = one # c\nlast: a b\n\tfirst\n\tsecond\nEND = 1\n"
 BLOCK_LINES = BLOCK.count(b"\n")
@@ -15,6 +15,7 @@ BLOCK_LINES = BLOCK.count(b"\n")
 BLOCK_ANSWERS = {
     "vars": ((1, b":0: LAST = one\n"), (5, b":0: END = 1\n")),
     "rules": ((2, b":0: last: a b [2]\n"),),
+    "recipes": ((3, b":0: last [1] first\n"), (4, b":0: last [2] second\n")),
     "check": (),
     "caveats": (),
 }

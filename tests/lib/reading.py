@@ -382,7 +382,7 @@ def spaced(before_it, of):
 
 
 def place(line):
-    """The beginning of a line of `vars` or `rules`."""
+    """The beginning of a line of `vars`, `rules` or `recipes`."""
     return b"%d:%d: " % (line.number, line.context.conditionals)
 
 
@@ -422,6 +422,22 @@ def rules_text(text):
         out += b"" if pattern is None else b" " + pattern + b":"
         out += spaced(b" ", normal) + (b" |" + spaced(b" ", order) if order else b"")
         out += b" [%d]\n" % (recipe_lines(lines[at + 1 :]) + (inline is not None))
+    return out
+
+
+def recipes_text(text):
+    """What `mkedit recipes` prints."""
+    lines, out = read(text)[0], b""
+    for at, line in enumerate(lines):
+        if line.kind != "Header":
+            continue
+        number = 0
+        for below in lines[at + 1 :]:
+            if below.context.flag != "Rule" or below.kind in ("Header", "Rough"):
+                break
+            if below.kind == "Recipe":
+                number += 1
+                out += place(below) + b" ".join(line.parts[0]) + b" [%d] " % number + joined(below.parts[0])[0] + b"\n"
     return out
 
 
@@ -506,4 +522,4 @@ def caveats_text(text):
     return out
 
 
-QUERIES = {"vars": vars_text, "rules": rules_text, "check": check_text, "caveats": caveats_text}
+QUERIES = {"vars": vars_text, "rules": rules_text, "recipes": recipes_text, "check": check_text, "caveats": caveats_text}

@@ -45,6 +45,9 @@ class Queries(RoomCase):
     def test_rules(self):
         self.assert_answers("rules")
 
+    def test_recipes(self):
+        self.assert_answers("recipes")
+
     def test_check(self):
         self.assert_answers("check")
 

@@ -7,7 +7,7 @@ use Rattle.clap.specs.Simple.{new_shape}
 use Rattle.clap.specs.declared.builder.action.ArgAction.TheVariants.{Append, SetTrue}
 use Rattle.clap.specs.declared.builder.value_parser.ValueParser.TheVariants.{Unsigned}
 use Rattle.mk_command_line.specs.declared.request.TheConstants.{MAX_DEPTH}
-use Rattle.mk_command_line.specs.declared.request.Query.TheVariants.{Vars, Rules, Check, Caveats}
+use Rattle.mk_command_line.specs.declared.request.Query.TheVariants.{Vars, Rules, Recipes, Check, Caveats}
 use Rattle.mk_command_line.specs.declared.command_name.CommandName.{CommandName}
 use Rattle.mk_command_line.specs.declared.command_name.CommandName.TheVariants.{Edit, Query, Explain}
 
@@ -16,13 +16,15 @@ abbrev pub word_of : CommandName → Text
 word_of Edit = codes "edit"
 word_of (Query Vars) = codes "vars"
 word_of (Query Rules) = codes "rules"
+word_of (Query Recipes) = codes "recipes"
 word_of (Query Check) = codes "check"
 word_of (Query Caveats) = codes "caveats"
 word_of Explain = codes "explain"
 
 -- all commands
 abbrev pub commands : List CommandName
-commands = Edit ∷ Query Vars ∷ Query Rules ∷ Query Check ∷ Query Caveats ∷ Explain ∷ []
+commands =
+    Edit ∷ Query Vars ∷ Query Rules ∷ Query Recipes ∷ Query Check ∷ Query Caveats ∷ Explain ∷ []
 
 -- the command that a word names
 abbrev pub command_named : Text → Option CommandName

@@ -16,10 +16,11 @@ pub(crate) enum CommandName {
 }
 
 /// All commands, in the order in which the help lists them.
-pub(crate) const COMMANDS: [CommandName; 6] = [
+pub(crate) const COMMANDS: [CommandName; 7] = [
     CommandName::Edit,
     CommandName::Query(Query::Vars),
     CommandName::Query(Query::Rules),
+    CommandName::Query(Query::Recipes),
     CommandName::Query(Query::Check),
     CommandName::Query(Query::Caveats),
     CommandName::Explain,
@@ -30,6 +31,8 @@ const EDIT: &str = "edit";
 const VARS: &str = "vars";
 
 const RULES: &str = "rules";
+
+const RECIPES: &str = "recipes";
 
 const CHECK: &str = "check";
 
@@ -46,6 +49,7 @@ impl CommandName {
             CommandName::Edit => EDIT,
             CommandName::Query(Query::Vars) => VARS,
             CommandName::Query(Query::Rules) => RULES,
+            CommandName::Query(Query::Recipes) => RECIPES,
             CommandName::Query(Query::Check) => CHECK,
             CommandName::Query(Query::Caveats) => CAVEATS,
             CommandName::Explain => EXPLAIN,
@@ -63,6 +67,8 @@ pub(crate) fn command_named(word: &str) -> Option<CommandName>
         Some(CommandName::Query(Query::Vars))
     } else if word == RULES {
         Some(CommandName::Query(Query::Rules))
+    } else if word == RECIPES {
+        Some(CommandName::Query(Query::Recipes))
     } else if word == CHECK {
         Some(CommandName::Query(Query::Check))
     } else if word == CAVEATS {

@@ -80,6 +80,23 @@ prints
     3:0: %.o: %.c [0]
 ";
 
+// What `recipes` does, in a line.
+const ABOUT_RECIPES: &str = "Lists the recipe lines of a makefile with their numbers";
+
+// Below the help of `recipes`.
+const RECIPES: &str = "\
+A line for each recipe line below a rule: the number of its line, how many conditionals are open there,
+the targets of the rule, the number of the recipe line in the rule, which `recipe-set`, `recipe-del` and
+`recipe-insert` take, and the command with its folds joined. The command behind a `;` in the line of a
+rule has no such number, and is not listed.
+
+Example: with `all: main.o ; ld main.o`, two recipe lines `strip all` and `ls -l` below it in a Makefile,
+    mkedit recipes Makefile
+prints
+    2:0: all [1] strip all
+    3:0: all [2] ls -l
+";
+
 // What `check` does, in a line.
 const ABOUT_CHECK: &str = "Lists the lines of a makefile that are kept and not read inside";
 
@@ -135,6 +152,7 @@ pub(crate) fn about<'a>(name: CommandName) -> &'a str {
         CommandName::Edit => ABOUT_EDIT,
         CommandName::Query(Query::Vars) => ABOUT_VARS,
         CommandName::Query(Query::Rules) => ABOUT_RULES,
+        CommandName::Query(Query::Recipes) => ABOUT_RECIPES,
         CommandName::Query(Query::Check) => ABOUT_CHECK,
         CommandName::Query(Query::Caveats) => ABOUT_CAVEATS,
         CommandName::Explain => ABOUT_EXPLAIN,
@@ -147,6 +165,7 @@ pub(crate) fn example<'a>(name: CommandName) -> &'a str {
         CommandName::Edit => EDIT,
         CommandName::Query(Query::Vars) => VARS,
         CommandName::Query(Query::Rules) => RULES,
+        CommandName::Query(Query::Recipes) => RECIPES,
         CommandName::Query(Query::Check) => CHECK,
         CommandName::Query(Query::Caveats) => CAVEATS,
         CommandName::Explain => EXPLAIN,

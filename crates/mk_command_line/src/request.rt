@@ -10,6 +10,8 @@ pub enum Query {
     Vars,
     /// Its rules.
     Rules,
+    /// The recipe lines of its rules.
+    Recipes,
     /// The lines that are kept and not read inside.
     Check,
     /// The lines that make may read otherwise.

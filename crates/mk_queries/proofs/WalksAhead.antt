@@ -6,6 +6,7 @@ use Rattle.mk_queries.specs.declared.seen.Seen.{Seen}
 use Rattle.mk_queries.specs.Caveats.{caveat_of, caveat_text}
 use Rattle.mk_queries.specs.LocatedTexts.{variable_located, count_located, rule_located, counted_after}
 use Rattle.mk_queries.specs.QueryWalks.{line_feeds, seen_after, unread_located}
+use Rattle.mk_queries.specs.RecipeWalks.{recipe_located, targets_after, passed_after}
 
 -- what is said of some lines, the first of which has this number and stands in this context: of
 -- each line, with its own number and context
@@ -33,6 +34,17 @@ rules_ahead n c o (l ∷ ls) =
     rule_located n c.conditionals o (text_of_line l) l.class
     ++ rules_ahead (n + line_feeds l.bytes) (context_after_located c l.class)
     (counted_after o l.class) ls
+
+-- what is said of some lines, the first of which has this number and stands in this context;
+-- `targets` are those of the last header above them, of which `passed` recipe lines were passed, if
+-- its rule is not yet ended
+abbrev pub recipes_ahead : (number : ℕ) → Context → (targets : List ℕ) → (passed : Option ℕ)
+    → List LocatedLine → List ℕ
+recipes_ahead n c g o [] = []
+recipes_ahead n c g o (l ∷ ls) =
+    recipe_located n c.conditionals g o (text_of_line l) l.class
+    ++ recipes_ahead (n + line_feeds l.bytes) (context_after_located c l.class)
+    (targets_after g (text_of_line l) l.class) (passed_after o l.class) ls
 
 -- what is said of some lines, the first of which has this number and stands in this context, below
 -- lines that leave these flags

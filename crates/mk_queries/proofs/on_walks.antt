@@ -3,4 +3,5 @@ pub mod SaidLemmas
 pub mod UnreadLemmas
 pub mod VariableLemmas
 pub mod RuleLemmas
+pub mod RecipeLemmas
 pub mod CaveatLemmas

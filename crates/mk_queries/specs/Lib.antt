@@ -11,3 +11,4 @@ pub mod Caveats
 -- What the code says of lines, and its walks
 pub mod LocatedTexts
 pub mod QueryWalks
+pub mod RecipeWalks

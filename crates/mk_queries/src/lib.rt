@@ -2,6 +2,7 @@
 //!
 //! - [`vars`]: a line of text on each assignment.
 //! - [`rules`]: a line of text on each rule.
+//! - [`recipes`]: a line of text on each recipe line below a header.
 //! - [`check`]: a line of text on each line that is not read inside, and what is open at the end.
 //! - [`caveats`]: a line of text on each line that make may read otherwise, as far as the lines
 //!   show it.
@@ -18,7 +19,7 @@
 //! - `make_word`: the first word of a line, as make finds it.
 //! - `seen`: what the lines above tell of rules, where make passes some of them.
 //! - `caveat`: what make may read in a line otherwise.
-//! - `query`: the four queries, each in the module of its name.
+//! - `query`: the five queries, each in the module of its name.
 #![tactic(auto)]
 
 mod caveat;
@@ -32,5 +33,6 @@ mod targets;
 
 pub use query::caveats::caveats;
 pub use query::check::check;
+pub use query::recipes::recipes;
 pub use query::rules::rules;
 pub use query::vars::vars;

@@ -1,6 +1,7 @@
-//! The four queries, each in the module of its name.
+//! The five queries, each in the module of its name.
 
 pub(crate) mod caveats;
 pub(crate) mod check;
+pub(crate) mod recipes;
 pub(crate) mod rules;
 pub(crate) mod vars;

@@ -4,7 +4,7 @@ ghost use Rattle.std.specs.Prelude.{◌≡◌, false};
 ghost use Rattle.mk_tree.specs.Documents.{IsFaithful};
 
 use mk_lines::{ByteSink, Fault};
-use mk_queries::{caveats, check, rules, vars};
+use mk_queries::{caveats, check, recipes, rules, vars};
 use mk_tree::Doc;
 use std::alloc::Allocator;
 
@@ -13,6 +13,7 @@ use std::alloc::Allocator;
 pub enum Query {
     Vars,
     Rules,
+    Recipes,
     Check,
     Caveats,
 }
@@ -26,6 +27,7 @@ impl Query {
         match self {
             Query::Vars => vars(doc, out),
             Query::Rules => rules(doc, out),
+            Query::Recipes => recipes(doc, out),
             Query::Check => check(doc, out),
             Query::Caveats => caveats(doc, out),
         }
@@ -39,7 +41,7 @@ pub struct Row {
     pub text: &'static [u8],
 }
 
-pub static ROWS: [Row; 41] = [
+pub static ROWS: [Row; 46] = [
     // vars of an empty file
     Row {
         query: Query::Vars,
@@ -225,6 +227,36 @@ pub static ROWS: [Row; 41] = [
         query: Query::Rules,
         makefile: b"a b:c:\n",
         text: b"1:0: a b: c: [0]\n",
+    },
+    // recipes by their numbers
+    Row {
+        query: Query::Recipes,
+        makefile: b"a b: c ; x\n\ty\n\n# d\n\tz \\\n\tw\n",
+        text: b"2:0: a b [1] y\n5:0: a b [2] z w\n",
+    },
+    // recipes among conditionals
+    Row {
+        query: Query::Recipes,
+        makefile: b"a:\n\tx\nifdef B\n\ty\nelse\n\tz\nendif\n\tw\n",
+        text: b"2:0: a [1] x\n4:1: a [2] y\n6:1: a [3] z\n8:0: a [4] w\n",
+    },
+    // recipes of one rule after the other
+    Row {
+        query: Query::Recipes,
+        makefile: b"a:\n\tx\nb::\n\ty\nX = 1\n\tZ = 2\nc:\n",
+        text: b"2:0: a [1] x\n4:0: b [1] y\n",
+    },
+    // recipes below a rough line have no number
+    Row {
+        query: Query::Recipes,
+        makefile: b"a:\n\tx\n| b: c\n\ty\n",
+        text: b"2:0: a [1] x\n",
+    },
+    // recipes with another prefix
+    Row {
+        query: Query::Recipes,
+        makefile: b".RECIPEPREFIX = >\n%.o: %.c\n> cc $<\n>\n",
+        text: b"3:0: %.o [1]  cc $<\n4:0: %.o [2] \n",
     },
     // check counts both that are open
     Row {

@@ -1,16 +1,17 @@
 -- What a query prints of the text of a makefile, and how it ends where nobody reads on.
 -- Told in docs/EDITS.md, "Queries".
 use Rattle.std.specs.Prelude.{ℕ, List, Bool, true}
-use Rattle.mk_queries.specs.Queries.{vars_text, rules_text, check_text}
+use Rattle.mk_queries.specs.Queries.{vars_text, rules_text, recipes_text, check_text}
 use Rattle.mk_queries.specs.Caveats.{caveats_text}
 use Rattle.mk_run.specs.declared.outcome.Outcome.{Outcome}
 use Rattle.mk_run.specs.declared.outcome.Outcome.TheVariants.{Done, Write}
 use Rattle.mk_command_line.specs.declared.request.Query.{Query}
-use Rattle.mk_command_line.specs.declared.request.Query.TheVariants.{Vars, Rules, Check, Caveats}
+use Rattle.mk_command_line.specs.declared.request.Query.TheVariants.{Vars, Rules, Recipes, Check, Caveats}
 
 abbrev pub query_text : Query → List ℕ → List ℕ
 query_text Vars text = vars_text text
 query_text Rules text = rules_text text
+query_text Recipes text = recipes_text text
 query_text Check text = check_text text
 query_text Caveats text = caveats_text text
 

@@ -1,5 +1,5 @@
-//! `mkedit vars`, `mkedit rules`, `mkedit check` and `mkedit caveats`: what a makefile has, a line
-//! for each thing.
+//! `mkedit vars`, `mkedit rules`, `mkedit recipes`, `mkedit check` and `mkedit caveats`: what a
+//! makefile has, a line for each thing.
 ghost use Rattle.std.specs.Prelude.{◌≡◌, ◌↔◌, ◌<◌, ◌+◌, ◌||◌, ℕ, List, IsTrue, IfOk, IfErr, IfSome, OnOk, OnErr, false, true, length, is_ok};
 ghost use Rattle.std.specs.Io.KnownBytes.{Appends};
 ghost use Rattle.mk_lines.specs.Limits.{max_text};
@@ -14,7 +14,7 @@ use crate::noted::Noted;
 use mk_command_line::{Input, Query};
 use mk_lines::source::{BUFFER, MAX_TEXT, read_all};
 use mk_lines::{ByteSink, ByteSource, Fault, StdSink, StdSource};
-use mk_queries::{caveats, check, rules, vars};
+use mk_queries::{caveats, check, recipes, rules, vars};
 use mk_run::Outcome;
 use mk_session::Session;
 use mk_tree::Doc;
@@ -35,6 +35,7 @@ fn put_out<A: Allocator, W: ByteSink>(query: Query, doc: &Doc<A>, out: &mut W) -
     match query {
         Query::Vars => vars(doc, out)?,
         Query::Rules => rules(doc, out)?,
+        Query::Recipes => recipes(doc, out)?,
         Query::Check => check(doc, out)?,
         Query::Caveats => caveats(doc, out)?,
     }

@@ -26,6 +26,7 @@ use Rattle.mk_lines.specs.Spacing.{each_after_space}
 use Rattle.mk_queries.specs.PartTexts.{targets_text, pattern_text, order_only_text, inline_count}
 use Rattle.mk_queries.specs.ItemLines.{position_text}
 use Rattle.mk_queries.specs.LocatedTexts.{IsClassedIn, IsSpanWithin, IsHeaderWithin, pattern_span, header_located, count_located, rule_located}
+use Rattle.mk_queries.specs.RecipeWalks.{targets_after}
 use Rattle.mk_queries.proofs.on_parts.AssignmentPartLemmas.{words-part}
 
 span-within : (cs : List Cell) (s : Span) (before part : List (List Cell)) → IsPart cs s.start s.end before part → IsSpanWithin (length (joined_text cs)) s
@@ -70,6 +71,10 @@ header-seen c l x e =
     ∙ (ap (λ z. targets_text ts x.separator ++ (pattern_text z ++ (each_after_space normal ++ order_only_text order))) (words-part cs (pattern_span at).start (pattern_span at).end _ x.pattern s.pattern)
     ∙ (ap (λ z. targets_text ts x.separator ++ (pattern_text ps ++ (each_after_space z ++ order_only_text order))) (words-part cs at.normal_start at.normal_end _ x.normal s.normal)
     ∙ ap (λ z. targets_text ts x.separator ++ (pattern_text ps ++ (each_after_space ns ++ order_only_text z))) (words-part cs (order_only_span at).start (order_only_span at).end _ x.order_only s.order_only)))
+
+-- the targets of a header, as the walk over recipe lines has them
+pub targets-seen : (c : Context) (l : List ℕ) (x : Headers.Header Cell) → class_of c l ≡ Header x → (g : List ℕ) → words_in (targets_after g (joined_text (line_cells l)) (located_class joined_byte (Header x))) ≡ word_texts joined_byte x.targets
+targets-seen c l x e g = words-part (line_cells l) 0 (located_header joined_byte x).targets_end [] x.targets (header-located c l x e).targets
 
 -- an inline recipe counts as one line
 pub inline-counted : (x : Headers.Header Cell) → (if (located_header joined_byte x).has_recipe then 1 else 0) ≡ inline_count (raw_units (inline_recipe joined_byte x))

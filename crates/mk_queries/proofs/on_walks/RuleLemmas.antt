@@ -127,7 +127,7 @@ line-said n d c l Rough e o m rest below ih = ap (λ z. count_located o ++ z) (i
 -- ---- all lines
 
 -- a number is that of the first of some lines below others, where there is one
-abbrev IsNumberOfFirst : ℕ → (above ls : List ClassedLine) → Type 0
+abbrev pub IsNumberOfFirst : ℕ → (above ls : List ClassedLine) → Type 0
 IsNumberOfFirst n above [] = Unit {0}
 IsNumberOfFirst n above (l ∷ ls) = n ≡ number_below above
 
@@ -135,7 +135,7 @@ IsNumberOfFirst n above (l ∷ ls) = n ≡ number_below above
 abbrev say_rule : StandingLine → Item → List ℕ
 say_rule s = rule_line (line_number s) (depth s) (recipe_count s)
 
-next-number : (t : List ℕ) (above : List ClassedLine) (l : ClassedLine) (ls : List ClassedLine) (n : ℕ) → classed_lines t ≡ above ++ l ∷ ls → n ≡ number_below above → IsNumberOfFirst (n + line_feeds l.bytes) (above ++ l ∷ []) ls
+pub next-number : (t : List ℕ) (above : List ClassedLine) (l : ClassedLine) (ls : List ClassedLine) (n : ℕ) → classed_lines t ≡ above ++ l ∷ ls → n ≡ number_below above → IsNumberOfFirst (n + line_feeds l.bytes) (above ++ l ∷ []) ls
 next-number t above l [] n h k = tt
 next-number t above l (m ∷ ms) n h k = ap (λ z. z + line_feeds l.bytes) k ∙ sym (number-next t above l m ms h)
 
