@@ -1,5 +1,5 @@
 //! An index of a document: in which block of its lines each word stands.
-ghost use Rattle.std.specs.Prelude.{◌≡◌, ◌≤◌, ◌+◌, ◌-◌, ◌*◌, ◌/◌, ℕ, List, Option, Some, Bool, false, IsTrue, OnOk, IfOk, IfSome, length, take, drop};
+ghost use Rattle.std.specs.Prelude.{◌≡◌, [], ◌∷◌, ◌≤◌, ◌+◌, ◌-◌, ◌*◌, ◌/◌, ℕ, List, Option, Some, Bool, false, IsTrue, OnOk, IfOk, IfSome, length, take, drop};
 ghost use Rattle.mk_lines.specs.Limits.{max_text};
 ghost use Rattle.mk_class.specs.Contexts as contexts;
 ghost use Rattle.mk_class.specs.Contexts.{start};
@@ -192,17 +192,25 @@ impl<A: Allocator + Copy> Index<A> {
         self.chains.entries().saturating_sub(self.first_entries) >= MOST_STEPS
     }
 
-    /// Windows of the document, outside of which no line has a key of these hashes. `None` if too
-    /// many lines may have one, or if a growth was refused.
-    pub fn windows(&mut self, alloc: A, doc: &Doc<A>, hashes: &[u32]) -> Option<Vec<Window, A>>
+    /// Windows of the document, outside of which no line has a key of these two hashes, nor sets the
+    /// recipe prefix in a way that is not read. `None` if too many lines may do so, or if a growth was
+    /// refused.
+    pub fn windows(
+        &mut self,
+        alloc: A,
+        doc: &Doc<A>,
+        first: u32,
+        second: u32,
+    ) -> Option<Vec<Window, A>>
         requires faithful { IsFaithful doc.now }
         requires index { IsFreshIndexOf doc.now self.old }
-        ensures windows { (test : LocatedLine → Bool) → PassesByKeys self.old.scope test hashes.now
+        ensures windows { (test : LocatedLine → Bool)
+            → PassesByKeys self.old.scope test (0 ∷ first ∷ second ∷ [])
             → IfSome result (λ windows. AreWindows test first_place doc.now windows.items) }
         ensures same { self.new ≡ self.old }
     {
         let mut marks = self.take_marks(alloc).ok()?;
-        if !mark_all(&self.chains, hashes, &mut marks) {
+        if !mark_all(&self.chains, first, second, &mut marks) {
             return None;
         }
         let windows = self.marked_windows(alloc, doc, &marks).ok();
@@ -230,7 +238,7 @@ impl<A: Allocator + Copy> Index<A> {
         ensures known { IsKnownOf (address_seen address.entry) doc.now result }
         ensures same { self.new ≡ self.old }
     {
-        let windows = self.windows(alloc, doc, &[UNREAD, key_of(address)])?;
+        let windows = self.windows(alloc, doc, UNREAD, key_of(address))?;
         Some(seek_within(doc, &windows, address))
     }
 
@@ -251,7 +259,7 @@ impl<A: Allocator + Copy> Index<A> {
     {
         match self.scope {
             Scope::Names => None,
-            Scope::Words => self.windows(alloc, doc, &[UNREAD, hash_of(old), hash_of(new)]),
+            Scope::Words => self.windows(alloc, doc, hash_of(old), hash_of(new)),
         }
     }
 
@@ -334,18 +342,21 @@ fn key_of(address: Option<Address>) -> u32
     }
 }
 
-// Marks each block in which a key of one of some hashes stands. Whether it could: it gives up where
-// too many do.
-fn mark_all<A: Allocator + Copy>(chains: &Chains<A>, hashes: &[u32], marks: &mut Marks<A>) -> bool
+// Marks each block in which a key of one of two hashes stands, and each with an unread recipe prefix.
+// Whether it could: it gives up where too many do.
+fn mark_all<A: Allocator + Copy>(
+    chains: &Chains<A>,
+    first: u32,
+    second: u32,
+    marks: &mut Marks<A>,
+) -> bool
     ensures length { length marks.new ≡ length marks.old }
-    ensures marked { IsTrue result → AreMarked chains.now hashes.now marks.new }
+    ensures marked { IsTrue result → AreMarked chains.now (0 ∷ first ∷ second ∷ []) marks.new }
 {
-    'each: for hash in hashes {
-        if !chains.mark(*hash, marks) {
-            return false;
-        }
+    if !chains.mark(UNREAD, UNREAD, marks) {
+        return false;
     }
-    true
+    chains.mark(first, second, marks)
 }
 
 // Lists the keys of the lines of a patch that exchanges lines, from the top down, for lines of the same
