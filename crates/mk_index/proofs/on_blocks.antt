@@ -9,3 +9,4 @@ pub mod RefreshLemmas
 pub mod WindowLemmas
 pub mod MarkLemmas
 pub mod FollowedLemmas
+pub mod RisingLemmas

@@ -3,3 +3,4 @@ pub mod ChainLemmas
 pub mod WalkLemmas
 pub mod KeyLemmas
 pub mod ListedLemmas
+pub mod ButLemmas

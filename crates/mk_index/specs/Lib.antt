@@ -10,3 +10,5 @@ pub mod Effects
 -- # Vocabulary of private contracts
 -- How far a walk over the blocks has come
 pub mod Walks
+-- Lines that are exchanged for others of the same kind
+pub mod Exchanges

@@ -1,6 +1,8 @@
 //! The entries of an index, in chains: those of one bucket lead from the last to the first.
-ghost use Rattle.std.specs.Prelude.{◌≡◌, ◌<◌, ◌==◌, ◌-◌, if◌then◌else◌, ℕ, [], ◌∷◌, List, length, get_or, slice_get, None, true, false, IsTrue, IfOk, OnOk};
+ghost use Rattle.std.specs.Prelude.{◌≡◌, ◌<◌, ◌==◌, ◌-◌, if◌then◌else◌, ℕ, [], ◌∷◌, List, length, get_or, slice_get, Some, None, true, false, IsTrue, IfOk, OnOk};
 ghost use Rattle.mk_index.specs.Chains.{AreChainsOf, HaveListed, IsMentioned, Mention};
+ghost use Rattle.mk_index.specs.Indexes.{AreMarked};
+ghost use Rattle.mk_index.specs.declared.chains.Entry as entries;
 
 use crate::bucket::bucket_of;
 use crate::marks::Marks;
@@ -157,26 +159,46 @@ impl<A: Allocator + Copy> Chains<A> {
         self.entries.get(number as usize - 1).copied()
     }
 
-    /// Marks each block in which a word of this hash stands, where the block is among the marks, and
-    /// takes back no mark. False if the chain of the hash's bucket is too long: then some of these
-    /// blocks may lack their mark. Takes no memory.
-    pub fn mark(&self, hash: u32, marks: &mut Marks<A>) -> bool
+    /// Marks each block in which a word of one of two hashes stands, where the block is among the
+    /// marks, and takes back no mark. False if the chain of the bucket of one of them is too long: then
+    /// some of these blocks may lack their mark. The call goes back over both chains side by side, and so
+    /// waits for the memory of both at once. Takes no memory.
+    pub fn mark(&self, first: u32, second: u32, marks: &mut Marks<A>) -> bool
         ensures length { length marks.new ≡ length marks.old }
         ensures kept { (b : ℕ) → get_or marks.old b false ≡ true → get_or marks.new b false ≡ true }
-        ensures marked { (ms : List Mention) → AreChainsOf ms self.now → IsTrue result
-            → (b : ℕ) → IsMentioned ms hash b → b < length marks.old
-            → get_or marks.new b false ≡ true }
+        ensures marked { IsTrue result → AreMarked self.now (first ∷ second ∷ []) marks.new }
     {
-        let mut number = self.heads[bucket_of(hash, self.heads.len())];
+        let mut number = self.heads[bucket_of(first, self.heads.len())];
+        let mut other = self.heads[bucket_of(second, self.heads.len())];
         'entries: for _ in 0..MOST_STEPS {
-            let Some(entry) = self.entry(number) else {
+            if number == 0 && other == 0 {
                 return true;
-            };
-            if entry.hash == hash {
-                marks.mark(entry.block as usize);
             }
-            number = entry.before;
+            number = self.mark_entry(first, number, marks);
+            other = self.mark_entry(second, other, marks);
         }
-        number == 0
+        number == 0 && other == 0
+    }
+
+    // Marks the block of the entry of this number, from 1, if it is of this hash. The number of the entry
+    // before it in its bucket; 0 if there is none.
+    #[inline(always)]
+    fn mark_entry(&self, hash: u32, number: u32, marks: &mut Marks<A>) -> u32
+        ensures length { length marks.new ≡ length marks.old }
+        ensures kept { (b : ℕ) → get_or marks.old b false ≡ true → get_or marks.new b false ≡ true }
+        ensures none { (if number == 0 then None else slice_get self.now.entries (number - 1)) ≡ None
+            → result ≡ 0 }
+        ensures some { (entry : entries.Entry)
+            → (if number == 0 then None else slice_get self.now.entries (number - 1)) ≡ Some entry
+            → (result ≡ entry.before) × (entry.hash ≡ hash → entry.block < length marks.old
+            → get_or marks.new entry.block false ≡ true) }
+    {
+        let Some(entry) = self.entry(number) else {
+            return 0;
+        };
+        if entry.hash == hash {
+            marks.mark(entry.block as usize);
+        }
+        entry.before
     }
 }

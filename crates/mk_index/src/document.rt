@@ -101,7 +101,12 @@ impl<A: Allocator + Copy> IndexedDoc<A> {
                 self.finder.append(&self.doc, end);
                 back
             }
-            _ => self.make(patch),
+            _ => {
+                self.finder.follow_planned(&self.doc, &patch);
+                IndexedPatch {
+                    patch: patch.make(&mut self.doc),
+                }
+            }
         }
     }
 

@@ -220,6 +220,33 @@ impl<A: Allocator + Copy> Finder<A> {
         }
     }
 
+    /// Follows a patch of a planned edit, which is made of the document next, as [`Finder::follow`] does.
+    /// Where the patch only exchanges lines for others of the same kind, no block is stale then, and where
+    /// the document ends stays known. This takes memory; a growth that is refused drops the index.
+    pub fn follow_planned(&mut self, doc: &Doc<A>, patch: &Patch<A>)
+        requires faithful { IsFaithful doc.now }
+        requires faithful_after { IsFaithful (after_moves patch.now doc.now) }
+        requires fit { FitMoves patch.now doc.now }
+        requires right { IsKnownFor doc.now self.old }
+        ensures { IsKnownFor (after_moves patch.now doc.now) self.new }
+    {
+        let end = self.end.take();
+        let Some(mut index) = self.index.take() else {
+            return;
+        };
+        match index.keep(doc, patch) {
+            Ok(true) => {
+                self.index = Some(index);
+                self.end = end;
+            }
+            Ok(false) => {
+                self.index = Some(index);
+                self.follow(patch);
+            }
+            Err(_) => {}
+        }
+    }
+
     /// Where the document ends, if that is known. Takes no memory.
     pub fn end(&self) -> Option<End>
         ensures { result ≡ self.now.end }

@@ -6,6 +6,7 @@ ghost use Rattle.mk_patch.specs.Moves.{FitMoves, FitsMove, after_move, after_mov
 ghost use Rattle.mk_patch.specs.StepMoves.{move_of};
 ghost use Rattle.mk_index.specs.Blocks.{AreBlocks, lines_in};
 ghost use Rattle.mk_index.specs.Chains.{Mention};
+ghost use Rattle.mk_index.specs.Exchanges.{AreRising, IsHeld};
 ghost use Rattle.mk_index.specs.declared.keys.Scope.{Scope};
 
 use crate::blocks::{Block, Blocks};
@@ -144,4 +145,66 @@ fn last_line<A: Allocator + Copy>(blocks: &Blocks<A>) -> Option<usize>
         lines = lines.checked_add(blocks.group(group).lines)?;
     }
     lines.checked_sub(1)
+}
+
+/// Whether a patch exchanges lines and does nothing else, each line below the one before it.
+pub(crate) fn is_rising<A: Allocator>(patch: &Patch<A>) -> bool
+    ensures { IsTrue result → AreRising 0 patch.now }
+{
+    let mut from = 0;
+    'steps: for number in 0..patch.step_count() {
+        let Some(Step::Exchange(at, _)) = patch.step(number) else {
+            return false;
+        };
+        if *at < from {
+            return false;
+        }
+        let Some(next) = at.checked_add(1) else {
+            return false;
+        };
+        from = next;
+    }
+    true
+}
+
+/// The number of the block that has the line at an index; both count from 0. `None` if there is no such
+/// block.
+pub(crate) fn holder<A: Allocator + Copy>(blocks: &Blocks<A>, at: usize) -> Option<u32>
+    ensures { IfSome result (λ number. IsHeld blocks.now at number) }
+{
+    let mut passed = 0;
+    'groups: for group in 0..blocks.group_count() {
+        let lines = blocks.group(group).lines;
+        if at - passed < lines {
+            return holder_below(blocks, blocks.first_of(group), passed, at);
+        }
+        passed += lines;
+    }
+    None
+}
+
+// The same, where it is one of the blocks from a number, from 0, on. This many lines stand above that
+// block.
+fn holder_below<A: Allocator + Copy>(
+    blocks: &Blocks<A>,
+    first: usize,
+    above: usize,
+    at: usize,
+) -> Option<u32>
+    requires above { above ≡ lines_in (take first blocks.now) }
+    requires in_range { above ≤ at }
+    ensures { IfSome result (λ number. IsHeld blocks.now at number) }
+{
+    let mut passed = above;
+    'numbers: for number in first..blocks.len() {
+        let count = blocks.block(number).count as usize;
+        if at - passed < count {
+            let Ok(named) = u32::try_from(number) else {
+                return None;
+            };
+            return Some(named);
+        }
+        passed += count;
+    }
+    None
 }

@@ -1,5 +1,5 @@
 //! An index of a document: in which block of its lines each word stands.
-ghost use Rattle.std.specs.Prelude.{◌≡◌, ◌≤◌, ◌+◌, ◌-◌, ◌*◌, ◌/◌, ℕ, List, Option, Some, Bool, false, IsTrue, OnOk, IfOk, IfSome, length, take, drop};
+ghost use Rattle.std.specs.Prelude.{◌≡◌, [], ◌∷◌, ◌≤◌, ◌+◌, ◌-◌, ◌*◌, ◌/◌, ℕ, List, Option, Some, Bool, false, IsTrue, OnOk, IfOk, IfSome, length, take, drop};
 ghost use Rattle.mk_lines.specs.Limits.{max_text};
 ghost use Rattle.mk_class.specs.Contexts as contexts;
 ghost use Rattle.mk_class.specs.Contexts.{start};
@@ -13,6 +13,7 @@ ghost use Rattle.mk_patch.specs.Moves.{FitMoves, after_moves};
 ghost use Rattle.mk_index.specs.Blocks.{AreBlocks, AreLinesMentioned, HaveListedLines, IsCarried, IsExpected, PassesInMarked, blocks_of, lines_in};
 ghost use Rattle.mk_index.specs.Walks.{HasWindows, IsRefreshed};
 ghost use Rattle.mk_index.specs.Chains.{AreChainsOf, Mention};
+ghost use Rattle.mk_index.specs.Exchanges.{IsKept};
 ghost use Rattle.mk_index.specs.Keys.{IsKeyOf};
 ghost use Rattle.mk_index.specs.declared.keys.Scope as scopes;
 ghost use Rattle.mk_index.specs.Indexes.{AreMarked, IsFreshIndexOf, IsIndexOf, PassesByKeys};
@@ -20,14 +21,14 @@ ghost use Rattle.mk_index.specs.Indexes.{AreMarked, IsFreshIndexOf, IsIndexOf, P
 use crate::blocks::{Block, Blocks, Group};
 use crate::bucket::hash_of;
 use crate::chains::{Chains, MOST_STEPS};
-use crate::follow::follow_all;
-use crate::keys::{Scope, list_keys};
+use crate::follow::{follow_all, holder, is_rising};
+use crate::keys::{Scope, list_exchanged, list_keys};
 use crate::marks::Marks;
 use mk_class::Context;
 use mk_edit_parts::address::Address;
 use mk_edit_parts::seek::{Found, Sought, seek_within};
 use mk_edit_parts::window::Window;
-use mk_patch::Patch;
+use mk_patch::{Patch, Step};
 use mk_tree::Doc;
 use std::alloc::{AllocError, Allocator, Global};
 use std::marker::Model;
@@ -51,6 +52,8 @@ pub struct Index<A: Allocator = Global> {
     end: Context,
     // How many entries the chains had when all blocks were first made fresh; 0 before that.
     first_entries: usize,
+    // Marks for all blocks, none of which is marked; `None` before the first windows.
+    marks: Option<Marks<A>>,
 }
 
 impl<A: Allocator> Model for Index<A> {
@@ -74,6 +77,7 @@ impl<A: Allocator + Copy> Index<A> {
             blocks,
             end: Context::start(),
             first_entries: 0,
+            marks: None,
         })
     }
 
@@ -85,6 +89,21 @@ impl<A: Allocator + Copy> Index<A> {
             → IsTrue result → IsIndexOf (after_moves patch.now lines) self.new }
     {
         patch.step_count() <= MOST_FOLLOWED && follow_all(&mut self.blocks, patch)
+    }
+
+    /// Keeps the index right over a patch that exchanges lines, from the top down, for lines of the same
+    /// kind: lists the keys of the new lines with the blocks in which they stand. Whether it could; if
+    /// not, the index is still one of the document as it is. To be asked before the patch is made.
+    /// [`AllocError`] if a growth was refused: then the index is of no use any more.
+    pub fn keep(&mut self, doc: &Doc<A>, patch: &Patch<A>) -> Result<bool, AllocError>
+        requires faithful { IsFaithful doc.now }
+        requires faithful_after { IsFaithful (after_moves patch.now doc.now) }
+        requires fit { FitMoves patch.now doc.now }
+        requires index { IsIndexOf doc.now self.old }
+        ensures { IfOk result (λ kept.
+            IsKept doc.now (after_moves patch.now doc.now) kept self.new) }
+    {
+        list_steps(&mut self.chains, &self.blocks, self.scope, doc, patch)
     }
 
     /// Makes each stale block fresh: lists the keys of its lines, and mends the contexts after it.
@@ -173,49 +192,74 @@ impl<A: Allocator + Copy> Index<A> {
         self.chains.entries().saturating_sub(self.first_entries) >= MOST_STEPS
     }
 
-    /// Windows of the document, outside of which no line has a key of these hashes. `None` if too
-    /// many lines may have one, or if a growth was refused.
-    pub fn windows(&self, alloc: A, doc: &Doc<A>, hashes: &[u32]) -> Option<Vec<Window, A>>
+    /// Windows of the document, outside of which no line has a key of these two hashes, nor sets the
+    /// recipe prefix in a way that is not read. `None` if too many lines may do so, or if a growth was
+    /// refused.
+    pub fn windows(
+        &mut self,
+        alloc: A,
+        doc: &Doc<A>,
+        first: u32,
+        second: u32,
+    ) -> Option<Vec<Window, A>>
         requires faithful { IsFaithful doc.now }
-        requires index { IsFreshIndexOf doc.now self.now }
-        ensures { (test : LocatedLine → Bool) → PassesByKeys self.now.scope test hashes.now
+        requires index { IsFreshIndexOf doc.now self.old }
+        ensures windows { (test : LocatedLine → Bool)
+            → PassesByKeys self.old.scope test (0 ∷ first ∷ second ∷ [])
             → IfSome result (λ windows. AreWindows test first_place doc.now windows.items) }
+        ensures same { self.new ≡ self.old }
     {
-        let mut marks = Marks::new(alloc, self.blocks.len()).ok()?;
-        if !mark_all(&self.chains, hashes, &mut marks) {
+        let mut marks = self.take_marks(alloc).ok()?;
+        if !mark_all(&self.chains, first, second, &mut marks) {
             return None;
         }
-        self.marked_windows(alloc, doc, &marks).ok()
+        let windows = self.marked_windows(alloc, doc, &marks).ok();
+        marks.wipe();
+        self.marks = Some(marks);
+        windows
+    }
+
+    // Marks for all blocks: those of the last windows, or new ones.
+    fn take_marks(&mut self, alloc: A) -> Result<Marks<A>, AllocError>
+        ensures marks { IfOk result (λ marks. length marks ≡ length self.old.blocks) }
+        ensures same { self.new ≡ self.old }
+    {
+        match self.marks.take() {
+            Some(marks) if marks.len() == self.blocks.len() => Ok(marks),
+            _ => Marks::new(alloc, self.blocks.len()),
+        }
     }
 
     /// What the document has for an address, by the windows outside of which no line concerns it.
     /// `None` if these are unknown.
-    pub fn sought(&self, alloc: A, doc: &Doc<A>, address: Option<Address>) -> Option<Sought>
+    pub fn sought(&mut self, alloc: A, doc: &Doc<A>, address: Option<Address>) -> Option<Sought>
         requires faithful { IsFaithful doc.now }
-        requires index { IsFreshIndexOf doc.now self.now }
-        ensures { IsKnownOf (address_seen address.entry) doc.now result }
+        requires index { IsFreshIndexOf doc.now self.old }
+        ensures known { IsKnownOf (address_seen address.entry) doc.now result }
+        ensures same { self.new ≡ self.old }
     {
-        let windows = self.windows(alloc, doc, &[UNREAD, key_of(address)])?;
+        let windows = self.windows(alloc, doc, UNREAD, key_of(address))?;
         Some(seek_within(doc, &windows, address))
     }
 
     /// Windows of the document, outside of which no line concerns the rename of a word to another.
     /// `None` if these are unknown, as where the index lists no prerequisites.
     pub fn for_rename(
-        &self,
+        &mut self,
         alloc: A,
         doc: &Doc<A>,
         old: &[u8],
         new: &[u8],
     ) -> Option<Vec<Window, A>>
         requires faithful { IsFaithful doc.now }
-        requires index { IsFreshIndexOf doc.now self.now }
-        ensures { IfSome result (λ windows.
+        requires index { IsFreshIndexOf doc.now self.old }
+        ensures windows { IfSome result (λ windows.
             AreWindows (concerns_rename old.now new.now) first_place doc.now windows.items) }
+        ensures same { self.new ≡ self.old }
     {
         match self.scope {
             Scope::Names => None,
-            Scope::Words => self.windows(alloc, doc, &[UNREAD, hash_of(old), hash_of(new)]),
+            Scope::Words => self.windows(alloc, doc, hash_of(old), hash_of(new)),
         }
     }
 
@@ -298,18 +342,55 @@ fn key_of(address: Option<Address>) -> u32
     }
 }
 
-// Marks each block in which a key of one of some hashes stands. Whether it could: it gives up where
-// too many do.
-fn mark_all<A: Allocator + Copy>(chains: &Chains<A>, hashes: &[u32], marks: &mut Marks<A>) -> bool
+// Marks each block in which a key of one of two hashes stands, and each with an unread recipe prefix.
+// Whether it could: it gives up where too many do.
+fn mark_all<A: Allocator + Copy>(
+    chains: &Chains<A>,
+    first: u32,
+    second: u32,
+    marks: &mut Marks<A>,
+) -> bool
     ensures length { length marks.new ≡ length marks.old }
-    ensures marked { IsTrue result → AreMarked chains.now hashes.now marks.new }
+    ensures marked { IsTrue result → AreMarked chains.now (0 ∷ first ∷ second ∷ []) marks.new }
 {
-    'each: for hash in hashes {
-        if !chains.mark(*hash, marks) {
-            return false;
+    if !chains.mark(UNREAD, UNREAD, marks) {
+        return false;
+    }
+    chains.mark(first, second, marks)
+}
+
+// Lists the keys of the lines of a patch that exchanges lines, from the top down, for lines of the same
+// kind. Whether it is such a patch, and each line has its block.
+fn list_steps<A: Allocator + Copy>(
+    chains: &mut Chains<A>,
+    blocks: &Blocks<A>,
+    scope: Scope,
+    doc: &Doc<A>,
+    patch: &Patch<A>,
+) -> Result<bool, AllocError>
+    requires faithful { IsFaithful doc.now }
+    requires faithful_after { IsFaithful (after_moves patch.now doc.now) }
+    requires fit { FitMoves patch.now doc.now }
+    ensures { (ms : List Mention) (end : contexts.Context) → AreChainsOf ms chains.old
+        → AreBlocks scope ms 0 (Some start) doc.now blocks.now end → IfOk result (λ kept.
+        IsKept doc.now (after_moves patch.now doc.now) kept
+        (record { scope = scope; chains = chains.new; blocks = blocks.now; end = end })) }
+{
+    if patch.step_count() > MOST_FOLLOWED || !is_rising(patch) {
+        return Ok(false);
+    }
+    'steps: for number in 0..patch.step_count() {
+        let Some(Step::Exchange(at, line)) = patch.step(number) else {
+            return Ok(false);
+        };
+        let Some(block) = holder(blocks, *at) else {
+            return Ok(false);
+        };
+        if !list_exchanged(chains, scope, doc.line(*at), line, block)? {
+            return Ok(false);
         }
     }
-    true
+    Ok(true)
 }
 
 // A block with the context that is carried to it, if one is. It is stale if this is another one.

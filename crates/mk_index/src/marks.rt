@@ -34,6 +34,41 @@ impl<A: Allocator + Copy> Marks<A> {
         Ok(Marks { blocks, groups })
     }
 
+    /// How many blocks there are, marked or not.
+    pub fn len(&self) -> usize
+        ensures { result ≡ length self.now }
+    {
+        self.blocks.len()
+    }
+
+    /// Takes back all marks, in time by the number of groups that have one. Takes no memory.
+    pub fn wipe(&mut self)
+        ensures length { length self.new ≡ length self.old }
+        ensures none { (b : ℕ) → get_or self.new b false ≡ false }
+    {
+        'groups: for number in 0..self.groups.len() {
+            if self.groups[number] {
+                self.wipe_group(number);
+                self.groups[number] = false;
+            }
+        }
+    }
+
+    // Takes back the marks of the blocks of a group.
+    fn wipe_group(&mut self, number: usize)
+        requires { number ≤ length self.old / 128 }
+        ensures length { length self.new ≡ length self.old }
+        ensures kept { (b : ℕ) → get_or self.old b false ≡ false → get_or self.new b false ≡ false }
+        ensures none { (b : ℕ) → number * 128 ≤ b → b < number * 128 + 128
+            → get_or self.new b false ≡ false }
+    {
+        let count = self.blocks.len();
+        let first = number * GROUP;
+        'blocks: for block in first..count.min(first + GROUP) {
+            self.blocks[block] = false;
+        }
+    }
+
     /// Marks the block of a number, from 0, if there is one. Takes no memory.
     pub fn mark(&mut self, block: usize)
         ensures length { length self.new ≡ length self.old }

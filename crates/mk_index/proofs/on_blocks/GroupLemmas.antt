@@ -38,7 +38,7 @@ one-more bs first n b from few is =
     let here : b ≡ get_or (drop first bs) (n - first) b = is ∙ (ap (λ (i : ℕ). get_or bs i b) at ∙ sym (get_or-drop first bs (n - first) b)) in
     lines_in-more (drop first bs) (n - first) (n + 1 - first) b (omega (arith, from)) (omega (arith, l, few, from)) here
 
-lines_in-fewer : (bs : List Block) (n m : ℕ) → n ≤ m → lines_in (take n bs) ≤ lines_in (take m bs)
+pub lines_in-fewer : (bs : List Block) (n m : ℕ) → n ≤ m → lines_in (take n bs) ≤ lines_in (take m bs)
 lines_in-fewer bs n m few =
     let k = lines_in-below bs n (m - n) in
     let e : n + (m - n) ≡ m = omega (arith, few) in

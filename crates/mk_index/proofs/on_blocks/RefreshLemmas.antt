@@ -18,7 +18,7 @@ use Rattle.mk_index.proofs.on_blocks.SpliceLemmas.{unexpected}
 use Rattle.mk_index.specs.declared.keys.Scope.{Scope}
 
 -- more mentions leave blocks as they are
-blocks-more : (s : Scope) (added ms : List Mention) (n : ℕ) (o : Option Context) (ls : List LocatedLine) (bs : List Block) (end : Context) → AreBlocks s ms n o ls bs end → AreBlocks s (added ++ ms) n o ls bs end
+pub blocks-more : (s : Scope) (added ms : List Mention) (n : ℕ) (o : Option Context) (ls : List LocatedLine) (bs : List Block) (end : Context) → AreBlocks s ms n o ls bs end → AreBlocks s (added ++ ms) n o ls bs end
 blocks-more s added ms n o ls [] end h = h
 blocks-more s added ms n o ls (b ∷ bs) end h = record {
   inside = h.inside;

@@ -31,7 +31,7 @@ use Rattle.mk_index.specs.declared.keys.Scope.TheVariants.{Names, Words}
 
 -- ---- mentions
 
-is_mentioned-more : (added ms : List Mention) (h b : ℕ) → IsMentioned ms h b → IsMentioned (added ++ ms) h b
+pub is_mentioned-more : (added ms : List Mention) (h b : ℕ) → IsMentioned ms h b → IsMentioned (added ++ ms) h b
 is_mentioned-more [] ms h b k = k
 is_mentioned-more (m ∷ added) ms h b k = inr (is_mentioned-more added ms h b k)
 

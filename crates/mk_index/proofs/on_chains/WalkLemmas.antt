@@ -1,9 +1,10 @@
 -- The walk back over the entries of a bucket, which marks blocks.
-use Rattle.std.proofs.Common.{◌≡◌, refl, sym, ap, ◌∙◌, subst, arith, ℕ, zero, suc, ◌-◌, ◌==◌, ◌<◌, List, [], ◌∷◌, ◌++◌, reverse, Bool, true, false, if◌then◌else◌, length, append_assoc, append-nil, get_or, Some, None, inl, inr}
+use Rattle.std.proofs.Common.{◌≡◌, refl, sym, ap, ◌∙◌, subst, arith, ℕ, zero, suc, ◌-◌, ◌==◌, ◌<◌, List, [], ◌∷◌, ◌++◌, reverse, Bool, true, false, if◌then◌else◌, length, append_assoc, append-nil, get_or, Option, Some, None, inl, inr}
 use Rattle.std.specs.Prelude.{◌⊎◌, slice_get}
 use Rattle.std.proofs.lemmas.Bool.{eq-eqb, eqb-true, false≢true}
 use Rattle.std.proofs.lemmas.List.{length-map, length-reverse}
 use Rattle.mk_index.specs.Chains.{AreChainsOf, IsMentioned, Mention, Stored, bucket_of, buckets_of, entries_of, entry_after, last_in}
+use Rattle.mk_index.specs.Indexes.{AreMarked}
 use Rattle.mk_index.specs.declared.chains.Entry.{Entry}
 use Rattle.mk_index.proofs.on_chains.ChainLemmas.{length-entries, numbered, reverse-first}
 
@@ -169,3 +170,38 @@ walk-next ms hash c (suc k) marks after e w is long kept marked =
     let at : e ≡ entry_after (length c.heads) s.last s.rest = same-some e (entry_after (length c.heads) s.last s.rest) (sym is ∙ (numbered c.entries k ∙ s.entry_is)) in
     subst (λ (x : Entry). Walk ms hash c x.before after) (sym at)
     (s.next after long kept (subst (λ (x : Entry). x.hash ≡ hash → x.block < length marks → get_or after x.block false ≡ true) at marked))
+
+-- the walk stays where it is, while more is marked
+pub walk-kept : (ms : List Mention) (hash : ℕ) (c : Stored) (number : ℕ) (marks after : List Bool) → Walk ms hash c number marks → length after ≡ length marks → ((b : ℕ) → get_or marks b false ≡ true → get_or after b false ≡ true) → Walk ms hash c number after
+walk-kept ms hash c number marks after w long kept = record {
+  ahead = w.ahead;
+  more = w.more;
+  number_is = w.number_is;
+  entries_are = w.entries_are;
+  marked = λ b m inside. elim (w.marked b m (omega (arith, long, inside))) [ inl is ↦ inl (kept b is) | inr r ↦ inr r ];
+}
+
+-- the walk goes on, or is at its end
+pub walk-on : (ms : List Mention) (hash : ℕ) (c : Stored) (number next : ℕ) (marks after : List Bool) → Walk ms hash c number marks → length after ≡ length marks → ((b : ℕ) → get_or marks b false ≡ true → get_or after b false ≡ true)
+    → ((if number == 0 then None else slice_get c.entries (number - 1)) ≡ None → next ≡ 0)
+    → ((e : Entry) → (if number == 0 then None else slice_get c.entries (number - 1)) ≡ Some e → (next ≡ e.before) × (e.hash ≡ hash → e.block < length marks → get_or after e.block false ≡ true))
+    → Walk ms hash c next after
+walk-on ms hash c number next marks after w long kept none some = go (if number == 0 then None else slice_get c.entries (number - 1)) refl
+  where
+    go : (o : Option Entry) → (if number == 0 then None else slice_get c.entries (number - 1)) ≡ o → Walk ms hash c next after
+    go None is =
+        let here : next ≡ number = none is ∙ sym (walk-ends ms hash c number marks w is) in
+        subst (λ (n : ℕ). Walk ms hash c n after) (sym here) (walk-kept ms hash c number marks after w long kept)
+    go (Some e) is =
+        let h = some e is in
+        subst (λ (n : ℕ). Walk ms hash c n after) (sym h.0) (walk-next ms hash c number marks after e w is long kept h.1)
+
+-- both walks are at their end
+pub walks-over : (first second : ℕ) (c : Stored) (number other : ℕ) (marks : List Bool) → ((ms : List Mention) → AreChainsOf ms c → Walk ms first c number marks) → ((ms : List Mention) → AreChainsOf ms c → Walk ms second c other marks) → number ≡ 0 → other ≡ 0 → AreMarked c (first ∷ second ∷ []) marks
+walks-over first second c number other marks w v e f = λ ms chains h one b mentioned within. elim one [
+  | inl is ↦ walk-over ms first c number marks (w ms chains) e b (subst (λ (x : ℕ). IsMentioned ms x b) (sym is) mentioned) within
+  | inr more ↦ elim more [
+    | inl is ↦ walk-over ms second c other marks (v ms chains) f b (subst (λ (x : ℕ). IsMentioned ms x b) (sym is) mentioned) within
+    | inr none ↦ absurd none
+  ]
+]

@@ -9,4 +9,4 @@ pub seek_within-requires-clause-windows : goal.seek_within-requires-clause-windo
 seek_within-requires-clause-windows g c =
     let a = address_seen c.args.address in
     subst (λ (ws : List Window). AreWindows (concerns a) first_place c.args.doc.now ws) (sym c.deref.ensures.value)
-    (c.in_ok-windows.ensures (concerns a) (λ l classed none. unconcerned c.args.self.now.scope a l c.key_of.result c.key_of.ensures (none c.key_of.result (inr (inl refl))) (none 0 (inl refl))))
+    (c.in_ok-windows.ensures.windows (concerns a) (λ l classed none. unconcerned c.args.self.now.scope a l c.key_of.result c.key_of.ensures (none c.key_of.result (inr (inr (inl refl)))) (none 0 (inl refl))))
