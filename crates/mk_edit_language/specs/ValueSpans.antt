@@ -45,6 +45,16 @@ abbrev pub assignment_span : (ℕ → Assignment Cell → Replacement) → (line
 assignment_span f at (Assign a p) = f at a ∷ []
 assignment_span f at k = []
 
+-- the spans in the line of an assignment: those of several replacements
+abbrev pub assignment_spans : (ℕ → Assignment Cell → List Replacement) → (line_start : ℕ)
+    → Class Cell → List Replacement
+assignment_spans f at (Assign a p) = f at a
+assignment_spans f at k = []
+
+abbrev pub value_spans : (ℕ → Assignment Cell → List Replacement) → StandingLine
+    → List Replacement
+value_spans f s = assignment_spans f (length (text_of s.above)) s.line.class
+
 -- the span in an assignment's line
 abbrev pub value_span : (ℕ → Assignment Cell → Replacement) → StandingLine → List Replacement
 value_span f s = assignment_span f (length (text_of s.above)) s.line.class
