@@ -9,3 +9,4 @@ pub mod LastFoldLemmas
 pub mod BlankAdded
 pub mod AppendValueLemmas
 pub mod AddWordLemmas
+pub mod WordParts
