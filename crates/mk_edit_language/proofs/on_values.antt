@@ -10,3 +10,4 @@ pub mod BlankAdded
 pub mod AppendValueLemmas
 pub mod AddWordLemmas
 pub mod WordParts
+pub mod CellsKept

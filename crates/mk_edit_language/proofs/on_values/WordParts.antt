@@ -59,7 +59,7 @@ part-split a b h c =
 -- ---- where a part ends
 
 -- a gap is closed
-gap-closed : (u : List Cell) → is_gap joined_byte u ≡ true → is_closed joined_byte (concat (u ∷ [])) ≡ true
+pub gap-closed : (u : List Cell) → is_gap joined_byte u ≡ true → is_closed joined_byte (concat (u ∷ [])) ≡ true
 gap-closed [] h = cc
 gap-closed (x ∷ []) h = ap (λ m. is_between (next_unit_state Between m)) (gap-plain joined_byte (x ∷ []) h)
 gap-closed (x ∷ y ∷ u) h = cc
