@@ -11,3 +11,4 @@ pub mod AppendValueLemmas
 pub mod AddWordLemmas
 pub mod WordParts
 pub mod CellsKept
+pub mod RemoveWordLemmas

@@ -189,7 +189,7 @@ gaps-reset x ((c ∷ d ∷ u) ∷ g) r h = absurd (let k : false ≡ true = h.0 
 -- ---- the words of a value
 
 -- the cells of a word with the gaps before it
-abbrev led_cells : LedWord → List Cell
+abbrev pub led_cells : LedWord → List Cell
 led_cells l = concat (l.gaps ++ l.word)
 
 pub led-cells : (l : LedWord) (ls : List LedWord) → concat (led_units (l ∷ ls)) ≡ led_cells l ++ concat (led_units ls)
