@@ -10,13 +10,13 @@ use Rattle.mk_lines.proofs.on_lists.BoolLemmas.{or-left_false, or-right_false}
 use Rattle.mk_lines.specs.PhysicalLines.{line_end, line_end_bytes, without_line_end}
 use Rattle.mk_lines.specs.Cells.{Cell, joined_byte, raw_text, line_cells}
 use Rattle.mk_lines.specs.CellFaults.{has_stray}
-use Rattle.mk_lines.proofs.on_cells.CellLemmas.{raw_text-append, raw_text-cells}
+use Rattle.mk_lines.proofs.on_cells.CellLemmas.{raw_text-cells}
 use Rattle.mk_lines.proofs.on_lines.LineLemmas.{OneLine, EndsBefore}
 use Rattle.mk_lines.proofs.on_lines.LineEndLemmas.{KeepsApart, without_line_end-line_end}
-use Rattle.mk_lines.proofs.on_cells.LineCells.{AreLineCells, EndLineBefore, line-ends, line-keeps_apart}
+use Rattle.mk_lines.proofs.on_cells.LineCells.{EndLineBefore, line-ends, line-keeps_apart}
 use Rattle.mk_lines.specs.Units.{units, is_closed}
 use Rattle.mk_lines.specs.Words.{is_gap, IsWord}
-use Rattle.mk_lines.specs.Pieces.{Replacement, replaced, Piece, Keep, Replace, old_cells, new_cells, old_bytes, new_bytes, replacements}
+use Rattle.mk_lines.specs.Pieces.{Replacement, replaced, Piece, Keep, Replace, old_cells, new_cells, old_bytes, replacements}
 use Rattle.mk_lines.proofs.on_lists.PieceLemmas.{raw_text-old_cells, raw_text-new_cells, old_cells-append, new_cells-append}
 use Rattle.mk_class.specs.ListTests.{is_empty}
 use Rattle.mk_class.specs.Texts.{unit_text}
@@ -32,33 +32,31 @@ use Rattle.mk_class.proofs.on_classes.ClassLemmas.{plain_class-assign, class_at-
 use Rattle.mk_class.proofs.on_assignments.AssignmentLineLemmas.{AssignParts, assign_parts}
 use Rattle.mk_class.specs.ClassedLines.{ClassedLine, classed_lines}
 use Rattle.mk_tree.specs.Documents.{text_of, context_of}
-use Rattle.mk_tree.specs.Items.{items}
 use Rattle.mk_tree.specs.Readings.{reading}
 use Rattle.mk_tree.specs.LineTexts.{StandingLine}
 use Rattle.mk_tree.proofs.on_documents.LinesInText.{line-in_text, bytes_of}
 use Rattle.mk_tree.proofs.on_changes.SpansInLines.{text-pieces_replaced}
 use Rattle.mk_edit_language.specs.Edits.{RemoveWord}
 use Rattle.mk_edit_language.specs.Addresses.{Variable, found}
-use Rattle.mk_edit_language.specs.ValueSpans.{value_start, value_spans, assignment_spans, set_value_span}
+use Rattle.mk_edit_language.specs.ValueSpans.{value_start, set_value_span}
 use Rattle.mk_edit_language.specs.WordPieces.{is_word_of}
 use Rattle.mk_edit_language.specs.ValueWords.{LedWord, led_words, staying, led_units, from_first_word, first_gaps, pieces_after, remove_word_pieces, remove_word_spans}
 use Rattle.mk_edit_language.specs.ArgumentCauses.{is_value_word}
 use Rattle.mk_edit_language.specs.RuleCauses.{class_found, assignment_passes}
 use Rattle.mk_edit_language.specs.LineCauses.{has_open_value, bares_end, bares_end_among}
-use Rattle.mk_edit_language.specs.EditSpans.{where_found}
 use Rattle.mk_edit_language.specs.Refusals.{spans, text_by, text_after}
-use Rattle.mk_edit_language.specs.Changes.{change, item_with_value, value_item, with_value, with_items, value_without, value_set}
+use Rattle.mk_edit_language.specs.Changes.{change, item_with_value, value_without, value_set}
 use Rattle.mk_edit_language.proofs.on_edits.Accepted.{IsAccepted, accepted, where_holds-none, two-passed}
 use Rattle.mk_edit_language.proofs.on_lines.HeadUnits.{AllAre}
 use Rattle.mk_edit_language.proofs.on_lines.LineReplaced.{IsLineReplaced, replaced-same}
 use Rattle.mk_edit_language.proofs.on_values.FoundAssignments.{FoundAssignment, assignment-found, no_prefix-set}
 use Rattle.mk_edit_language.proofs.on_values.ValueLines.{IsValue, IsValueLine, with_cells, cells_with, line_of, value-line}
 use Rattle.mk_edit_language.proofs.on_values.ValueEdits.{value-replaced}
-use Rattle.mk_edit_language.proofs.on_values.SetValueLemmas.{not_prefix}
+use Rattle.mk_edit_language.proofs.on_values.SetValueLemmas.{values-found, not_prefix}
 use Rattle.mk_edit_language.proofs.on_values.SetValueEmptyLemmas.{before-resets}
 use Rattle.mk_edit_language.proofs.on_values.LastFoldLemmas.{set_value-to_nothing}
 use Rattle.mk_edit_language.proofs.on_values.AppendValueLemmas.{value-units, closed-found}
-use Rattle.mk_edit_language.proofs.on_values.WordParts.{IsPart, IsLedWord, AreLedWords, value-led, staying-all, from_first-part, from_first-first, from_first-last}
+use Rattle.mk_edit_language.proofs.on_values.WordParts.{IsPart, IsLedWord, value-led, staying-all, from_first-part, from_first-first, from_first-last}
 use Rattle.mk_edit_language.proofs.on_values.CellsKept.{FitsLine, led_cells, led-cells, front-kept}
 use Rattle.mk_edit_language.specs.declared.refusal.Field.TheVariants as field
 use Rattle.mk_edit_language.specs.declared.refusal.Refusal.TheVariants.{NoSuch, OpenValue}
@@ -250,24 +248,12 @@ word-removed t n w nth rs A =
       not_bared = subst (λ (z : Class Cell). assignment_passes (bares_end w) (Some z) ≡ false) F.class_is x;
     }
 
--- the spans of an accepted removal, where the assignment is found
-pub removed-spans : (t n w : List ℕ) (nth : Option ℕ) (rs : List Replacement) (F : FoundAssignment t n nth) → IsAccepted t (RemoveWord nth n w) rs → remove_word_spans w (length (text_of F.spot.above)) F.assigned ≡ rs
-removed-spans t n w nth rs F A =
-    let f = remove_word_spans w in
-    let x : assignment_spans f (length (text_of F.spot.above)) F.spot.line.class ≡ rs = subst (λ (z : Option StandingLine). where_found (value_spans f) z ≡ rs) F.found_is A.spans_are in
-    subst (λ (z : Class Cell). assignment_spans f (length (text_of F.spot.above)) z ≡ rs) F.class_is x
-
 -- the law
 pub remove_word-reads : (nth : Option ℕ) (n w t : List ℕ) (rs : List Replacement) → spans t (RemoveWord nth n w) ≡ Ok rs → reading (text_after t (RemoveWord nth n w)) ≡ change t (RemoveWord nth n w)
 remove_word-reads nth n w t rs h =
     let A = accepted t (RemoveWord nth n w) rs h in
     let W = word-removed t n w nth rs A in
     let F = W.found_value in
-    let s = F.spot in
-    let value = value_without t w in
-    let z : change t (RemoveWord nth n w) ≡ with_items (value_item value (length (text_of s.above)) s.line.class) s = ap (where_found (with_value value)) F.found_is in
-    let q : with_items (value_item value (length (text_of s.above)) s.line.class) s ≡ items s.above ++ item_with_value F.assigned (value (length (text_of s.above)) F.assigned) ∷ items s.below =
-    ap (λ (k : Class Cell). with_items (value_item value (length (text_of s.above)) k) s) F.class_is in
-    ap (λ y. reading (text_by t y)) h
-    ∙ (ap (λ y. reading (replaced 0 t y)) (sym (removed-spans t n w nth rs F A))
-    ∙ ((remove_word-line t s.above s.line s.below F.assigned w F.whole F.class_is F.no_prefix W.value W.closed W.not_bared).reads ∙ (sym q ∙ sym z)))
+    ap (λ z. reading (text_by t z)) h
+    ∙ values-found t n nth rs (remove_word_spans w) (value_without t w) F (remove_word-line t F.spot.above F.spot.line F.spot.below F.assigned w F.whole F.class_is F.no_prefix W.value W.closed W.not_bared)
+    A.spans_are
