@@ -4605,3 +4605,18 @@ row_drop_011 = refl
 
 row_drop_012 : account (codes "F = $(a -g\n") (RemoveWord None (codes "F") (codes "-g")) ≡ NotMade 1 Absent
 row_drop_012 = refl
+
+row_drop_013 : account (codes "F = \\\nz") (RemoveWord None (codes "F") (codes "z")) ≡ Accepted 1 1 (span 6 7 [] ∷ []) (Becomes (codes "F = \\\n"))
+row_drop_013 = refl
+
+row_drop_014 : account (codes "F = a z z b\n") (RemoveWord None (codes "F") (codes "z")) ≡ Accepted 1 1 (span 5 7 [] ∷ span 7 9 [] ∷ []) (Becomes (codes "F = a b\n"))
+row_drop_014 = refl
+
+row_drop_015 : account (codes "F = z \\\n z a\n") (RemoveWord None (codes "F") (codes "z")) ≡ Accepted 1 1 (span 4 9 [] ∷ span 9 11 [] ∷ []) (Becomes (codes "F = a\n"))
+row_drop_015 = refl
+
+row_drop_016 : account (codes "F = z a\\ \n") (RemoveWord None (codes "F") (codes "z")) ≡ Accepted 1 1 (span 4 6 [] ∷ []) (Becomes (codes "F = a\\ \n"))
+row_drop_016 = refl
+
+row_drop_017 : account (codes "F = a\\\\ b z\n") (RemoveWord None (codes "F") (codes "z")) ≡ Accepted 1 1 (span 9 11 [] ∷ []) (Becomes (codes "F = a\\\\ b\n"))
+row_drop_017 = refl
