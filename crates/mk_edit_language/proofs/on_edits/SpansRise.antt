@@ -151,7 +151,7 @@ remove_word-rises w at a n h = go (is_empty (staying w (led_words a.value)))
 abbrev RisesInLine : (ℕ → Class Cell → List Replacement) → Type 0
 RisesInLine f = (at n : ℕ) (k : Class Cell) → raw_width (part_units k) ≤ n → Rise at (at + n) (f at k)
 
-pub rise-values : (f : ℕ → Assignment Cell → List Replacement) → RiseInAssignment f → RisesInLine (assignment_spans f)
+rise-values : (f : ℕ → Assignment Cell → List Replacement) → RiseInAssignment f → RisesInLine (assignment_spans f)
 rise-values f g at n (Assign a p) h = g at a n h
 rise-values f g at n Endef h = omega arith
 rise-values f g at n (Body d) h = omega arith
