@@ -121,6 +121,7 @@ def antt_edit(fields):
         b"set": "SetValue",
         b"append": "AppendValue",
         b"add": "AddWord",
+        b"drop": "RemoveWord",
         b"unset": "RemoveAssign",
         b"unrule": "RemoveRule",
         b"undepend": "RemovePrereq",
@@ -181,7 +182,7 @@ IMPORTS = [
     ("Rattle.mk_edit_language.specs.Edits", ["Bottom", "BeforeVar", "AfterVar", "BeforeRule"]),
     (
         "Rattle.mk_edit_language.specs.Edits",
-        ["SetValue", "AppendValue", "AddWord", "AddAssign", "RemoveAssign", "AddRule", "RemoveRule", "AddPrereq", "RemovePrereq"]
+        ["SetValue", "AppendValue", "AddWord", "RemoveWord", "AddAssign", "RemoveAssign", "AddRule", "RemoveRule", "AddPrereq", "RemovePrereq"]
         + ["AddRecipe", "SetRecipe", "RemoveRecipe", "InsertRecipe", "SetRecipeByText", "RemoveRecipeByText"]
         + ["RenameTarget"],
     ),

@@ -39,6 +39,7 @@ EDITS = {
     b"set": ("SetValue", [], 2),
     b"append": ("AppendValue", [], 2),
     b"add": ("AddWord", [], 2),
+    b"drop": ("RemoveWord", [], 2),
     b"unset": ("RemoveAssign", [], 1),
     b"unrule": ("RemoveRule", [], 1),
     b"depend": ("AddPrereq", [False], 2),
@@ -223,7 +224,7 @@ def antt_nth(nth):
 
 # Where the number of the line stands that an edit means.
 NTH_FIRST = set(
-    "SetValue AppendValue AddWord RemoveAssign RemoveRule RemovePrereq AddRecipe SetRecipe RemoveRecipe"
+    "SetValue AppendValue AddWord RemoveWord RemoveAssign RemoveRule RemovePrereq AddRecipe SetRecipe RemoveRecipe"
     " InsertRecipe SetRecipeByText RemoveRecipeByText".split()
 )
 
@@ -280,7 +281,7 @@ IMPORTS = [
     ("Rattle.mk_edit_language.specs.Edits", ["Bottom", *PLACES.values()]),
     (
         "Rattle.mk_edit_language.specs.Edits",
-        ["SetValue", "AppendValue", "AddWord", "AddAssign", "RemoveAssign", "AddRule", "RemoveRule", "AddPrereq", "RemovePrereq"]
+        ["SetValue", "AppendValue", "AddWord", "RemoveWord", "AddAssign", "RemoveAssign", "AddRule", "RemoveRule", "AddPrereq", "RemovePrereq"]
         + ["AddRecipe", "SetRecipe", "RemoveRecipe", "InsertRecipe", "SetRecipeByText", "RemoveRecipeByText"]
         + ["RenameTarget"],
     ),

@@ -277,7 +277,8 @@ class Editor:
         self.one = source.choice
         self.writer = Writer(source)
         lines, _ = reading.read(text)
-        self.names = [it.parts[1] for it in lines if it.kind == "Assign"]
+        self.values = [(it.parts[1], it.parts[-1]) for it in lines if it.kind == "Assign"]
+        self.names = [name for name, _ in self.values]
         self.rules = [it.parts for it in lines if it.kind == "Header"]
         self.recipes = recipes_by_target(text, lines)
 
@@ -330,6 +331,11 @@ class Editor:
         words = [it for rule in self.rules if target in rule[0] for it in (*rule[3], *rule[4])]
         return self.one(words) if words and self.source.random() < 0.9 else self.word()
 
+    def held(self, name):
+        """A word of a value of a variable, most often."""
+        words = [it for of, value in self.values if of == name for it in reading.texts(reading.units(value))]
+        return self.one(words) if words and self.source.random() < 0.9 else self.word()
+
     def command(self):
         if self.writer.chance(CORNERED):
             return self.one(LINES)
@@ -372,6 +378,7 @@ FIELDS = {
     "set": lambda it: it.for_name(it.value),
     "append": lambda it: it.for_name(lambda name: it.value(name) or b"more"),
     "add": lambda it: it.for_name(lambda _: it.word()),
+    "drop": lambda it: it.for_name(it.held),
     "unset": lambda it: it.for_name(),
     "assign": Editor.assign,
     "rule": Editor.rule,

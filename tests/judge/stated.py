@@ -5,6 +5,7 @@ place is one of its fields, as b"after-var X". after() gives the items after an 
 touched() what of make's data base the edit is about.
 """
 
+import itertools
 import re
 
 from tests.lib import reading
@@ -12,7 +13,7 @@ from tests.lib import reading
 from .expected import Item
 from .values import shown
 
-OF_VARIABLES = ("set", "append", "add", "unset", "assign")
+OF_VARIABLES = ("set", "append", "add", "drop", "unset", "assign")
 
 
 def field(text):
@@ -90,6 +91,22 @@ def set_value(of, nth, name, value):
 
 def append(of, nth, name, more):
     return with_value(of, nth, name, lambda old: old + b" " + more if old else more)
+
+
+def drop(of, nth, name, word):
+    """The value without the word; the runs of blanks go with the words after them, or at the front before them."""
+
+    def change(old):
+        kept, gap = b"", b""
+        for is_gap, units in itertools.groupby(reading.units(old), reading.is_blank):
+            text = b"".join(units)
+            if is_gap:
+                gap = text
+            elif text != word:
+                kept += gap + text if kept else text
+        return kept
+
+    return with_value(of, nth, name, change)
 
 
 def unset(of, nth, name):
@@ -196,6 +213,7 @@ CHANGES = {
     "set": set_value,
     "append": append,
     "add": append,
+    "drop": drop,
     "unset": unset,
     "assign": assign,
     "rule": rule,

@@ -22,7 +22,7 @@ EDITS, LANGUAGE, LIBRARY = (DOCS / f"{it}.md" for it in ("EDITS", "LANGUAGE", "L
 QUOTED = ("crates/session_example/src/main.rt", "crates/mk_session/src/session.rt")
 LAST_CHAPTER = "## 8. Where make reads otherwise\n"
 COMMANDS = (
-    "nth set append add unset assign rule unrule depend depend-order undepend recipe recipe-set recipe-del "
+    "nth set append add drop unset assign rule unrule depend depend-order undepend recipe recipe-set recipe-del "
     "recipe-insert recipe-replace recipe-remove rename"
 )
 EXAMPLE = re.compile(
@@ -96,7 +96,7 @@ class Documents(RoomCase):
             self.assertGreaterEqual(len(found), least)
 
     def test_the_examples_of_the_page_on_edits(self):
-        self.assert_examples(EDITS, check_edits, edits(), 14)
+        self.assert_examples(EDITS, check_edits, edits(), 17)
         self.assert_examples(EDITS, check_queries, edits(), 3)
 
     def test_the_examples_of_what_make_reads_otherwise(self):

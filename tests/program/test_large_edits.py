@@ -18,6 +18,7 @@ LONG_LINES = {
     "set": (b"set CC @", b"CC = gcc # c\n", b"CC = @ # c\n"),
     "append": (b"append CC @", b"CC = gcc # c\n", b"CC = gcc @ # c\n"),
     "add": (b"add CC @", b"CC = gcc # c\n", b"CC = gcc @ # c\n"),
+    "drop": (b"drop CC gcc", b"CC = gcc @ # c\n", b"CC = @ # c\n"),
     "unset": (b"unset CC", b"CC = @\n", b""),
     "assign": (b"assign bottom CC = @", b"", b"CC = @\n"),
     "rule": (b"rule bottom all : @", b"", b"all: @\n"),
@@ -35,6 +36,7 @@ LISTS = {
     "set": (b"set V%d b\n", b"V%d = b\n"),
     "append": (b"append V%d b\n", b"V%d = a b\n"),
     "add": (b"add V%d b\n", b"V%d = a b\n"),
+    "drop": (b"drop V%d a\n", b"V%d = \n"),
 }
 
 

@@ -143,6 +143,13 @@ def value_places(line):
     return places[end - len(value)], places[end], places[whole]
 
 
+def value_words(line):
+    """The words of an assignment's value."""
+    joined, places = raw_places(line)
+    start, _, _ = value_places(line)
+    return placed_words(reading.units(line.parts[-1]), places.index(start), places)
+
+
 def ends_in_fold(line):
     """Whether the last byte of an assignment's value is a fold."""
     joined, places = raw_places(line)

@@ -4,6 +4,7 @@ Each edit is a class with the fields that script_rows.py gives a command. plan()
 refusal in their order, and hands out the spans of the edit and the reading that it states.
 """
 
+import itertools
 from typing import NamedTuple
 
 from argument_rows import is_closed, is_command, is_name, is_target, is_value, is_word, texts_of_units
@@ -171,6 +172,18 @@ def is_value_word(text):
     return text != b"" and is_value(text) and not any(map(reading.is_blank, texts_of_units(text)))
 
 
+def without_word(value, word):
+    """A value without each word that is this one, and without the blanks before it, or at the front after it."""
+    kept, gap = b"", b""
+    for is_gap, group in itertools.groupby(reading.units(value), reading.is_blank):
+        text = b"".join(group)
+        if is_gap:
+            gap = text
+        elif text != word:
+            kept += (gap if kept else b"") + text
+    return kept
+
+
 class AddWord(OfVariable):
     def fields(self):
         return [("name", self.name, is_name), ("word", self.value, is_value_word)]
@@ -186,6 +199,25 @@ class AddWord(OfVariable):
         items = items_of(doc.lines)
         items[at] = (*items[at][:-1], old + added)
         return [Span(end, end, added)], items
+
+
+class RemoveWord(AddWord):
+    def plan_in(self, doc):
+        at = self.find(doc)
+        line = doc.lines[at]
+        words = document.value_words(line)
+        goes = [it.text == self.value for it in words]
+        refuse(6, not any(goes))
+        follows = zip(words, goes[1:])
+        refuse(11, not is_closed(line.parts[-1]) or any(going and not is_value(it.text) for it, going in follows))
+        if all(goes):
+            return SetValue(self.nth, self.name).plan_in(doc)
+        first = goes.index(False)
+        before = [Span(it.start, after.start, b"") for it, after in zip(words[:first], words[1:])]
+        after = [Span(it.gap, it.end, b"") for it, going in zip(words[first:], goes[first:]) if going]
+        items = items_of(doc.lines)
+        items[at] = (*items[at][:-1], without_word(line.parts[-1], self.value))
+        return [*before, *after], items
 
 
 class RemoveAssign(OfVariable):
@@ -515,6 +547,7 @@ KINDS = (
     SetValue,
     AppendValue,
     AddWord,
+    RemoveWord,
     AddAssign,
     RemoveAssign,
     AddRule,

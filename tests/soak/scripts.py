@@ -25,7 +25,7 @@ from .vocabulary import (
 )
 
 # The edits with their weights, by what they need in the makefile.
-OF_NAMES = {b"set": 10, b"append": 8, b"add": 7, b"unset": 9}
+OF_NAMES = {b"set": 10, b"append": 8, b"add": 7, b"drop": 7, b"unset": 9}
 OF_RULES = {
     b"unrule": 10,
     b"depend": 7,
@@ -233,6 +233,10 @@ class Scripts(Drawing):
     def add(self):
         name = self.name()
         return [*self.number(len(self.document.assignments(name))), b"add", name, self.word_of(name, 0.2)]
+
+    def drop(self):
+        name = self.name()
+        return [*self.number(len(self.document.assignments(name))), b"drop", name, self.word_of(name, 0.8)]
 
     def unset(self):
         return self.of_name(b"unset")

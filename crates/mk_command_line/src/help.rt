@@ -20,7 +20,7 @@ const ABOUT_EDIT: &str = "Runs a script of edits over a makefile, and prints the
 const EDIT: &str = "\
 A line of the script is a command, a comment that begins with #, or blank:
     set NAME VALUE            append NAME VALUE           unset NAME
-    add NAME WORD
+    add NAME WORD             drop NAME WORD
     assign PLACE NAME OP VALUE                            rename OLD NEW
     rule PLACE TARGETS SEP PREREQS                        unrule TARGET
     depend TARGET WORD        depend-order TARGET WORD    undepend TARGET WORD

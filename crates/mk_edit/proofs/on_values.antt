@@ -3,3 +3,4 @@ pub mod ValuePlaces
 pub mod SetValuePlans
 pub mod AppendValuePlans
 pub mod AddWordPlans
+pub mod RemoveWordPlans

@@ -6,7 +6,7 @@ use Rattle.mk_class.specs.ListTests.{is_empty}
 use Rattle.mk_class.specs.declared.class.Class as class
 use Rattle.mk_class.specs.declared.class.Class.TheVariants as variants
 use Rattle.mk_tree.specs.LocatedLines.{LocatedLine, text_of_line}
-use Rattle.mk_edit_language.specs.Edits.{Edit, SetValue, AppendValue, AddWord}
+use Rattle.mk_edit_language.specs.Edits.{Edit, SetValue, AppendValue, AddWord, RemoveWord}
 
 -- an edit sets a variable to this value
 pub record IsSetValue (e : Edit) (value : List ℕ) : Type 0 where
@@ -25,6 +25,12 @@ pub record IsAddWord (e : Edit) (word : List ℕ) : Type 0 where
   pub nth : Option ℕ
   pub name : List ℕ
   pub is : e ≡ AddWord nth name word
+
+-- an edit takes this word out of a variable's value
+pub record IsRemoveWord (e : Edit) (word : List ℕ) : Type 0 where
+  pub nth : Option ℕ
+  pub name : List ℕ
+  pub is : e ≡ RemoveWord nth name word
 
 -- the text of the value of an assignment's line of this joined text and class; the empty text for
 -- any other line

@@ -24,6 +24,8 @@
 //! - `set_value`: another value, planned.
 //! - `append_value`: a text appended to a value, planned.
 //! - `add_word`: a word put after a value, planned.
+//! - `assignment`: the assignment in its line.
+//! - `remove_word`: a word taken out of a value, planned.
 //! - `remove_assign`: the removal of an assignment.
 //! - `rename_target_places`: the lines that a rename exchanges and their places, noted.
 //! - `rename_target_effect`: what a rename finds among the lines and does to them.
@@ -37,6 +39,7 @@ mod add_prereq;
 mod add_recipe;
 mod add_word;
 mod append_value;
+mod assignment;
 mod header;
 mod insert_recipe;
 mod insertion;
@@ -47,6 +50,7 @@ mod remove_assign;
 mod remove_prereq;
 mod remove_recipe;
 mod remove_rule;
+mod remove_word;
 mod rename_target;
 mod rename_target_causes;
 mod rename_target_effect;

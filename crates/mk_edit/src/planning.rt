@@ -16,6 +16,7 @@ use crate::remove_assign::plan_remove_assign;
 use crate::remove_prereq::plan_remove_prereq;
 use crate::remove_recipe::plan_remove_recipe;
 use crate::remove_rule::plan_remove_rule;
+use crate::remove_word::plan_remove_word;
 use crate::rename_target::plan_rename_target;
 use crate::set_recipe::plan_set_recipe;
 use crate::set_value::plan_set_value;
@@ -76,6 +77,7 @@ pub fn plan_with<A: Allocator + Copy>(
             alloc, doc, edit, sought, value, meter,
         ),
         Edit::AddWord { word, .. } => plan_add_word(alloc, doc, edit, sought, word, meter),
+        Edit::RemoveWord { word, .. } => plan_remove_word(alloc, doc, edit, sought, word, meter),
         Edit::AddAssign { .. } | Edit::AddRule { .. } => plan_add_line(
             alloc, doc, edit, sought, meter,
         ),

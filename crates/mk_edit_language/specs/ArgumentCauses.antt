@@ -8,7 +8,7 @@ use Rattle.mk_class.specs.ListTests.{is_empty}
 use Rattle.mk_class.specs.Keywords.{is_reserved_word}
 use Rattle.mk_class.specs.RecipePrefix.{is_prefix_name}
 use Rattle.mk_class.specs.Arguments.{is_value, is_word, is_target, is_name, is_command}
-use Rattle.mk_edit_language.specs.Edits.{Place, Bottom, BeforeVar, AfterVar, BeforeRule, Edit, SetValue, AppendValue, AddWord, AddAssign, RemoveAssign, AddRule, RemoveRule, AddPrereq, RemovePrereq, AddRecipe, SetRecipe, RemoveRecipe, InsertRecipe, SetRecipeByText, RemoveRecipeByText, RenameTarget}
+use Rattle.mk_edit_language.specs.Edits.{Place, Bottom, BeforeVar, AfterVar, BeforeRule, Edit, SetValue, AppendValue, AddWord, RemoveWord, AddAssign, RemoveAssign, AddRule, RemoveRule, AddPrereq, RemovePrereq, AddRecipe, SetRecipe, RemoveRecipe, InsertRecipe, SetRecipeByText, RemoveRecipeByText, RenameTarget}
 use Rattle.mk_edit_language.specs.Causes.{where_holds}
 use Rattle.mk_edit_language.specs.declared.refusal.Field.{Field}
 use Rattle.mk_edit_language.specs.declared.refusal.Field.TheVariants as field
@@ -55,6 +55,8 @@ field_tests (AppendValue nth n v) =
     Tested field.Name (is_name n) ∷ Tested field.Value (is_value v && not (is_empty v)) ∷ []
 field_tests (AddWord nth n w) =
     Tested field.Name (is_name n) ∷ Tested field.Word (is_value_word w) ∷ []
+field_tests (RemoveWord nth n w) =
+    Tested field.Name (is_name n) ∷ Tested field.Word (is_value_word w) ∷ []
 field_tests (AddAssign p n f v) =
     Tested field.Place (is_place p) ∷ Tested field.Name (is_name n)
     ∷ Tested field.Value (is_value v) ∷ []
@@ -98,6 +100,7 @@ abbrev pub names : Edit → List (List ℕ)
 names (SetValue nth n v) = n ∷ []
 names (AppendValue nth n v) = n ∷ []
 names (AddWord nth n w) = n ∷ []
+names (RemoveWord nth n w) = n ∷ []
 names (AddAssign p n f v) = n ∷ place_names p
 names (RemoveAssign nth n) = n ∷ []
 names (AddRule p ts c ws) = place_names p

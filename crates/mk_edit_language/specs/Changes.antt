@@ -19,10 +19,11 @@ use Rattle.mk_class.specs.declared.rule.Separator.TheVariants.{SingleColon, Doub
 use Rattle.mk_tree.specs.Documents.{text_of}
 use Rattle.mk_tree.specs.Items.{Item, Assign, TargetAssign, Header, Recipe, Sets, items, header_item}
 use Rattle.mk_tree.specs.LineTexts.{StandingLine}
-use Rattle.mk_edit_language.specs.Edits.{Edit, SetValue, AppendValue, AddWord, AddAssign, RemoveAssign, AddRule, RemoveRule, AddPrereq, RemovePrereq, AddRecipe, SetRecipe, RemoveRecipe, InsertRecipe, SetRecipeByText, RemoveRecipeByText, RenameTarget}
+use Rattle.mk_edit_language.specs.Edits.{Edit, SetValue, AppendValue, AddWord, RemoveWord, AddAssign, RemoveAssign, AddRule, RemoveRule, AddPrereq, RemovePrereq, AddRecipe, SetRecipe, RemoveRecipe, InsertRecipe, SetRecipeByText, RemoveRecipeByText, RenameTarget}
 use Rattle.mk_edit_language.specs.Addresses.{Variable, Rule, found}
 use Rattle.mk_edit_language.specs.Stretches.{Stretch, insertion, removal, recipe_found, text_number}
 use Rattle.mk_edit_language.specs.ValueSpans.{set_value_span}
+use Rattle.mk_edit_language.specs.ValueWords.{led_words, staying, from_first_word}
 use Rattle.mk_edit_language.specs.EditSpans.{where_found}
 use Rattle.mk_edit_language.specs.declared.edit.RuleSeparator.{RuleSeparator}
 use Rattle.mk_edit_language.specs.declared.edit.RuleSeparator.TheVariants.{Single, Double}
@@ -70,6 +71,14 @@ abbrev pub value_appended : (value : List ℕ) → Assignment Cell → List ℕ
 value_appended v a =
     unit_text joined_byte a.value
     ++ (if is_empty a.value then v else if last_passes is_fold (concat a.value) then v else 32 ∷ v)
+
+-- The value without each word that is this one. Of the blanks of the value those stay that stand
+-- before a word that stays, except before the first. If no word stays, the value is set to the empty
+-- one.
+abbrev pub value_without : (text word : List ℕ) → (line_start : ℕ) → Assignment Cell → List ℕ
+value_without t w at a =
+    if is_empty (staying w (led_words a.value)) then value_set t [] at a else
+    unit_text joined_byte (from_first_word (staying w (led_words a.value)))
 
 -- ---- prerequisites and targets
 
@@ -132,6 +141,8 @@ change_of t ls (AppendValue nth n v) =
     where_found (with_value (λ at. value_appended v)) (found ls (Variable nth n))
 change_of t ls (AddWord nth n w) =
     where_found (with_value (λ at. value_appended w)) (found ls (Variable nth n))
+change_of t ls (RemoveWord nth n w) =
+    where_found (with_value (value_without t w)) (found ls (Variable nth n))
 change_of t ls (AddAssign p n f v) =
     where_found (with_item (new_assign n f v)) (insertion ls (AddAssign p n f v))
 change_of t ls (RemoveAssign nth n) = where_found without_items (removal ls (RemoveAssign nth n))

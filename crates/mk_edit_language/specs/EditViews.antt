@@ -18,6 +18,7 @@ abbrev pub edit_of : {A : _} → Edit A → edits.Edit
 edit_of (edit.SetValue nth name value) = edits.SetValue nth name.items value.items
 edit_of (edit.AppendValue nth name value) = edits.AppendValue nth name.items value.items
 edit_of (edit.AddWord nth name word) = edits.AddWord nth name.items word.items
+edit_of (edit.RemoveWord nth name word) = edits.RemoveWord nth name.items word.items
 edit_of (edit.AddAssign p name flavor value) =
     edits.AddAssign (place_of p) name.items flavor value.items
 edit_of (edit.RemoveAssign nth name) = edits.RemoveAssign nth name.items

@@ -20,6 +20,7 @@ pub data Edit : Type 0 where
   SetValue : (nth : Option ℕ) → (name value : List ℕ) → Edit
   AppendValue : (nth : Option ℕ) → (name value : List ℕ) → Edit
   AddWord : (nth : Option ℕ) → (name word : List ℕ) → Edit
+  RemoveWord : (nth : Option ℕ) → (name word : List ℕ) → Edit
   AddAssign : (place : Place) → (name : List ℕ) → (flavor : Flavor) → (value : List ℕ) → Edit
   RemoveAssign : (nth : Option ℕ) → (name : List ℕ) → Edit
   AddRule : (place : Place) → (targets : List ℕ) → (separator : RuleSeparator) → (prereqs : List ℕ) → Edit

@@ -11,6 +11,7 @@ pub mod Lengths
 pub mod EditedLines
 pub mod ValueSpans
 pub mod WordPieces
+pub mod ValueWords
 pub mod EditSpans
 pub mod RisingSpans
 -- Causes of refusal, each by itself

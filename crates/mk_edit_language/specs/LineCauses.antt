@@ -1,7 +1,8 @@
 -- The causes that the lines around a change decide, or the size of the result: OpenValue, OpenLine,
 -- OpenDefine, Leans and TooLong.
 -- Told in docs/EDITS.md, "Refusals".
-use Rattle.std.specs.Prelude.{ℕ, Bool, false, not, ◌&&◌, ◌||◌, nat_lt, List, ◌++◌, length, Option, Some, None}
+use Rattle.std.specs.Prelude.{ℕ, Bool, false, not, ◌&&◌, ◌||◌, nat_lt, List, [], ◌∷◌, ◌++◌, length, Option, Some, None}
+use Rattle.std.specs.Str.{bytes_eq}
 use Rattle.mk_lines.specs.Limits.{max_text}
 use Rattle.mk_lines.specs.Lists.{concat}
 use Rattle.mk_lines.specs.LogicalLines.{is_open}
@@ -10,13 +11,15 @@ use Rattle.mk_lines.specs.CellFaults.{is_fold}
 use Rattle.mk_lines.specs.Units.{is_closed}
 use Rattle.mk_lines.specs.Pieces.{Replacement, replaced}
 use Rattle.mk_class.specs.ListTests.{is_empty, last_passes}
+use Rattle.mk_class.specs.Texts.{word_texts}
+use Rattle.mk_class.specs.Arguments.{is_value}
 use Rattle.mk_class.specs.Assignments.{Assignment}
 use Rattle.mk_class.specs.Classes.{Class}
 use Rattle.mk_class.specs.Classes.Class.{Assign}
 use Rattle.mk_class.specs.ClassedLines.{ClassedLine}
 use Rattle.mk_class.specs.declared.context.RuleFlag.{RuleFlag}
 use Rattle.mk_class.specs.declared.context.RuleFlag.TheVariants.{Off, Rule}
-use Rattle.mk_edit_language.specs.Edits.{Place, Bottom, Edit, AppendValue, AddWord, AddAssign, AddRule}
+use Rattle.mk_edit_language.specs.Edits.{Place, Bottom, Edit, AppendValue, AddWord, RemoveWord, AddAssign, AddRule}
 use Rattle.mk_edit_language.specs.Addresses.{Variable, found}
 use Rattle.mk_edit_language.specs.Stretches.{Stretch, insertion, removal}
 use Rattle.mk_tree.specs.Documents.{context_of}
@@ -26,8 +29,8 @@ use Rattle.mk_edit_language.specs.Causes.{where_holds}
 use Rattle.mk_edit_language.specs.declared.refusal.Refusal.{Refusal}
 use Rattle.mk_edit_language.specs.declared.refusal.Refusal.TheVariants.{OpenValue, OpenLine, OpenDefine, Leans, TooLong}
 
--- ---- OpenValue: the value to append to is not closed, or a new word would be read together with its
--- end
+-- ---- OpenValue: the value is not closed; a new word would be read together with its end; or what
+-- ---- follows a word that goes would be read together with the word before it
 
 -- whether an assignment is found and its value is not closed
 abbrev pub has_open_value : Option (Class Cell) → Bool
@@ -38,12 +41,26 @@ has_open_value k = false
 abbrev pub ends_in_fold : Assignment Cell → Bool
 ends_in_fold a = last_passes is_fold (concat a.value)
 
+-- whether some word directly before one that goes is no value: what follows the word that goes would
+-- then be read together with the end of the word before it
+abbrev pub bares_end_among : (word : List ℕ) → (words : List (List ℕ)) → Bool
+bares_end_among w [] = false
+bares_end_among w (x ∷ []) = false
+bares_end_among w (x ∷ y ∷ xs) =
+    (bytes_eq y w && not (is_value x)) || bares_end_among w (y ∷ xs)
+
+abbrev pub bares_end : (word : List ℕ) → Assignment Cell → Bool
+bares_end w a = bares_end_among w (word_texts joined_byte a.value)
+
 abbrev pub open_value : List ClassedLine → Edit → Option Refusal
 open_value ls (AppendValue nth n v) =
     where_holds (has_open_value (class_found (found ls (Variable nth n)))) OpenValue
 open_value ls (AddWord nth n w) =
     let k = class_found (found ls (Variable nth n)) in
     where_holds (has_open_value k || assignment_passes ends_in_fold k) OpenValue
+open_value ls (RemoveWord nth n w) =
+    let k = class_found (found ls (Variable nth n)) in
+    where_holds (has_open_value k || assignment_passes (bares_end w) k) OpenValue
 open_value ls e = None
 
 -- ---- OpenLine: a new line would follow a last line that is open

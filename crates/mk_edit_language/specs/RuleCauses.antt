@@ -12,7 +12,7 @@ use Rattle.mk_class.specs.Classes.Class.{Assign, Header}
 use Rattle.mk_class.specs.ClassedLines.{ClassedLine}
 use Rattle.mk_tree.specs.RecipeLines.{recipe_run}
 use Rattle.mk_tree.specs.LineTexts.{StandingLine}
-use Rattle.mk_edit_language.specs.Edits.{Edit, AddWord, AddPrereq, RemovePrereq, RemoveRule, AddRecipe, SetRecipe, RemoveRecipe, InsertRecipe, SetRecipeByText, RemoveRecipeByText, RenameTarget}
+use Rattle.mk_edit_language.specs.Edits.{Edit, AddWord, RemoveWord, AddPrereq, RemovePrereq, RemoveRule, AddRecipe, SetRecipe, RemoveRecipe, InsertRecipe, SetRecipeByText, RemoveRecipeByText, RenameTarget}
 use Rattle.mk_edit_language.specs.Addresses.{Variable, Rule, found, targets_of, is_a_target}
 use Rattle.mk_edit_language.specs.Stretches.{recipe_found, recipes_of_text, recipe_gap}
 use Rattle.mk_edit_language.specs.Causes.{where_holds}
@@ -43,7 +43,7 @@ assignment_passes p k = false
 abbrev pub has_value_word : List ℕ → Assignment Cell → Bool
 has_value_word w a = is_one_of w (word_texts joined_byte a.value)
 
--- ---- Absent: the word is no prerequisite; there is no recipe line of this number or of this text,
+-- ---- Absent: the word is no word of the value, or no prerequisite; there is no recipe line of this number or of this text,
 -- ---- or no place of this number for a new one
 
 -- whether a word is among the normal prerequisites of a header, and among the order-only ones
@@ -60,6 +60,10 @@ not_one (s ∷ []) = None
 not_one (s ∷ r ∷ ss) = Some (Ambiguous (length (s ∷ r ∷ ss)))
 
 abbrev pub absent : List ClassedLine → Edit → Option Refusal
+absent ls (RemoveWord nth n w) =
+    where_holds
+    (not (assignment_passes (has_value_word w) (class_found (found ls (Variable nth n)))))
+    Absent
 absent ls (RemovePrereq nth t w) =
     where_holds
     (not (header_passes (λ h. is_normal w h || is_order_only w h) (rule_class_found ls nth t)))

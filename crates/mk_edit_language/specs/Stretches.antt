@@ -7,7 +7,7 @@ use Rattle.mk_class.specs.Classes.{is_recipe}
 use Rattle.mk_class.specs.ClassedLines.{ClassedLine}
 use Rattle.mk_tree.specs.RecipeLines.{recipe_run, after_recipe, recipe_lines}
 use Rattle.mk_tree.specs.LineTexts.{StandingLine}
-use Rattle.mk_edit_language.specs.Edits.{Place, Bottom, BeforeVar, AfterVar, BeforeRule, Edit, SetValue, AppendValue, AddWord, AddAssign, RemoveAssign, AddRule, RemoveRule, AddPrereq, RemovePrereq, AddRecipe, SetRecipe, RemoveRecipe, InsertRecipe, SetRecipeByText, RemoveRecipeByText, RenameTarget}
+use Rattle.mk_edit_language.specs.Edits.{Place, Bottom, BeforeVar, AfterVar, BeforeRule, Edit, SetValue, AppendValue, AddWord, RemoveWord, AddAssign, RemoveAssign, AddRule, RemoveRule, AddPrereq, RemovePrereq, AddRecipe, SetRecipe, RemoveRecipe, InsertRecipe, SetRecipeByText, RemoveRecipeByText, RenameTarget}
 use Rattle.mk_edit_language.specs.Spots.{spots, nth_of}
 use Rattle.mk_edit_language.specs.Addresses.{Variable, Rule, found}
 
@@ -143,6 +143,7 @@ abbrev pub touched_by : List ClassedLine → Edit → Option Stretch
 touched_by ls (SetValue nth n v) = option_map this_line (found ls (Variable nth n))
 touched_by ls (AppendValue nth n v) = option_map this_line (found ls (Variable nth n))
 touched_by ls (AddWord nth n w) = option_map this_line (found ls (Variable nth n))
+touched_by ls (RemoveWord nth n w) = option_map this_line (found ls (Variable nth n))
 touched_by ls (AddPrereq order nth t w) = option_map this_line (found ls (Rule nth t))
 touched_by ls (RemovePrereq nth t w) = option_map this_line (found ls (Rule nth t))
 touched_by ls (SetRecipe nth t k c) = option_map this_line (recipe_found ls nth t k)

@@ -39,12 +39,21 @@ append_value_span v at a = record {
   new = if is_empty a.value then v else 32 ∷ v;
 }
 
--- the span in a line of this class; the line begins at this offset
+-- the spans in a line of this class; the line begins at this offset
+abbrev pub assignment_spans : (ℕ → Assignment Cell → List Replacement) → (line_start : ℕ)
+    → Class Cell → List Replacement
+assignment_spans f at (Assign a p) = f at a
+assignment_spans f at k = []
+
+-- the spans in an assignment's line
+abbrev pub value_spans : (ℕ → Assignment Cell → List Replacement) → StandingLine
+    → List Replacement
+value_spans f s = assignment_spans f (length (text_of s.above)) s.line.class
+
+-- the same, of one span
 abbrev pub assignment_span : (ℕ → Assignment Cell → Replacement) → (line_start : ℕ) → Class Cell
     → List Replacement
-assignment_span f at (Assign a p) = f at a ∷ []
-assignment_span f at k = []
+assignment_span f at k = assignment_spans (λ n a. f n a ∷ []) at k
 
--- the span in an assignment's line
 abbrev pub value_span : (ℕ → Assignment Cell → Replacement) → StandingLine → List Replacement
-value_span f s = assignment_span f (length (text_of s.above)) s.line.class
+value_span f s = value_spans (λ n a. f n a ∷ []) s

@@ -81,6 +81,17 @@ pub enum Edit<A: Allocator = Global> {
         /// The new word: a value that is not empty, without a blank outside a reference.
         word: Vec<u8, A>,
     },
+    /// Takes a word out of a variable's value, wherever it stands there. It goes with the blanks
+    /// before it; a word before which no word stays goes with the blanks after it. If no word stays,
+    /// the blanks after the value go too.
+    RemoveWord {
+        /// Which of the assignments of this name, from 1.
+        nth: Option<u32>,
+        /// The name of the variable.
+        name: Vec<u8, A>,
+        /// The word: a value that is not empty, without a blank outside a reference.
+        word: Vec<u8, A>,
+    },
     /// Puts in the line of an assignment.
     AddAssign {
         /// Where the line goes.

@@ -11,6 +11,7 @@ pub mod outside;
 /// |---|---|
 /// | a value set | the assignment has this value; where the new one is empty and a fold is left without its next line, one lone backslash |
 /// | a text appended | the assignment has the old value, a space and the text; no space where the old value is empty or its last byte is a fold |
+/// | a word taken out | the assignment has the old value without each such word and the blanks before it, or after it where no word stays before; where no word stays at all, what a value set to nothing gives |
 /// | a new assignment, a new rule, a new recipe line | its item comes in at its place |
 /// | an assignment or a recipe line removed | its item goes |
 /// | a rule removed | the items of its header and of its recipe lines go |

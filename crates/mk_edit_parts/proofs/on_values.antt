@@ -1,3 +1,6 @@
--- Lemmas. The value of an assignment's line.
+-- Lemmas. The value of an assignment's line, and its words.
 pub mod LastCells
 pub mod ValueCells
+pub mod BaredEnds
+pub mod StayingWords
+pub mod ValueBytes

@@ -8,6 +8,9 @@ pub mod Found
 pub mod LineRanges
 -- The recipe of a rule, and its edits
 pub mod RecipeWalks
+-- The words of a value
+pub mod SeenAssignments
+pub mod ValuePieces
 -- The words of a rule's line
 pub mod SeenHeaders
 pub mod WordCuts

@@ -31,7 +31,9 @@ pub fn bad_field<A: Allocator>(edit: &Edit<A>) -> Option<Field>
             bad_name_or(name, Field::Value, is_value(value))
         }
         Edit::AppendValue { name, value, .. } => bad_name_or(name, Field::Value, is_tail(value)),
-        Edit::AddWord { name, word, .. } => bad_name_or(name, Field::Word, is_value_word(word)),
+        Edit::AddWord { name, word, .. } | Edit::RemoveWord { name, word, .. } => {
+            bad_name_or(name, Field::Word, is_value_word(word))
+        }
         Edit::RemoveAssign { name, .. } => failed(Field::Name, is_name(name)),
         Edit::AddRule {
             targets,
@@ -224,6 +226,7 @@ pub fn is_reserved<A: Allocator>(edit: &Edit<A>) -> bool
         Edit::SetValue { name, .. }
         | Edit::AppendValue { name, .. }
         | Edit::AddWord { name, .. }
+        | Edit::RemoveWord { name, .. }
         | Edit::RemoveAssign { name, .. } => is_prefix_name(name),
         Edit::AddAssign { place, name, .. } => is_prefix_name(name) || is_reserved_place(place),
         Edit::AddRule { place, targets, .. } => has_reserved_word(targets)

@@ -18,6 +18,8 @@
 //! - [`line_end`]: the line ends of new lines.
 //! - [`new_line`]: the text of new lines.
 //! - [`prerequisite`]: the prerequisites in the line of a rule.
+//! - `raw_part`: the raw bytes of a part of a line, for the modules of this crate.
+//! - [`value_words`]: the words of a value, and the line without one of them.
 //! - [`recipe`]: the recipe of a rule, by a walk down from its header.
 //! - [`recipe_text`]: the recipe lines that have a text.
 //! - [`word_parts`]: the words of a line that a rename replaces.
@@ -37,11 +39,13 @@ pub mod new_line;
 pub mod place;
 pub mod prerequisite;
 pub mod range;
+mod raw_part;
 pub mod recipe;
 pub mod recipe_text;
 pub mod renamed_line;
 pub mod seek;
 pub mod tally;
 pub mod text;
+pub mod value_words;
 pub mod window;
 pub mod word_parts;

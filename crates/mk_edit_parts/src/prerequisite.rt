@@ -1,8 +1,8 @@
 //! The prerequisites in the line of a rule: whether a word is one of them, and the line with one
 //! more or one fewer.
-ghost use Rattle.std.specs.Prelude.{◌≡◌, ◌≤◌, ◌<◌, ◌+◌, ◌++◌, ◌^◌, ◌&&◌, ◌==◌, not, if◌then◌else◌, length, drop, IfOk, IsOk};
+ghost use Rattle.std.specs.Prelude.{◌≡◌, ◌≤◌, ◌<◌, ◌+◌, ◌++◌, ◌^◌, ◌&&◌, ◌==◌, not, if◌then◌else◌, length, IfOk, IsOk};
 ghost use Rattle.mk_lines.specs.PhysicalLines.{line_end, line_end_bytes};
-ghost use Rattle.mk_lines.specs.Cells.{Cell, line_cells, joined_text, raw_text};
+ghost use Rattle.mk_lines.specs.Cells.{Cell, line_cells, joined_text};
 ghost use Rattle.mk_lines.specs.Pieces.{new_bytes};
 ghost use Rattle.mk_lines.specs.Ranges.{text_at, word_ranges};
 ghost use Rattle.mk_class.specs.Headers;
@@ -12,9 +12,10 @@ ghost use Rattle.mk_edit_language.specs.WordPieces.{add_pieces, remove_pieces};
 ghost use Rattle.mk_tree.specs.LocatedLines.{text_of_line};
 ghost use Rattle.mk_edit_parts.specs.SeenHeaders.{HasHeader, IsHeaderSeen};
 ghost use Rattle.mk_class.specs.LineParts.{order_only_span, normal_span};
-ghost use Rattle.mk_edit_parts.specs.WordCuts.{raw_between, without_words};
+ghost use Rattle.mk_edit_parts.specs.WordCuts.{without_words};
 ghost use Rattle.mk_edit_parts.specs.NewPrerequisites.{after_new, before_new, new_word_text, part_of_new, offset_of_new, words_end};
 
+use crate::raw_part::{raw_part, raw_rest};
 use crate::text::{has_word, is_same_text};
 use mk_class::Header;
 use mk_lines::split::Span;
@@ -66,28 +67,6 @@ fn order_only(header: Header) -> Span
         start,
         end: header.head_end,
     }
-}
-
-// The raw bytes of a range of a line's joined text.
-fn raw_part<A: Allocator>(line: &Line<A>, span: Span) -> &[u8]
-    requires rises { span.start ≤ span.end }
-    requires within { span.end ≤ length (line_cells (line_view line.now).bytes) }
-    ensures { result.now ≡ raw_between (line_cells (line_view line.now).bytes) span.start span.end }
-{
-    part(line.bytes(), line.raw_range(span.start, span.end))
-}
-
-// The raw bytes of a line from an offset in its joined text on, with its line end.
-fn raw_rest<A: Allocator>(line: &Line<A>, start: usize) -> &[u8]
-    requires within { start ≤ length (line_cells (line_view line.now).bytes) }
-    ensures { result.now
-        ≡ raw_text (drop start (line_cells (line_view line.now).bytes))
-        ++ line_end_bytes (line_end (line_view line.now).bytes) }
-{
-    let bytes = line.bytes();
-    let start = line.raw_range(start, start).start;
-    let end = bytes.len();
-    part(bytes, Span { start, end })
 }
 
 // ---- a new prerequisite

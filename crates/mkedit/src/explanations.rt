@@ -13,8 +13,8 @@ its end, and no reference that is not closed, such as `$(X`. With `append` it is
 `target`, `word`, `old` and `new` are one word each, without a blank outside a reference. `targets`
 and `prereqs` are such words, and `targets` is not empty. Outside a reference no word has a `#`,
 colon, semicolon, equals sign, vertical bar, backslash or lone `$`, and each reference is closed. No
-target ends in `&`. `place` has such a name or such a target in it. With `add`, `word` is a word of a
-value: it is what `value` has to be, and is not empty.
+target ends in `&`. `place` has such a name or such a target in it. With `add` and `drop`, `word` is a
+word of a value: it is what `value` has to be, and is not empty.
 `line` does not end in a backslash, and neither does `old` of `recipe-replace` and `recipe-remove`,
 which is no word. No field has a CR or a NUL.
 
@@ -104,8 +104,9 @@ line use `recipe-set` or `recipe-del`, which go by number.
 ";
 
 const ABSENT: &str = "\
-The word to take out is no prerequisite of the rule, the rule has no K-th recipe line, or none whose
-text is OLD. For `recipe-insert` K may be one more than the number of recipe lines.
+The word to take out is no prerequisite of the rule, or no word of the value; the rule has no K-th
+recipe line, or none whose text is OLD. For `recipe-insert` K may be one more than the number of
+recipe lines.
 
 Example: over
     hello: main.o
@@ -114,7 +115,7 @@ the script
 is reported as
     1: refused 6 Absent
 
-Look with `mkedit rules`. A recipe after a semicolon has no number: `mkedit rules` counts it,
+Look with `mkedit rules` or `mkedit vars`. A recipe after a semicolon has no number: `mkedit rules` counts it,
 and no edit reaches it. Edit it by hand.
 ";
 
@@ -181,7 +182,9 @@ refused.
 const OPEN_VALUE: &str = "\
 The value to append to has a reference that is not closed, or ends in a lone `$` or a lone
 backslash. The new text would become a part of that reference, or would be read together with that
-byte. With `add`, the value may not end in a fold either.
+byte. With `add`, the value may not end in a fold either. `drop` is refused in both
+cases too; and where the word directly before one that would go ends in a backslash, or in a blank
+that belongs to a `$` or a backslash: what follows could be read together with that end.
 
 Example: over
     SOURCES = $(wildcard *.c

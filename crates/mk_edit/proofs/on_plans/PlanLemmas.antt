@@ -10,7 +10,7 @@ use Rattle.mk_tree.specs.Documents.{IsFaithful, document_lines, context_of}
 use Rattle.mk_tree.specs.LineTexts.{line_in}
 use Rattle.mk_tree.specs.LocatedLines.{LocatedLine, located_line, located_lines, located_text, size_of}
 use Rattle.mk_tree.proofs.on_documents.DocumentLemmas.{faithful-own}
-use Rattle.mk_edit_language.specs.Edits.{Edit, SetValue, AppendValue, AddWord, AddAssign, AddRule, AddPrereq, RemovePrereq, AddRecipe, SetRecipe, InsertRecipe, SetRecipeByText}
+use Rattle.mk_edit_language.specs.Edits.{Edit, SetValue, AppendValue, AddWord, RemoveWord, AddAssign, AddRule, AddPrereq, RemovePrereq, AddRecipe, SetRecipe, InsertRecipe, SetRecipeByText}
 use Rattle.mk_edit_language.specs.Stretches.{Stretch, between, insertion, touched_by}
 use Rattle.mk_edit_language.specs.Costs.{cost, size}
 use Rattle.mk_edit_language.specs.EditedLines.{edited_bytes, new_line_bytes}
@@ -97,6 +97,7 @@ pub changes-one : (t : List ℕ) (e : Edit) (rs : List Replacement) (s : Stretch
 changes-one t (SetValue nth n v) rs s m h few k = record { cost_is = refl; size_is = refl }
 changes-one t (AppendValue nth n v) rs s m h few k = record { cost_is = refl; size_is = refl }
 changes-one t (AddWord nth n w) rs s m h few k = record { cost_is = refl; size_is = refl }
+changes-one t (RemoveWord nth n w) rs s m h few k = record { cost_is = refl; size_is = refl }
 changes-one t (AddPrereq order nth g w) rs s m h few k = record { cost_is = refl; size_is = refl }
 changes-one t (RemovePrereq nth g w) rs s m h few k = record { cost_is = refl; size_is = refl }
 changes-one t (SetRecipe nth g n c) rs s m h few k = record { cost_is = refl; size_is = refl }

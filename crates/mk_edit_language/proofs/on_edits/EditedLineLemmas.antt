@@ -12,7 +12,7 @@ use Rattle.mk_class.specs.ClassedLines.{classed, classed_lines}
 use Rattle.mk_tree.specs.Documents.{text_of, context_of, AreUnconditional}
 use Rattle.mk_tree.specs.LineTexts.{line_in}
 use Rattle.mk_tree.proofs.on_documents.LinesInText.{line-in_text}
-use Rattle.mk_edit_language.specs.Edits.{Edit, SetValue, AppendValue, AddWord, AddAssign, RemoveAssign, AddRule, RemoveRule, AddPrereq, RemovePrereq, AddRecipe, SetRecipe, RemoveRecipe, InsertRecipe, SetRecipeByText, RemoveRecipeByText, RenameTarget}
+use Rattle.mk_edit_language.specs.Edits.{Edit, SetValue, AppendValue, AddWord, RemoveWord, AddAssign, RemoveAssign, AddRule, RemoveRule, AddPrereq, RemovePrereq, AddRecipe, SetRecipe, RemoveRecipe, InsertRecipe, SetRecipeByText, RemoveRecipeByText, RenameTarget}
 use Rattle.mk_edit_language.specs.Stretches.{Stretch, insertion, touched_by}
 use Rattle.mk_edit_language.specs.EditedLines.{respanned_bytes, edited_bytes, edited_lines}
 use Rattle.mk_edit_language.specs.Refusals.{spans, text_after}
@@ -28,6 +28,7 @@ place-kept : (t : List ℕ) (e : Edit) (rs : List Replacement) (s : Stretch) →
 place-kept t (SetValue nth n v) rs s p h = edits-keep (SetValue nth n v) t rs h
 place-kept t (AppendValue nth n v) rs s p h = edits-keep (AppendValue nth n v) t rs h
 place-kept t (AddWord nth n w) rs s p h = edits-keep (AddWord nth n w) t rs h
+place-kept t (RemoveWord nth n w) rs s p h = edits-keep (RemoveWord nth n w) t rs h
 place-kept t (AddAssign q n f v) rs s p h = edits-keep (AddAssign q n f v) t rs h
 place-kept t (RemoveAssign nth n) rs s p h = edits-keep (RemoveAssign nth n) t rs h
 place-kept t (AddRule q ts c ws) rs s p h = edits-keep (AddRule q ts c ws) t rs h

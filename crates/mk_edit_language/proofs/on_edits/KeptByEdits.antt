@@ -22,11 +22,12 @@ use Rattle.mk_tree.proofs.on_documents.LinesInText.{line-in_text, context_of-las
 use Rattle.mk_tree.specs.NewLineEnds.{above_ended, missing_line_end}
 use Rattle.mk_tree.proofs.on_changes.RecipeRunLemmas.{recipe_run-stays, rule-agrees, assign-agrees, recipe-agrees}
 use Rattle.mk_tree.specs.LineTexts.{StandingLine}
-use Rattle.mk_edit_language.specs.Edits.{Edit, Place, SetValue, AppendValue, AddWord, AddAssign, RemoveAssign, AddRule, RemoveRule, AddPrereq, RemovePrereq, AddRecipe, SetRecipe, RemoveRecipe, InsertRecipe}
+use Rattle.mk_edit_language.specs.Edits.{Edit, Place, SetValue, AppendValue, AddWord, RemoveWord, AddAssign, RemoveAssign, AddRule, RemoveRule, AddPrereq, RemovePrereq, AddRecipe, SetRecipe, RemoveRecipe, InsertRecipe}
 use Rattle.mk_edit_language.specs.Addresses.{Variable, Rule, found}
 use Rattle.mk_edit_language.specs.Stretches.{Stretch, this_line, whole_rule, between, insertion, removal, touched_by}
 use Rattle.mk_edit_language.specs.NewLines.{assign_text, new_text, new_line_span}
-use Rattle.mk_edit_language.specs.ValueSpans.{set_value_span, append_value_span, value_span, assignment_span}
+use Rattle.mk_edit_language.specs.ValueSpans.{set_value_span, append_value_span, value_span, value_spans, assignment_spans}
+use Rattle.mk_edit_language.specs.ValueWords.{remove_word_spans}
 use Rattle.mk_edit_language.specs.WordPieces.{add_pieces, remove_pieces}
 use Rattle.mk_edit_language.specs.EditSpans.{removed_span, recipe_span, header_spans, word_spans, where_found}
 use Rattle.mk_edit_language.specs.RuleCauses.{has_conditional}
@@ -41,6 +42,7 @@ use Rattle.mk_edit_language.proofs.on_values.SetValueLemmas.{not_prefix}
 use Rattle.mk_edit_language.proofs.on_values.LastFoldLemmas.{set_value-replaced}
 use Rattle.mk_edit_language.proofs.on_values.AppendValueLemmas.{append_value-line, closed-found}
 use Rattle.mk_edit_language.proofs.on_values.AddWordLemmas.{word-added, no_empty-word}
+use Rattle.mk_edit_language.proofs.on_values.RemoveWordLemmas.{word-removed, remove_word-line}
 use Rattle.mk_edit_language.proofs.on_prerequisites.NewWords.{word-is_new}
 use Rattle.mk_edit_language.proofs.on_prerequisites.HeaderEdits.{word_spans-header}
 use Rattle.mk_edit_language.proofs.on_prerequisites.AddPrereqLemmas.{add_prereq-line}
@@ -54,7 +56,7 @@ use Rattle.mk_edit_language.proofs.on_prerequisites.RemovePrereqLemmas.{remove_p
 use Rattle.mk_edit_language.proofs.on_recipes.RecipeLemmas.{set_recipe-line, add_recipe-stands, insert_recipe-stands}
 use Rattle.mk_edit_language.proofs.on_edits.EditPlaces.{rule-stretch}
 use Rattle.mk_edit_language.specs.RisingSpans.{Rise}
-use Rattle.mk_edit_language.proofs.on_edits.SpansRise.{RisesInAssignment, set_value-rises, append_value-rises, value-rises, spot-rises, rise-header, recipe-rises, old_length, add-length, remove-length}
+use Rattle.mk_edit_language.proofs.on_edits.SpansRise.{RiseInAssignment, RisesInAssignment, set_value-rises, append_value-rises, remove_word-rises, values-rise, spot-rises, rise-header, recipe-rises, old_length, add-length, remove-length}
 use Rattle.mk_edit_language.specs.EditedLines.{new_line_bytes, respanned_bytes, edited_bytes}
 use Rattle.mk_edit_language.specs.KeptLines.{AreOthersKept}
 use Rattle.mk_edit_language.proofs.on_edits.KeptLineLemmas.{replaced-kept, stretch-kept, new_line-kept}
@@ -122,18 +124,25 @@ remove_rule-keeps nth g t rs h =
 
 -- ---- a line replaced
 
--- an assignment's line with a span of it replaced
+-- an assignment's line with spans of it replaced
+values-keep : (t n : List ℕ) (nth : Option ℕ) (e : Edit) (rs : List Replacement) (f : ℕ → Assignment Cell → List Replacement) (i : Item) (F : FoundAssignment t n nth) → RiseInAssignment f → spans t e ≡ Ok rs
+    → where_found (value_spans f) (found (classed_lines t) (Variable nth n)) ≡ rs → IsLineReplaced (replaced 0 t (f (length (text_of F.spot.above)) F.assigned)) F.spot.above F.spot.below i
+    → touched_by (classed_lines t) e ≡ Some (this_line F.spot) → insertion (classed_lines t) e ≡ None → edited_bytes t e (this_line F.spot) rs ≡ respanned_bytes (this_line F.spot) rs ∷ []
+    → 1 ≤ cost t e → 1 ≤ size t e → AreOthersKept t e rs
+values-keep t n nth e rs f i F g h w r p q d c z =
+    let s = F.spot in
+    let at = length (text_of s.above) in
+    let x : assignment_spans f at s.line.class ≡ rs = subst (λ (o : Option StandingLine). where_found (value_spans f) o ≡ rs) F.found_is w in
+    let y : f at F.assigned ≡ rs = subst (λ (k : Class Cell). assignment_spans f at k ≡ rs) F.class_is x in
+    replaced-kept t e rs s i h p F.whole (replaced-same _ _ s.above s.below i i (ap (replaced 0 t) y) refl r) (subst (Rise at (at + length s.line.bytes)) x (values-rise t s f F.whole g)) q d c z
+    (unconditional-class s.line.class (Class.Assign F.assigned None) F.class_is refl)
+
+-- one span
 value-keeps : (t n : List ℕ) (nth : Option ℕ) (e : Edit) (rs : List Replacement) (f : ℕ → Assignment Cell → Replacement) (i : Item) (F : FoundAssignment t n nth) → RisesInAssignment f → spans t e ≡ Ok rs
     → where_found (value_span f) (found (classed_lines t) (Variable nth n)) ≡ rs → IsLineReplaced (replaced 0 t (f (length (text_of F.spot.above)) F.assigned ∷ [])) F.spot.above F.spot.below i
     → touched_by (classed_lines t) e ≡ Some (this_line F.spot) → insertion (classed_lines t) e ≡ None → edited_bytes t e (this_line F.spot) rs ≡ respanned_bytes (this_line F.spot) rs ∷ []
     → 1 ≤ cost t e → 1 ≤ size t e → AreOthersKept t e rs
-value-keeps t n nth e rs f i F g h w r p q d c z =
-    let s = F.spot in
-    let at = length (text_of s.above) in
-    let x : assignment_span f at s.line.class ≡ rs = subst (λ (o : Option StandingLine). where_found (value_span f) o ≡ rs) F.found_is w in
-    let y : f at F.assigned ∷ [] ≡ rs = subst (λ (k : Class Cell). assignment_span f at k ≡ rs) F.class_is x in
-    replaced-kept t e rs s i h p F.whole (replaced-same _ _ s.above s.below i i (ap (replaced 0 t) y) refl r) (subst (Rise at (at + length s.line.bytes)) x (value-rises t s f F.whole g)) q d c z
-    (unconditional-class s.line.class (Class.Assign F.assigned None) F.class_is refl)
+value-keeps t n nth e rs f i F g h w r p q d c z = values-keep t n nth e rs (λ m a. f m a ∷ []) i F g h w r p q d c z
 
 -- another value
 pub set_value-keeps : (nth : Option ℕ) (n v t : List ℕ) (rs : List Replacement) → spans t (SetValue nth n v) ≡ Ok rs → AreOthersKept t (SetValue nth n v) rs
@@ -169,6 +178,16 @@ add_word-keeps nth n (b ∷ w) t rs h =
     let s = F.spot in
     value-keeps t n nth (AddWord nth n (b ∷ w)) rs (append_value_span (b ∷ w)) _ F (append_value-rises (b ∷ w)) h A.spans_are
     (append_value-line t s.above s.line s.below F.assigned b w F.whole F.class_is F.no_prefix W.value W.closed F.assigned.value refl) (ap (option_map this_line) F.found_is) refl refl (omega arith) (omega arith)
+
+-- a word taken out of a value
+pub remove_word-keeps : (nth : Option ℕ) (n w t : List ℕ) (rs : List Replacement) → spans t (RemoveWord nth n w) ≡ Ok rs → AreOthersKept t (RemoveWord nth n w) rs
+remove_word-keeps nth n w t rs h =
+    let A = accepted t (RemoveWord nth n w) rs h in
+    let W = word-removed t n w nth rs A in
+    let F = W.found_value in
+    let s = F.spot in
+    values-keep t n nth (RemoveWord nth n w) rs (remove_word_spans w) _ F (remove_word-rises w) h A.spans_are
+    (remove_word-line t s.above s.line s.below F.assigned w F.whole F.class_is F.no_prefix W.value W.closed W.not_bared) (ap (option_map this_line) F.found_is) refl refl (omega arith) (omega arith)
 
 -- a recipe line with another command
 pub set_recipe-keeps : (nth : Option ℕ) (g : List ℕ) (k : ℕ) (c t : List ℕ) (rs : List Replacement) → spans t (SetRecipe nth g k c) ≡ Ok rs → AreOthersKept t (SetRecipe nth g k c) rs

@@ -8,8 +8,8 @@ use Rattle.mk_lines.specs.PhysicalLines.{line_end, line_end_bytes, without_line_
 use Rattle.mk_lines.proofs.on_lines.LineEndLemmas.{without_line_end-line_end}
 use Rattle.mk_lines.proofs.on_lists.ListLemmas.{concat-append, trim_end-trailing}
 use Rattle.mk_lines.specs.Cells.{Cell, joined_byte, raw_text}
-use Rattle.mk_lines.specs.Words.{tokens, is_gap}
-use Rattle.mk_lines.proofs.on_units.TokenLemmas.{token_text-tokens}
+use Rattle.mk_lines.specs.Words.{Token, Gap, Word, tokens, token_units, is_gap}
+use Rattle.mk_lines.proofs.on_units.TokenLemmas.{token_text-tokens, token_units-tokens}
 use Rattle.mk_lines.specs.Pieces.{Replacement, Piece, old_cells, old_bytes, replacements}
 use Rattle.mk_lines.proofs.on_lists.PieceLemmas.{raw_text-old_cells, old_bytes-append}
 use Rattle.mk_class.specs.ListTests.{is_empty}
@@ -30,11 +30,13 @@ use Rattle.mk_tree.specs.Documents.{text_of, context_of}
 use Rattle.mk_tree.proofs.on_documents.LinesInText.{line-in_text, run-in_text, AreClassed, AreClassed-class, AreClassed-tail, AreClassed-lines}
 use Rattle.mk_tree.proofs.on_documents.DocumentLemmas.{text_of-classed_lines}
 use Rattle.mk_tree.specs.LineTexts.{StandingLine}
-use Rattle.mk_edit_language.specs.Edits.{Edit, SetValue, AppendValue, AddWord, AddAssign, RemoveAssign, AddRule, RemoveRule, AddPrereq, RemovePrereq, AddRecipe, SetRecipe, RemoveRecipe, InsertRecipe, SetRecipeByText, RemoveRecipeByText, RenameTarget}
+use Rattle.mk_edit_language.specs.Edits.{Edit, SetValue, AppendValue, AddWord, RemoveWord, AddAssign, RemoveAssign, AddRule, RemoveRule, AddPrereq, RemovePrereq, AddRecipe, SetRecipe, RemoveRecipe, InsertRecipe, SetRecipeByText, RemoveRecipeByText, RenameTarget}
 use Rattle.mk_edit_language.specs.Addresses.{Variable, Rule, found}
 use Rattle.mk_edit_language.specs.Stretches.{Stretch, insertion, removal, recipe_found, IsStretchOf, text_number}
 use Rattle.mk_edit_language.specs.NewLines.{new_line_span}
-use Rattle.mk_edit_language.specs.ValueSpans.{value_span, set_value_span, append_value_span, assignment_span}
+use Rattle.mk_edit_language.specs.ValueSpans.{value_start, value_span, value_spans, set_value_span, append_value_span, assignment_span, assignment_spans}
+use Rattle.mk_edit_language.specs.ValueWords.{LedWord, led_words_among, led_words, staying, led_units, from_first_word, remove_word_pieces, remove_word_spans}
+use Rattle.mk_edit_language.proofs.on_values.RemoveWordLemmas.{remove_word-old}
 use Rattle.mk_edit_language.specs.WordPieces.{add_pieces, remove_pieces, rename_pieces, renamed_pieces, header_pieces, kept, put_last, prerequisite_text, removed_words, renamed_words}
 use Rattle.mk_edit_language.proofs.on_prerequisites.WordsRemoved.{removed-old_cells}
 use Rattle.mk_edit_language.specs.EditSpans.{removed_span, header_spans, word_spans, renamed_spans, recipe_span, where_found, spans_of}
@@ -93,8 +95,11 @@ assignment-length a =
     ap raw_width s ∙ (raw_width-append (before_value a) (a.value ++ a.after) ∙ ap (λ z. raw_width (before_value a) + z) (raw_width-append a.value a.after))
 
 -- spans that rise within each line which has an assignment
+abbrev pub RiseInAssignment : (ℕ → Assignment Cell → List Replacement) → Type 0
+RiseInAssignment f = (at : ℕ) (a : Assignment Cell) (n : ℕ) → raw_width (assignment_units a) ≤ n → Rise at (at + n) (f at a)
+
 abbrev pub RisesInAssignment : (ℕ → Assignment Cell → Replacement) → Type 0
-RisesInAssignment f = (at : ℕ) (a : Assignment Cell) (n : ℕ) → raw_width (assignment_units a) ≤ n → Rise at (at + n) (f at a ∷ [])
+RisesInAssignment f = RiseInAssignment (λ n a. f n a ∷ [])
 
 -- the value that is set
 pub set_value-rises : (v : List ℕ) → RisesInAssignment (set_value_span v)
@@ -109,26 +114,62 @@ set_value-rises v at a n h = go (is_empty v) (assignment-length a)
 pub append_value-rises : (v : List ℕ) → RisesInAssignment (append_value_span v)
 append_value-rises v at a n h = let e = assignment-length a in (omega arith, omega arith, omega (arith, e, h))
 
+-- the words that go
+led-width : (g : List (List Cell)) (ts : List (Token Cell)) → raw_width (led_units (led_words_among g ts)) ≤ raw_width (g ++ token_units ts)
+led-width g [] = omega arith
+led-width g (Gap u ∷ ts) = subst (λ z. raw_width (led_units (led_words_among (g ++ u ∷ []) ts)) ≤ raw_width z) (append_assoc g (u ∷ []) (token_units ts)) (led-width (g ++ u ∷ []) ts)
+led-width g (Word w ∷ ts) =
+    let X = led_units (led_words_among [] ts) in
+    let p = raw_width-append g (w ++ X) in
+    let q = raw_width-append w X in
+    let r = raw_width-append g (w ++ token_units ts) in
+    let s = raw_width-append w (token_units ts) in
+    omega (arith, p, q, r, s, led-width [] ts)
+
+from_first-width : (ls : List LedWord) → raw_width (from_first_word ls) ≤ raw_width (led_units ls)
+from_first-width [] = omega arith
+from_first-width (l ∷ ls) = let p = raw_width-append l.gaps (l.word ++ led_units ls) in omega (arith, p)
+
+pub remove_word-rises : (w : List ℕ) → RiseInAssignment (remove_word_spans w)
+remove_word-rises w at a n h = go (is_empty (staying w (led_words a.value)))
+  where
+    ps : List Piece
+    ps = remove_word_pieces w (led_words a.value)
+
+    go : (b : Bool) → Rise at (at + n) (cond b (set_value_span [] at a ∷ []) (replacements (value_start at a) ps))
+    go true = set_value-rises [] at a n h
+    go false =
+        let start = value_start at a in
+        let r : Rise start (start + length (old_bytes ps)) (replacements start ps) = Rise-pieces start ps in
+        let e : length (old_bytes ps) ≡ raw_width (from_first_word (led_words a.value)) = ap length (sym (raw_text-old_cells ps)) ∙ ap (λ z. length (raw_text z)) (remove_word-old w (led_words a.value)) in
+        let d = led-width [] (tokens joined_byte a.value) in
+        let same : raw_width (token_units (tokens joined_byte a.value)) ≡ raw_width a.value = ap raw_width (token_units-tokens joined_byte a.value) in
+        let most : start + length (old_bytes ps) ≤ at + n = omega (arith, e, d, same, from_first-width (led_words a.value), assignment-length a, h) in
+        Rise-since at start (at + n) (replacements start ps) (Rise-until start (start + length (old_bytes ps)) (at + n) (replacements start ps) r most) (omega arith)
+
 -- spans that rise within a line, which begins at an offset and has n bytes, whatever its class
 abbrev RisesInLine : (ℕ → Class Cell → List Replacement) → Type 0
 RisesInLine f = (at n : ℕ) (k : Class Cell) → raw_width (part_units k) ≤ n → Rise at (at + n) (f at k)
 
+rise-values : (f : ℕ → Assignment Cell → List Replacement) → RiseInAssignment f → RisesInLine (assignment_spans f)
+rise-values f g at n (Assign a p) h = g at a n h
+rise-values f g at n Endef h = omega arith
+rise-values f g at n (Body d) h = omega arith
+rise-values f g at n Recipe h = omega arith
+rise-values f g at n Opaque h = omega arith
+rise-values f g at n Blank h = omega arith
+rise-values f g at n Comment h = omega arith
+rise-values f g at n (DefineHead b) h = omega arith
+rise-values f g at n If h = omega arith
+rise-values f g at n Else h = omega arith
+rise-values f g at n Endif h = omega arith
+rise-values f g at n Directive h = omega arith
+rise-values f g at n (TargetAssign x) h = omega arith
+rise-values f g at n Rough h = omega arith
+rise-values f g at n (Header x) h = omega arith
+
 rise-value : (f : ℕ → Assignment Cell → Replacement) → RisesInAssignment f → RisesInLine (assignment_span f)
-rise-value f g at n (Assign a p) h = g at a n h
-rise-value f g at n Endef h = omega arith
-rise-value f g at n (Body d) h = omega arith
-rise-value f g at n Recipe h = omega arith
-rise-value f g at n Opaque h = omega arith
-rise-value f g at n Blank h = omega arith
-rise-value f g at n Comment h = omega arith
-rise-value f g at n (DefineHead b) h = omega arith
-rise-value f g at n If h = omega arith
-rise-value f g at n Else h = omega arith
-rise-value f g at n Endif h = omega arith
-rise-value f g at n Directive h = omega arith
-rise-value f g at n (TargetAssign x) h = omega arith
-rise-value f g at n Rough h = omega arith
-rise-value f g at n (Header x) h = omega arith
+rise-value f g = rise-values (λ n a. f n a ∷ []) g
 
 -- spans in the line of a spot
 pub spot-rises : (t : List ℕ) (s : StandingLine) (f : ℕ → Class Cell → List Replacement) → IsSpotOf (classed_lines t) s → RisesInLine f
@@ -142,9 +183,13 @@ rise-spot t s f h g =
     Rise-since 0 at (length t) rs (Rise-until at (at + length s.line.bytes) (length t) rs (spot-rises t s f h g) (line-within t s h)) (omega arith)
 
 -- the spans of a value in the line of a spot
+pub values-rise : (t : List ℕ) (s : StandingLine) (f : ℕ → Assignment Cell → List Replacement) → IsSpotOf (classed_lines t) s → RiseInAssignment f
+    → Rise (length (text_of s.above)) (length (text_of s.above) + length s.line.bytes) (value_spans f s)
+values-rise t s f h g = spot-rises t s (assignment_spans f) h (rise-values f g)
+
 pub value-rises : (t : List ℕ) (s : StandingLine) (f : ℕ → Assignment Cell → Replacement) → IsSpotOf (classed_lines t) s → RisesInAssignment f
     → Rise (length (text_of s.above)) (length (text_of s.above) + length s.line.bytes) (value_span f s)
-value-rises t s f h g = spot-rises t s (assignment_span f) h (rise-value f g)
+value-rises t s f h g = values-rise t s (λ n a. f n a ∷ []) h g
 
 -- ---- words
 
@@ -305,6 +350,8 @@ spans-rise t (AppendValue nth n v) = rise-found t (value_span (append_value_span
     (λ s i. rise-spot t s (assignment_span (append_value_span v)) (found-spot (classed_lines t) (Variable nth n) s i) (rise-value (append_value_span v) (append_value-rises v)))
 spans-rise t (AddWord nth n w) = rise-found t (value_span (append_value_span w)) (found (classed_lines t) (Variable nth n))
     (λ s i. rise-spot t s (assignment_span (append_value_span w)) (found-spot (classed_lines t) (Variable nth n) s i) (rise-value (append_value_span w) (append_value-rises w)))
+spans-rise t (RemoveWord nth n w) = rise-found t (value_spans (remove_word_spans w)) (found (classed_lines t) (Variable nth n))
+    (λ s i. rise-spot t s (assignment_spans (remove_word_spans w)) (found-spot (classed_lines t) (Variable nth n) s i) (rise-values (remove_word_spans w) (remove_word-rises w)))
 spans-rise t (AddAssign p n f v) = rise-found t (new_line_span t (AddAssign p n f v)) (insertion (classed_lines t) (AddAssign p n f v))
     (λ s i. rise-inserted t (AddAssign p n f v) s (insertion-stretch (classed_lines t) (AddAssign p n f v) s i))
 spans-rise t (RemoveAssign nth n) = rise-found t removed_span (removal (classed_lines t) (RemoveAssign nth n)) (λ s i. rise-removed t s (removal-stretch (classed_lines t) (RemoveAssign nth n) s i))

@@ -6,11 +6,12 @@ use Rattle.mk_lines.specs.Pieces.{Replacement}
 use Rattle.mk_class.specs.ClassedLines.{classed_lines}
 use Rattle.mk_tree.specs.Documents.{text_of}
 use Rattle.mk_tree.specs.LineTexts.{StandingLine}
-use Rattle.mk_edit_language.specs.Edits.{Edit, SetValue, AppendValue, AddWord, AddAssign, RemoveAssign, AddRule, RemoveRule, AddPrereq, RemovePrereq, AddRecipe, SetRecipe, RemoveRecipe, InsertRecipe, SetRecipeByText, RemoveRecipeByText, RenameTarget}
+use Rattle.mk_edit_language.specs.Edits.{Edit, SetValue, AppendValue, AddWord, RemoveWord, AddAssign, RemoveAssign, AddRule, RemoveRule, AddPrereq, RemovePrereq, AddRecipe, SetRecipe, RemoveRecipe, InsertRecipe, SetRecipeByText, RemoveRecipeByText, RenameTarget}
 use Rattle.mk_edit_language.specs.Addresses.{Variable, Rule, found}
 use Rattle.mk_edit_language.specs.Stretches.{Stretch, this_line, bottom, insertion, removal, recipe_found, text_number, IsStretchOf}
 use Rattle.mk_edit_language.specs.NewLines.{new_line_span}
-use Rattle.mk_edit_language.specs.ValueSpans.{value_span, set_value_span, append_value_span}
+use Rattle.mk_edit_language.specs.ValueSpans.{value_span, value_spans, set_value_span, append_value_span}
+use Rattle.mk_edit_language.specs.ValueWords.{remove_word_spans}
 use Rattle.mk_edit_language.specs.WordPieces.{add_pieces, remove_pieces}
 use Rattle.mk_edit_language.specs.EditSpans.{removed_span, header_spans, word_spans, recipe_span, where_found, spans_of}
 use Rattle.mk_edit_language.specs.Costs.{size, line_count}
@@ -18,7 +19,7 @@ use Rattle.mk_edit_language.specs.Refusals.{spans}
 use Rattle.mk_edit_language.proofs.on_edits.Accepted.{accepted}
 use Rattle.mk_edit_language.specs.RisingSpans.{Rise}
 use Rattle.mk_edit_language.proofs.on_edits.EditPlaces.{IsSpotOf, found-spot, recipe_found-spot, recipe_found-recipe, insertion-stretch, removal-stretch}
-use Rattle.mk_edit_language.proofs.on_edits.SpansRise.{set_value-rises, append_value-rises, value-rises, spot-rises, recipe-rises, rise-header, add-length, remove-length}
+use Rattle.mk_edit_language.proofs.on_edits.SpansRise.{set_value-rises, append_value-rises, remove_word-rises, value-rises, values-rise, spot-rises, recipe-rises, rise-header, add-length, remove-length}
 use Rattle.mk_edit_language.specs.TouchedLines.{TouchFew, IsOfOnePlace}
 
 few-found : {A : Type 0} (t : List ℕ) (e : Edit) (f : A → List Replacement) (o : Option A) → ((x : A) → o ≡ Some x → TouchFew t e (f x)) → TouchFew t e (where_found f o)
@@ -59,6 +60,8 @@ few-of_one t (AppendValue nth n v) p = few-found t (AppendValue nth n v) (value_
     (λ s i. let w = found-spot (classed_lines t) (Variable nth n) s i in few-spot t (AppendValue nth n v) (value_span (append_value_span v) s) s w (value-rises t s (append_value_span v) w (append_value-rises v)) (omega arith))
 few-of_one t (AddWord nth n v) p = few-found t (AddWord nth n v) (value_span (append_value_span v)) (found (classed_lines t) (Variable nth n))
     (λ s i. let w = found-spot (classed_lines t) (Variable nth n) s i in few-spot t (AddWord nth n v) (value_span (append_value_span v) s) s w (value-rises t s (append_value_span v) w (append_value-rises v)) (omega arith))
+few-of_one t (RemoveWord nth n v) p = few-found t (RemoveWord nth n v) (value_spans (remove_word_spans v)) (found (classed_lines t) (Variable nth n))
+    (λ s i. let w = found-spot (classed_lines t) (Variable nth n) s i in few-spot t (RemoveWord nth n v) (value_spans (remove_word_spans v) s) s w (values-rise t s (remove_word_spans v) w (remove_word-rises v)) (omega arith))
 few-of_one t (AddAssign q n f v) p = few-found t (AddAssign q n f v) (new_line_span t (AddAssign q n f v)) (insertion (classed_lines t) (AddAssign q n f v))
     (λ s i. few-inserted t (AddAssign q n f v) s (insertion-stretch (classed_lines t) (AddAssign q n f v) s i))
 few-of_one t (AddRule q ts c ws) p = few-found t (AddRule q ts c ws) (new_line_span t (AddRule q ts c ws)) (insertion (classed_lines t) (AddRule q ts c ws))

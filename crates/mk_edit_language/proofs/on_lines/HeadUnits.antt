@@ -105,7 +105,7 @@ ordinary-kind Blank z h i j = cc
 ordinary-kind Ordinary z h i j = refl
 
 -- a cell that is not stray, no backslash and no blank is an ordinary byte
-ordinary-cell : (c : Cell) → has_stray (c ∷ []) ≡ false → is_backslash_kind (byte_kind (joined_byte c)) ≡ false → is_blank_kind (byte_kind (joined_byte c)) ≡ false
+pub ordinary-cell : (c : Cell) → has_stray (c ∷ []) ≡ false → is_backslash_kind (byte_kind (joined_byte c)) ≡ false → is_blank_kind (byte_kind (joined_byte c)) ≡ false
     → (b : ℕ) × (c ≡ Byte b) × (byte_kind b ≡ Ordinary)
 ordinary-cell (Byte b) h i j = (b, refl, ordinary-kind (byte_kind b) (b == 0) ((or_parts (is_stray_by (byte_kind b) (b == 0)) false h).0) i j)
 ordinary-cell (Fold r) h i j = cc

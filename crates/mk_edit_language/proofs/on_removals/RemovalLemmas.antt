@@ -19,7 +19,7 @@ use Rattle.mk_tree.proofs.on_changes.RecipeRunLemmas.{recipe_run-after, recipe_r
 use Rattle.mk_tree.specs.Leaning.{AgreeButForFlag}
 use Rattle.mk_tree.proofs.on_changes.LeaningLemmas.{agrees-self, agrees-then}
 use Rattle.mk_tree.specs.LineTexts.{StandingLine}
-use Rattle.mk_edit_language.specs.Edits.{Edit, SetValue, AppendValue, AddWord, AddAssign, RemoveAssign, AddRule, RemoveRule, AddPrereq, RemovePrereq, AddRecipe, SetRecipe, RemoveRecipe, InsertRecipe, SetRecipeByText, RemoveRecipeByText, RenameTarget}
+use Rattle.mk_edit_language.specs.Edits.{Edit, SetValue, AppendValue, AddWord, RemoveWord, AddAssign, RemoveAssign, AddRule, RemoveRule, AddPrereq, RemovePrereq, AddRecipe, SetRecipe, RemoveRecipe, InsertRecipe, SetRecipeByText, RemoveRecipeByText, RenameTarget}
 use Rattle.mk_edit_language.specs.Stretches.{Stretch, removal, this_line, whole_rule, text_number}
 use Rattle.mk_edit_language.specs.EditSpans.{removed_span, where_found}
 use Rattle.mk_edit_language.specs.RuleCauses.{has_conditional}
@@ -161,6 +161,7 @@ removed-lines (RemoveRecipe nth g number) t rs s h k = remove_recipe-lines t g n
 removed-lines (SetValue nth n v) t rs s h k = absurd (cc)
 removed-lines (AppendValue nth n v) t rs s h k = absurd (cc)
 removed-lines (AddWord nth n w) t rs s h k = absurd (cc)
+removed-lines (RemoveWord nth n w) t rs s h k = absurd (cc)
 removed-lines (AddAssign p n f v) t rs s h k = absurd (cc)
 removed-lines (AddRule p ts c ws) t rs s h k = absurd (cc)
 removed-lines (AddPrereq order nth g w) t rs s h k = absurd (cc)

@@ -195,12 +195,12 @@ no_cells [] us h = absurd (h refl)
 no_cells (c ∷ u) us h = (c, u ++ concat us, refl)
 
 -- the units of a value are those of its cells, and none is empty
-record AreValueUnits (l : List ℕ) (a : Assignment Cell) : Type 0 where
-  units_are : units joined_byte (concat a.value) ≡ a.value
-  not_empty : (u : List Cell) (us : List (List Cell)) → a.value ≡ u ∷ us → u ≡ [] → ⊥
-  no_hash : Each (is_no_hash joined_byte) a.value
+pub record AreValueUnits (l : List ℕ) (a : Assignment Cell) : Type 0 where
+  pub units_are : units joined_byte (concat a.value) ≡ a.value
+  pub not_empty : (u : List Cell) (us : List (List Cell)) → a.value ≡ u ∷ us → u ≡ [] → ⊥
+  pub no_hash : Each (is_no_hash joined_byte) a.value
 
-value-units : (l : List ℕ) (a : Assignment Cell) (p : AssignParts l a) → AreValueUnits l a
+pub value-units : (l : List ℕ) (a : Assignment Cell) (p : AssignParts l a) → AreValueUnits l a
 value-units l a p =
     let B = before_value a in
     let e : units joined_byte (line_cells l) ≡ B ++ (a.value ++ (a.after ++ p.rest)) = parts-units l a a.value a.after p refl in

@@ -362,7 +362,7 @@ set_value-left t A l B a h k f n =
     (replaced-line t A l B (raw_text P) (Assign m None) (item_with_value a (92 ∷ [])) h line.one ends class (ap (context_after c) (sym k)) refl refl)
 
 -- an assignment's line without its value
-set_value-to_nothing : (t : List ℕ) (A : List ClassedLine) (l : ClassedLine) (B : List ClassedLine) (a : Assignment Cell) → classed_lines t ≡ A ++ l ∷ B → l.class ≡ Assign a None
+pub set_value-to_nothing : (t : List ℕ) (A : List ClassedLine) (l : ClassedLine) (B : List ClassedLine) (a : Assignment Cell) → classed_lines t ≡ A ++ l ∷ B → l.class ≡ Assign a None
     → is_prefix_name (unit_text joined_byte a.name) ≡ false
     → IsLineReplaced (replaced 0 t (set_value_span [] (length (text_of A)) a ∷ [])) A B (item_with_value a (value_set t [] (length (text_of A)) a))
 set_value-to_nothing t A l B a h k f = go (leaves_fold_last t (set_value_span [] (length (text_of A)) a)) refl

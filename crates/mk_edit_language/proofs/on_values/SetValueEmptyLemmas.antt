@@ -101,7 +101,7 @@ cell-reset (Fold r) m h = refl
 cell-reset (LfEnd r) m h = cc
 cell-reset (CrLfEnd r) m h = cc
 
-before-resets : (a : Assignment Cell) → EndsPlain joined_byte a.operator → has_stray (concat (before_value a)) ≡ false → EndsReset (concat (before_value a))
+pub before-resets : (a : Assignment Cell) → EndsPlain joined_byte a.operator → has_stray (concat (before_value a)) ≡ false → EndsReset (concat (before_value a))
 before-resets a p h =
     let s = EndsPlain-split joined_byte a.operator p in
     let F = a.before ++ (a.name ++ s.0) in

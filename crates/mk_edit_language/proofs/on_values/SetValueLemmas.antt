@@ -24,7 +24,7 @@ use Rattle.mk_tree.proofs.on_documents.LinesInText.{line-in_text, bytes_of}
 use Rattle.mk_tree.specs.LineTexts.{StandingLine}
 use Rattle.mk_edit_language.specs.Edits.{SetValue}
 use Rattle.mk_edit_language.specs.Addresses.{Variable, found}
-use Rattle.mk_edit_language.specs.ValueSpans.{set_value_span, value_span, assignment_span, value_start, value_end}
+use Rattle.mk_edit_language.specs.ValueSpans.{set_value_span, value_span, value_spans, assignment_spans, value_start, value_end}
 use Rattle.mk_edit_language.specs.EditSpans.{where_found}
 use Rattle.mk_edit_language.specs.Refusals.{spans, text_by, text_after}
 use Rattle.mk_edit_language.specs.Changes.{change, item_with_value, value_item, with_value, with_items, value_set}
@@ -62,19 +62,25 @@ set_value-line t A l B a b v h k f i =
     (unit_text-units (map Byte (b ∷ v)) ∙ bytes-joined (b ∷ v)))
 
 -- what the law says, where the assignment is found
-pub value-found : (t n : List ℕ) (nth : Option ℕ) (rs : List Replacement) (span : ℕ → Assignment Cell → Replacement) (value : ℕ → Assignment Cell → List ℕ) → (F : FoundAssignment t n nth)
-    → IsLineReplaced (replaced 0 t (span (length (text_of F.spot.above)) F.assigned ∷ [])) F.spot.above F.spot.below (item_with_value F.assigned (value (length (text_of F.spot.above)) F.assigned))
-    → where_found (value_span span) (found (classed_lines t) (Variable nth n)) ≡ rs
+pub values-found : (t n : List ℕ) (nth : Option ℕ) (rs : List Replacement) (f : ℕ → Assignment Cell → List Replacement) (value : ℕ → Assignment Cell → List ℕ) → (F : FoundAssignment t n nth)
+    → IsLineReplaced (replaced 0 t (f (length (text_of F.spot.above)) F.assigned)) F.spot.above F.spot.below (item_with_value F.assigned (value (length (text_of F.spot.above)) F.assigned))
+    → where_found (value_spans f) (found (classed_lines t) (Variable nth n)) ≡ rs
     → reading (replaced 0 t rs) ≡ where_found (with_value value) (found (classed_lines t) (Variable nth n))
-value-found t n nth rs span value F r h =
+values-found t n nth rs f value F r h =
     let s = F.spot in
     let at = length (text_of s.above) in
-    let x : assignment_span span at s.line.class ≡ rs = subst (λ (z : Option StandingLine). where_found (value_span span) z ≡ rs) F.found_is h in
-    let y : span at F.assigned ∷ [] ≡ rs = subst (λ (z : Class Cell). assignment_span span at z ≡ rs) F.class_is x in
+    let x : assignment_spans f at s.line.class ≡ rs = subst (λ (z : Option StandingLine). where_found (value_spans f) z ≡ rs) F.found_is h in
+    let y : f at F.assigned ≡ rs = subst (λ (z : Class Cell). assignment_spans f at z ≡ rs) F.class_is x in
     let z : where_found (with_value value) (found (classed_lines t) (Variable nth n)) ≡ with_items (value_item value at s.line.class) s = ap (where_found (with_value value)) F.found_is in
     let w : with_items (value_item value at s.line.class) s ≡ items s.above ++ item_with_value F.assigned (value at F.assigned) ∷ items s.below =
     ap (λ (k : Class Cell). with_items (value_item value at k) s) F.class_is in
     ap (λ q. reading (replaced 0 t q)) (sym y) ∙ (r.reads ∙ (sym w ∙ sym z))
+
+pub value-found : (t n : List ℕ) (nth : Option ℕ) (rs : List Replacement) (span : ℕ → Assignment Cell → Replacement) (value : ℕ → Assignment Cell → List ℕ) → (F : FoundAssignment t n nth)
+    → IsLineReplaced (replaced 0 t (span (length (text_of F.spot.above)) F.assigned ∷ [])) F.spot.above F.spot.below (item_with_value F.assigned (value (length (text_of F.spot.above)) F.assigned))
+    → where_found (value_span span) (found (classed_lines t) (Variable nth n)) ≡ rs
+    → reading (replaced 0 t rs) ≡ where_found (with_value value) (found (classed_lines t) (Variable nth n))
+value-found t n nth rs span value F r h = values-found t n nth rs (λ m a. span m a ∷ []) value F r h
 
 -- an edit that names one variable and no target, and is not refused as Reserved, does not name the prefix
 pub not_prefix : (n : List ℕ) → where_holds ((is_prefix_name n || false) || false) Reserved ≡ None → is_prefix_name n ≡ false

@@ -5,7 +5,7 @@ use Rattle.std.specs.Prelude.{Err}
 use Rattle.mk_class.specs.Keywords.{is_reserved_word}
 use Rattle.mk_class.specs.RecipePrefix.{is_prefix_name}
 use Rattle.mk_class.specs.ClassedLines.{ClassedLine, classed_lines}
-use Rattle.mk_edit_language.specs.Edits.{Edit, SetValue, AppendValue, AddWord, AddAssign, RemoveAssign, AddRule, RemoveRule, AddPrereq, RemovePrereq, AddRecipe, SetRecipe, RemoveRecipe, InsertRecipe, SetRecipeByText, RemoveRecipeByText, RenameTarget}
+use Rattle.mk_edit_language.specs.Edits.{Edit, SetValue, AppendValue, AddWord, RemoveWord, AddAssign, RemoveAssign, AddRule, RemoveRule, AddPrereq, RemovePrereq, AddRecipe, SetRecipe, RemoveRecipe, InsertRecipe, SetRecipeByText, RemoveRecipeByText, RenameTarget}
 use Rattle.mk_edit_language.specs.Addresses.{address}
 use Rattle.mk_edit_language.specs.Causes.{where_holds}
 use Rattle.mk_edit_language.specs.ArgumentCauses.{bad_argument, reserved, names, targets}
@@ -29,6 +29,7 @@ same-no_such : (ls : List ClassedLine) (e : Edit) → IsOfOnePlace e → no_such
 same-no_such ls (SetValue nth n v) h = refl
 same-no_such ls (AppendValue nth n v) h = refl
 same-no_such ls (AddWord nth n w) h = refl
+same-no_such ls (RemoveWord nth n w) h = refl
 same-no_such ls (RemoveAssign nth n) h = refl
 same-no_such ls (AddAssign p n f v) h = refl
 same-no_such ls (AddRule p ts c ws) h = refl

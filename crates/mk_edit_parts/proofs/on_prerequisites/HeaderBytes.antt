@@ -79,7 +79,7 @@ raw-front cs X Y n h k = ap raw_text (ap (λ z. slice_range z 0 n) h ∙ slice-a
 raw-mid : (cs F X Y : List Cell) (s e : ℕ) → cs ≡ F ++ (X ++ Y) → s ≡ length F → e ≡ length F + length X → raw_between cs s e ≡ raw_text X
 raw-mid cs F X Y s e h i k = ap raw_text (ap (λ z. slice_range z s e) h ∙ slice-at s e F X Y i k)
 
-raw-back : (cs X Y : List Cell) (n : ℕ) → cs ≡ X ++ Y → n ≡ length X → raw_text (drop n cs) ≡ raw_text Y
+pub raw-back : (cs X Y : List Cell) (n : ℕ) → cs ≡ X ++ Y → n ≡ length X → raw_text (drop n cs) ≡ raw_text Y
 raw-back cs X Y n h k = ap raw_text (ap (drop n) h ∙ drop-at n X Y k)
 
 -- ---- one less

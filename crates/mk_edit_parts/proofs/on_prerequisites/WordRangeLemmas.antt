@@ -111,13 +111,74 @@ units-last_end us =
 
 -- What is done of a line's part, and what is not: the line's cells; the cells that are done; the gaps that are not done yet; the
 -- tokens that are still to come; and the cells after the part. The part's text is told by the cells of it that were seen.
-record IsCut (cs : List Cell) (start : ℕ) (t : List ℕ) (done k end : ℕ) (F G : List Cell) (ts : List (Token Cell)) (A P : List Cell) : Type 0 where
-  cells_are : cs ≡ F ++ (G ++ (token_text ts ++ A))
-  text_is : t ≡ map joined_byte (P ++ token_text ts)
-  done_is : done ≡ length F
-  seen_is : k ≡ length P
-  offset_is : start + k ≡ length F + length G
-  end_is : end ≡ length F + (length G + length (token_text ts))
+pub record IsCut (cs : List Cell) (start : ℕ) (t : List ℕ) (done k end : ℕ) (F G : List Cell) (ts : List (Token Cell)) (A P : List Cell) : Type 0 where
+  pub cells_are : cs ≡ F ++ (G ++ (token_text ts ++ A))
+  pub text_is : t ≡ map joined_byte (P ++ token_text ts)
+  pub done_is : done ≡ length F
+  pub seen_is : k ≡ length P
+  pub offset_is : start + k ≡ length F + length G
+  pub end_is : end ≡ length F + (length G + length (token_text ts))
+
+-- a part of which nothing is done
+pub part-cut : (cs : List Cell) (s e : ℕ) (b p : List (List Cell)) (F A : List Cell) → IsPart cs s e b p → cs ≡ F ++ (concat p ++ A) → s ≡ length F → e ≡ length F + width p
+    → IsCut cs s (text_at (joined_text cs) (record { start = s; end = e })) s 0 e F [] (tokens joined_byte p) A []
+part-cut cs s e b p F A h whole offset end =
+    let own : token_text (tokens joined_byte p) ≡ concat p = token_text-tokens joined_byte p in
+    record {
+      cells_are = whole ∙ ap (λ z. F ++ (z ++ A)) (sym own);
+      text_is = h.text_is ∙ ap (map joined_byte) (sym own);
+      done_is = offset;
+      seen_is = refl;
+      offset_is = omega (arith, offset);
+      end_is = omega (arith, end, ap length own);
+    }
+
+-- after a blank or a fold
+pub cut-gap : (cs : List Cell) (start : ℕ) (t : List ℕ) (done k end : ℕ) (F G u : List Cell) (ts : List (Token Cell)) (A P : List Cell) → IsCut cs start t done k end F G (Gap u ∷ ts) A P
+    → IsCut cs start t done (k + length u) end F (G ++ u) ts A (P ++ u)
+cut-gap cs start t done k end F G u ts A P C = record {
+  cells_are = C.cells_are ∙ simp append_assoc;
+  text_is = C.text_is ∙ ap (map joined_byte) (sym (append_assoc P u (token_text ts)));
+  done_is = C.done_is;
+  seen_is = omega (arith, C.seen_is, length-append P u);
+  offset_is = omega (arith, C.offset_is, length-append G u);
+  end_is = omega (arith, C.end_is, length-append G u, length-append u (token_text ts));
+}
+
+-- a word that comes next: its text, its raw bytes with the gaps before it and without them, and what is done after it
+pub record IsNextWord (cs : List Cell) (start : ℕ) (t : List ℕ) (done k end : ℕ) (F G : List Cell) (x : List (List Cell)) (ts : List (Token Cell)) (A P : List Cell) : Type 0 where
+  pub text_is : text_at t (record { start = k; end = k + length (concat x) }) ≡ map joined_byte (concat x)
+  pub led : raw_between cs done (start + (k + length (concat x))) ≡ raw_text (G ++ concat x)
+  pub own : raw_between cs (start + k) (start + (k + length (concat x))) ≡ raw_text (concat x)
+  pub rest : IsCut cs start t (start + (k + length (concat x))) (k + length (concat x)) end (F ++ (G ++ concat x)) [] ts A (P ++ concat x)
+
+pub cut-word : (cs : List Cell) (start : ℕ) (t : List ℕ) (done k end : ℕ) (F G : List Cell) (x : List (List Cell)) (ts : List (Token Cell)) (A P : List Cell) → IsCut cs start t done k end F G (Word x ∷ ts) A P
+    → IsNextWord cs start t done k end F G x ts A P
+cut-word cs start t done k end F G x ts A P C =
+    let X = concat x in
+    let J = map joined_byte in
+    let e = k + length X in
+    let whole : cs ≡ F ++ ((G ++ X) ++ (token_text ts ++ A)) = C.cells_are ∙ simp append_assoc in
+    let apart : cs ≡ (F ++ G) ++ (X ++ (token_text ts ++ A)) = C.cells_are ∙ simp append_assoc in
+    record {
+      text_is =
+          ap (λ z. slice_range z k e) (C.text_is ∙ (map-append joined_byte P (X ++ token_text ts) ∙ ap (λ z. J P ++ z) (map-append joined_byte X (token_text ts))))
+          ∙ slice-at k e (J P) (J X) (J (token_text ts)) (C.seen_is ∙ sym (length-map P joined_byte)) (omega (arith, C.seen_is, length-map P joined_byte, length-map X joined_byte));
+      led =
+          ap raw_text (ap (λ z. slice_range z done (start + e)) whole
+          ∙ slice-at done (start + e) F (G ++ X) (token_text ts ++ A) C.done_is (omega (arith, C.offset_is, length-append G X)));
+      own =
+          ap raw_text (ap (λ z. slice_range z (start + k) (start + e)) apart
+          ∙ slice-at (start + k) (start + e) (F ++ G) X (token_text ts ++ A) (omega (arith, C.offset_is, length-append F G)) (omega (arith, C.offset_is, length-append F G)));
+      rest = record {
+        cells_are = whole ∙ simp append_assoc;
+        text_is = C.text_is ∙ ap J (sym (append_assoc P X (token_text ts)));
+        done_is = omega (arith, C.offset_is, length-append F (G ++ X), length-append G X);
+        seen_is = omega (arith, C.seen_is, length-append P X);
+        offset_is = omega (arith, C.offset_is, length-append F (G ++ X), length-append G X);
+        end_is = omega (arith, C.end_is, length-append F (G ++ X), length-append G X, length-append X (token_text ts));
+      };
+    }
 
 without-one : (b : Bool) (r x R : List ℕ) (cs : List Cell) (ps : List Piece) → r ≡ raw_text cs → R ≡ new_bytes ps → (if b then [] else r) ++ R ≡ new_bytes ((if b then Replace cs [] else Keep cs) ∷ ps)
 without-one true r x R cs ps h k = k
@@ -129,36 +190,15 @@ without-tokens cs w start t done k end F G [] A P C =
     let s : slice_range cs done end ≡ G =
     ap (λ z. slice_range z done end) C.cells_are ∙ slice-at done end F G A C.done_is (omega (arith, C.end_is)) in
     ap raw_text s ∙ sym (append-nil (raw_text G))
-without-tokens cs w start t done k end F G (Gap u ∷ ts) A P C =
-    without-tokens cs w start t done (k + length u) end F (G ++ u) ts A (P ++ u) (record {
-      cells_are = C.cells_are ∙ simp append_assoc;
-      text_is = C.text_is ∙ ap (map joined_byte) (sym (append_assoc P u (token_text ts)));
-      done_is = C.done_is;
-      seen_is = omega (arith, C.seen_is, length-append P u);
-      offset_is = omega (arith, C.offset_is, length-append G u);
-      end_is = omega (arith, C.end_is, length-append G u, length-append u (token_text ts));
-    })
+without-tokens cs w start t done k end F G (Gap u ∷ ts) A P C = without-tokens cs w start t done (k + length u) end F (G ++ u) ts A (P ++ u) (cut-gap cs start t done k end F G u ts A P C)
 without-tokens cs w start t done k end F G (Word x ∷ ts) A P C =
     let X = concat x in
-    let J = map joined_byte in
     let e = k + length X in
-    let text : text_at t (record { start = k; end = e }) ≡ J X =
-    ap (λ z. slice_range z k e) (C.text_is ∙ (map-append joined_byte P (X ++ token_text ts) ∙ ap (λ z. J P ++ z) (map-append joined_byte X (token_text ts))))
-    ∙ slice-at k e (J P) (J X) (J (token_text ts)) (C.seen_is ∙ sym (length-map P joined_byte)) (omega (arith, C.seen_is, length-map P joined_byte, length-map X joined_byte)) in
-    let whole : cs ≡ F ++ ((G ++ X) ++ (token_text ts ++ A)) = C.cells_are ∙ simp append_assoc in
-    let raw : raw_between cs done (start + e) ≡ raw_text (G ++ X) =
-    ap raw_text (ap (λ z. slice_range z done (start + e)) whole ∙ slice-at done (start + e) F (G ++ X) (token_text ts ++ A) C.done_is (omega (arith, C.offset_is, length-append G X))) in
+    let N = cut-word cs start t done k end F G x ts A P C in
     let rest : without_words cs start t w (start + e) (word_token_ranges e ts) end ≡ new_bytes (removed_tokens w [] ts) =
-    without-tokens cs w start t (start + e) e end (F ++ (G ++ X)) [] ts A (P ++ X) (record {
-      cells_are = whole ∙ simp append_assoc;
-      text_is = C.text_is ∙ ap J (sym (append_assoc P X (token_text ts)));
-      done_is = omega (arith, C.offset_is, length-append F (G ++ X), length-append G X);
-      seen_is = omega (arith, C.seen_is, length-append P X);
-      offset_is = omega (arith, C.offset_is, length-append F (G ++ X), length-append G X);
-      end_is = omega (arith, C.end_is, length-append F (G ++ X), length-append G X, length-append X (token_text ts));
-    }) in
-    ap (λ z. (if bytes_eq z w then [] else raw_between cs done (start + e)) ++ without_words cs start t w (start + e) (word_token_ranges e ts) end) text
-    ∙ without-one (is_word_of w x) (raw_between cs done (start + e)) [] _ (G ++ X) (removed_tokens w [] ts) raw rest
+    without-tokens cs w start t (start + e) e end (F ++ (G ++ X)) [] ts A (P ++ X) N.rest in
+    ap (λ z. (if bytes_eq z w then [] else raw_between cs done (start + e)) ++ without_words cs start t w (start + e) (word_token_ranges e ts) end) N.text_is
+    ∙ without-one (is_word_of w x) (raw_between cs done (start + e)) [] _ (G ++ X) (removed_tokens w [] ts) N.led rest
 
 -- the bytes of a part without a word, by the ranges of its words, are those of the pieces that take it out
 pub part-without : (cs : List Cell) (w : List ℕ) (s e : ℕ) (b p : List (List Cell)) (F A : List Cell) → IsPart cs s e b p → cs ≡ F ++ (concat p ++ A) → s ≡ length F → e ≡ length F + width p
@@ -166,17 +206,8 @@ pub part-without : (cs : List Cell) (w : List ℕ) (s e : ℕ) (b p : List (List
     ≡ new_bytes (removed_tokens w [] (tokens joined_byte p))
 part-without cs w s e b p F A h whole offset end =
     let t = text_at (joined_text cs) (record { start = s; end = e }) in
-    let ts = tokens joined_byte p in
-    let own : token_text ts ≡ concat p = token_text-tokens joined_byte p in
     ap (λ z. without_words cs s t w s z e) (part-ranges cs s e b p h)
-    ∙ without-tokens cs w s t s 0 e F [] ts A [] (record {
-      cells_are = whole ∙ ap (λ z. F ++ (z ++ A)) (sym own);
-      text_is = h.text_is ∙ ap (map joined_byte) (sym own);
-      done_is = offset;
-      seen_is = refl;
-      offset_is = omega (arith, offset);
-      end_is = omega (arith, end, ap length own);
-    })
+    ∙ without-tokens cs w s t s 0 e F [] (tokens joined_byte p) A [] (part-cut cs s e b p F A h whole offset end)
 
 -- the words of a part
 pub part-words : (cs : List Cell) (s e : ℕ) (b p : List (List Cell)) → IsPart cs s e b p → words_in (text_at (joined_text cs) (record { start = s; end = e })) ≡ word_texts joined_byte p

@@ -30,7 +30,7 @@ pub assign-no_stray : (c : Context) (l : List ℕ) (a : Assignment Cell) (p : Op
 assign-no_stray c l a p h = or-left_false (has_stray (line_cells l)) _ (assign-line c l a p h).readable
 
 -- the parts of it
-assign-parts : (c : Context) (l : List ℕ) (a : Assignment Cell) (p : Option ℕ) → class_of c l ≡ Assign a p → AssignParts l a
+pub assign-parts : (c : Context) (l : List ℕ) (a : Assignment Cell) (p : Option ℕ) → class_of c l ≡ Assign a p → AssignParts l a
 assign-parts c l a p h = assign_parts l a (assign-line c l a p h)
 
 -- how many cells stand before the value

@@ -5,7 +5,7 @@ use Rattle.mk_class.specs.declared.assignment.Flavor.TheVariants.{Recursive, Sim
 use Rattle.mk_edit_language.specs.declared.edit.RuleSeparator.TheVariants.{Single, Double}
 use Rattle.mk_edit_language.specs.declared.refusal.Refusal.TheVariants.{BadArgument, Reserved, RecipePrefix, NoSuch, Ambiguous, Absent, Already, Taken, SharedRule, Straddles, OpenValue, OpenLine, OpenDefine, Leans}
 use Rattle.mk_edit_language.specs.Edits.{Bottom, BeforeVar, AfterVar, BeforeRule}
-use Rattle.mk_edit_language.specs.Edits.{SetValue, AppendValue, AddAssign, RemoveAssign, AddRule, RemoveRule, AddPrereq, RemovePrereq, AddRecipe, SetRecipe, RemoveRecipe, RenameTarget}
+use Rattle.mk_edit_language.specs.Edits.{SetValue, AppendValue, RemoveWord, AddAssign, RemoveAssign, AddRule, RemoveRule, AddPrereq, RemovePrereq, AddRecipe, SetRecipe, RemoveRecipe, RenameTarget}
 use Rattle.mk_rows.proofs.edits.Outcomes.{account, span}
 use Rattle.mk_rows.proofs.edits.Outcomes.{Becomes, Accepted, NotMade}
 use Rattle.mk_edit_language.specs.declared.refusal.Field.TheVariants as field
@@ -4569,3 +4569,54 @@ row_mixed_499 = refl
 
 row_mixed_500 : account (codes "a foo: c\n\ty\na foo: c\n") (RemoveRule None (codes "foo")) ≡ NotMade 0 (Ambiguous 2)
 row_mixed_500 = refl
+
+row_drop_001 : account (codes "F = -g -O2 -g # c\n") (RemoveWord None (codes "F") (codes "-g")) ≡ Accepted 1 1 (span 4 7 [] ∷ span 10 13 [] ∷ []) (Becomes (codes "F = -O2 # c\n"))
+row_drop_001 = refl
+
+row_drop_002 : account (codes "F = -O2 \\\n    -Werror \\\n    -g\n") (RemoveWord None (codes "F") (codes "-Werror")) ≡ Accepted 1 1 (span 7 21 [] ∷ []) (Becomes (codes "F = -O2 \\\n    -g\n"))
+row_drop_002 = refl
+
+row_drop_003 : account (codes "F = -Werror \\\n    -g\n") (RemoveWord None (codes "F") (codes "-Werror")) ≡ Accepted 1 1 (span 4 18 [] ∷ []) (Becomes (codes "F = -g\n"))
+row_drop_003 = refl
+
+row_drop_004 : account (codes "F = -g # c\n") (RemoveWord None (codes "F") (codes "-g")) ≡ Accepted 1 1 (span 4 7 [] ∷ []) (Becomes (codes "F = # c\n"))
+row_drop_004 = refl
+
+row_drop_005 : account (codes "F = $(A -g) -g\n") (RemoveWord None (codes "F") (codes "-g")) ≡ Accepted 1 1 (span 11 14 [] ∷ []) (Becomes (codes "F = $(A -g)\n"))
+row_drop_005 = refl
+
+row_drop_006 : account (codes "F = -O2\n") (RemoveWord None (codes "F") (codes "-g")) ≡ NotMade 1 Absent
+row_drop_006 = refl
+
+row_drop_007 : account (codes "F = a\\ z# c\n") (RemoveWord None (codes "F") (codes "z")) ≡ NotMade 1 Absent
+row_drop_007 = refl
+
+row_drop_008 : account (codes "F = a\\\\ z# c\n") (RemoveWord None (codes "F") (codes "z")) ≡ NotMade 1 OpenValue
+row_drop_008 = refl
+
+row_drop_009 : account (codes "F = a\\\\ z \\\n b\n") (RemoveWord None (codes "F") (codes "z")) ≡ NotMade 1 OpenValue
+row_drop_009 = refl
+
+row_drop_010 : account (codes "F = -g a\\\\\n") (RemoveWord None (codes "F") (codes "-g")) ≡ Accepted 1 1 (span 4 7 [] ∷ []) (Becomes (codes "F = a\\\\\n"))
+row_drop_010 = refl
+
+row_drop_011 : account (codes "F = a$\\ z\nG = 1\n") (RemoveWord None (codes "F") (codes "z")) ≡ NotMade 1 OpenValue
+row_drop_011 = refl
+
+row_drop_012 : account (codes "F = $(a -g\n") (RemoveWord None (codes "F") (codes "-g")) ≡ NotMade 1 Absent
+row_drop_012 = refl
+
+row_drop_013 : account (codes "F = \\\nz") (RemoveWord None (codes "F") (codes "z")) ≡ Accepted 1 1 (span 6 7 [] ∷ []) (Becomes (codes "F = \\\n"))
+row_drop_013 = refl
+
+row_drop_014 : account (codes "F = a z z b\n") (RemoveWord None (codes "F") (codes "z")) ≡ Accepted 1 1 (span 5 7 [] ∷ span 7 9 [] ∷ []) (Becomes (codes "F = a b\n"))
+row_drop_014 = refl
+
+row_drop_015 : account (codes "F = z \\\n z a\n") (RemoveWord None (codes "F") (codes "z")) ≡ Accepted 1 1 (span 4 9 [] ∷ span 9 11 [] ∷ []) (Becomes (codes "F = a\n"))
+row_drop_015 = refl
+
+row_drop_016 : account (codes "F = z a\\ \n") (RemoveWord None (codes "F") (codes "z")) ≡ Accepted 1 1 (span 4 6 [] ∷ []) (Becomes (codes "F = a\\ \n"))
+row_drop_016 = refl
+
+row_drop_017 : account (codes "F = a\\\\ b z\n") (RemoveWord None (codes "F") (codes "z")) ≡ Accepted 1 1 (span 9 11 [] ∷ []) (Becomes (codes "F = a\\\\ b\n"))
+row_drop_017 = refl

@@ -5,7 +5,7 @@ use Rattle.mk_class.specs.declared.assignment.Flavor.TheVariants.{Recursive, Sim
 use Rattle.mk_edit_language.specs.declared.edit.RuleSeparator.TheVariants.{Single, Double}
 use Rattle.mk_edit_language.specs.declared.refusal.Refusal.TheVariants.{BadArgument, Reserved, RecipePrefix, NoSuch, Ambiguous, Absent, Already, Taken, SharedRule, Straddles, OpenValue, OpenLine, OpenDefine, Leans}
 use Rattle.mk_edit_language.specs.Edits.{Bottom, BeforeVar, AfterVar, BeforeRule}
-use Rattle.mk_edit_language.specs.Edits.{SetValue, AppendValue, AddWord, AddAssign, RemoveAssign, AddRule, RemoveRule, AddPrereq, RemovePrereq, AddRecipe, SetRecipe, RemoveRecipe, InsertRecipe, SetRecipeByText, RemoveRecipeByText, RenameTarget}
+use Rattle.mk_edit_language.specs.Edits.{SetValue, AppendValue, AddWord, RemoveWord, AddAssign, RemoveAssign, AddRule, RemoveRule, AddPrereq, RemovePrereq, AddRecipe, SetRecipe, RemoveRecipe, InsertRecipe, SetRecipeByText, RemoveRecipeByText, RenameTarget}
 use Rattle.mk_rows.proofs.edits.Outcomes.{outcome}
 use Rattle.mk_rows.proofs.edits.Outcomes.{Becomes, Refused}
 use Rattle.mk_edit_language.specs.declared.refusal.Field.TheVariants as field
@@ -405,6 +405,33 @@ row_add_of_two_words_is_refused = refl
 
 row_add_after_a_dollar_and_a_fold_is_refused : outcome (codes "F = a$\\\n\n") (AddWord None (codes "F") (codes "b")) ≡ Refused OpenValue
 row_add_after_a_dollar_and_a_fold_is_refused = refl
+
+row_drop_takes_each_such_word : outcome (codes "F = -g -O2 -g # c\n") (RemoveWord None (codes "F") (codes "-g")) ≡ Becomes (codes "F = -O2 # c\n")
+row_drop_takes_each_such_word = refl
+
+row_drop_takes_the_fold_before_a_word : outcome (codes "F = -O2 \\\n    -Werror \\\n    -g\n") (RemoveWord None (codes "F") (codes "-Werror")) ≡ Becomes (codes "F = -O2 \\\n    -g\n")
+row_drop_takes_the_fold_before_a_word = refl
+
+row_drop_of_the_first_word_takes_the_fold_after_it : outcome (codes "F = -Werror \\\n    -g\n") (RemoveWord None (codes "F") (codes "-Werror")) ≡ Becomes (codes "F = -g\n")
+row_drop_of_the_first_word_takes_the_fold_after_it = refl
+
+row_drop_of_the_only_word_keeps_the_comment : outcome (codes "F = -g # c\n") (RemoveWord None (codes "F") (codes "-g")) ≡ Becomes (codes "F = # c\n")
+row_drop_of_the_only_word_keeps_the_comment = refl
+
+row_drop_leaves_a_word_inside_a_reference : outcome (codes "F = $(A -g) -g\n") (RemoveWord None (codes "F") (codes "-g")) ≡ Becomes (codes "F = $(A -g)\n")
+row_drop_leaves_a_word_inside_a_reference = refl
+
+row_drop_before_a_word_that_ends_in_backslashes : outcome (codes "F = -g a\\\\\n") (RemoveWord None (codes "F") (codes "-g")) ≡ Becomes (codes "F = a\\\\\n")
+row_drop_before_a_word_that_ends_in_backslashes = refl
+
+row_drop_of_a_word_that_is_not_there_is_refused : outcome (codes "F = -O2\n") (RemoveWord None (codes "F") (codes "-g")) ≡ Refused Absent
+row_drop_of_a_word_that_is_not_there_is_refused = refl
+
+row_drop_after_backslashes_is_refused : outcome (codes "F = a\\\\ z# c\n") (RemoveWord None (codes "F") (codes "z")) ≡ Refused OpenValue
+row_drop_after_backslashes_is_refused = refl
+
+row_drop_of_two_words_is_refused : outcome (codes "F = x\n") (RemoveWord None (codes "F") (codes "a b")) ≡ Refused (BadArgument field.Word)
+row_drop_of_two_words_is_refused = refl
 
 row_recipe_insert_between_two_lines : outcome (codes "c:\n\ta\n\tb\n") (InsertRecipe None (codes "c") 2 (codes "x")) ≡ Becomes (codes "c:\n\ta\n\tx\n\tb\n")
 row_recipe_insert_between_two_lines = refl

@@ -5,7 +5,7 @@ use Rattle.bstr.specs.Text.{line_len, lines_from}
 use Rattle.mk_class.specs.declared.assignment.Flavor.TheVariants.{Recursive, Simple}
 use Rattle.mk_edit_language.specs.declared.edit.RuleSeparator.TheVariants.{Single, Double}
 use Rattle.mk_edit_language.specs.Edits.{Bottom, BeforeVar, AfterVar, BeforeRule}
-use Rattle.mk_edit_language.specs.Edits.{SetValue, AppendValue, AddWord, AddAssign, RemoveAssign, AddRule, RemoveRule, AddPrereq, RemovePrereq, AddRecipe, SetRecipe, RemoveRecipe, InsertRecipe, SetRecipeByText, RemoveRecipeByText, RenameTarget}
+use Rattle.mk_edit_language.specs.Edits.{SetValue, AppendValue, AddWord, RemoveWord, AddAssign, RemoveAssign, AddRule, RemoveRule, AddPrereq, RemovePrereq, AddRecipe, SetRecipe, RemoveRecipe, InsertRecipe, SetRecipeByText, RemoveRecipeByText, RenameTarget}
 use Rattle.mk_history.specs.Machine.{Apply, Undo, Redo, Begin, End, Cancel}
 use Rattle.mk_script.proofs.on_scripts.ReaderLemmas.{on_line, read_script}
 
@@ -460,6 +460,22 @@ row_add_of_two_words_is_refused = refl
 row_add_after_a_dollar_and_a_fold_is_refused : read_script (codes "add F b") ≡ Ok (on_line 1 (Apply (AddWord None (codes "F") (codes "b"))) ∷ [])
 unfolding line_len lines_from
 row_add_after_a_dollar_and_a_fold_is_refused = refl
+
+row_drop_takes_each_such_word : read_script (codes "drop F -g") ≡ Ok (on_line 1 (Apply (RemoveWord None (codes "F") (codes "-g"))) ∷ [])
+unfolding line_len lines_from
+row_drop_takes_each_such_word = refl
+
+row_drop_takes_the_fold_before_a_word : read_script (codes "drop F -Werror") ≡ Ok (on_line 1 (Apply (RemoveWord None (codes "F") (codes "-Werror"))) ∷ [])
+unfolding line_len lines_from
+row_drop_takes_the_fold_before_a_word = refl
+
+row_drop_after_backslashes_is_refused : read_script (codes "drop F z") ≡ Ok (on_line 1 (Apply (RemoveWord None (codes "F") (codes "z"))) ∷ [])
+unfolding line_len lines_from
+row_drop_after_backslashes_is_refused = refl
+
+row_drop_of_two_words_is_refused : read_script (codes "drop F \"a b\"") ≡ Ok (on_line 1 (Apply (RemoveWord None (codes "F") (codes "a b"))) ∷ [])
+unfolding line_len lines_from
+row_drop_of_two_words_is_refused = refl
 
 row_recipe_insert_between_two_lines : read_script (codes "recipe-insert c 2 x") ≡ Ok (on_line 1 (Apply (InsertRecipe None (codes "c") 2 (codes "x"))) ∷ [])
 unfolding line_len lines_from

@@ -3,7 +3,7 @@ use Rattle.std.specs.Prelude.{slice_range}
 use Rattle.mk_lines.specs.declared.split.Span.{Span}
 use Rattle.mk_tree.specs.Trees.{line_view}
 use Rattle.mk_edit_parts.proofs.on_prerequisites.RawPartLemmas.{raw-within, raw-rest}
-use Rattle.mk_edit_parts.proofs.prerequisite.raw_rest.Goals as goal
+use Rattle.mk_edit_parts.proofs.raw_part.raw_rest.Goals as goal
 
 pub part-requires-clause-rises : goal.part-requires-clause-rises
 part-requires-clause-rises g c =

@@ -3,7 +3,7 @@ use Rattle.mk_lines.specs.Cells.{line_cells}
 use Rattle.mk_lines.specs.Ranges.{text_at}
 use Rattle.mk_tree.specs.Trees.{line_view}
 use Rattle.mk_edit_parts.proofs.on_prerequisites.RawPartLemmas.{raw-rises, raw-within, raw-part}
-use Rattle.mk_edit_parts.proofs.prerequisite.raw_part.Goals as goal
+use Rattle.mk_edit_parts.proofs.raw_part.raw_part.Goals as goal
 
 pub part-requires-clause-rises : goal.part-requires-clause-rises
 part-requires-clause-rises g c =
