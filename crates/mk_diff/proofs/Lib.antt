@@ -1,0 +1,6 @@
+mod BetweenLemmas
+mod FinderLemmas
+mod LeadsLemmas
+mod MatchLemmas
+mod PhysicalLineLemmas
+mod ShownLemmas

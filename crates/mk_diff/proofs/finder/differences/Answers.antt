@@ -1,0 +1,58 @@
+use Rattle.std.proofs.Common.{◌≡◌, ◌-◌, ◌≤◌, ◌++◌, ◌∷◌, [], List, length, drop, rules, arith, ◌∙◌, sym, ap, subst, append-nil, ◌+◌}
+use Rattle.mk_diff.specs.Stretches.{AreApart, Leads, shown}
+use Rattle.mk_diff.specs.declared.stretch.Stretch.{Stretch}
+use Rattle.mk_diff.proofs.FinderLemmas.{Completes, completes-end, completes-front, completes-last, differ-drop, further}
+use Rattle.mk_diff.proofs.ShownLemmas.{length-shown, shown-rest, within-rest}
+use Rattle.mk_diff.proofs.finder.differences.Goals as goal
+
+pub stretches-init : goal.stretches-init
+stretches-init g c =
+    let old = shown c.args.old.now in
+    let new = shown c.args.new.now in
+    let n = c.common_front-old_at.result in
+    let front = c.common_front-old_at.ensures in
+    (front.old_within, front.new_within, differ-drop old new n old new front.stops,
+     subst (Completes old new n n) (sym c.new-stretches.ensures.items) (completes-front old new n front.same))
+
+pub next_match-requires : goal.next_match-requires
+next_match-requires g c =
+    rw (shown-rest c.stretches.old_at c.args.old.now, shown-rest c.stretches.new_at c.args.new.now) c.stretches.invariant.2
+
+pub stretches-preserved : goal.stretches-preserved
+stretches-preserved g c =
+    let old = c.args.old.now in
+    let new = c.args.new.now in
+    let i = c.stretches.old_at in
+    let j = c.stretches.new_at in
+    let a = c.in-Some.found.removed in
+    let b = c.in-Some.found.added in
+    let n = c.common_front-same.result in
+    let more = c.common_front-same.ensures in
+    let is = further (shown old) (shown new) i j a b n c.stretches.stretches.items c.stretches.invariant.3
+        (omega (arith, length-shown old)) (omega (arith, length-shown new))
+        (rw (shown-rest i old, shown-rest j new) at c.in-Some.ensures)
+        (rw (shown-rest (i + a) old, shown-rest (j + b) new) at more.same)
+        (within-rest n (i + a) old more.old_within) (within-rest n (j + b) new more.new_within)
+        (rw (shown-rest (i + a) old, shown-rest (j + b) new) at more.stops) in
+    (omega (arith, is.old_in, length-shown old), omega (arith, is.new_in, length-shown new), is.differ,
+     subst (Completes (shown old) (shown new) _ _) (sym c.in_ok-push-2.ensures.items) is.completes)
+
+pub returns-in_default-clause-leads : goal.returns-in_default-clause-leads
+returns-in_default-clause-leads g c =
+    let old = c.args.old.now in
+    let new = c.args.new.now in
+    let i = c.stretches.old_at in
+    let j = c.stretches.new_at in
+    let unlike : AreApart (drop i (shown old)) (drop j (shown new)) = rw (shown-rest i old, shown-rest j new) at c.in_default.ensures in
+    let leads = completes-last (shown old) (shown new) i j c.stretches.stretches.items c.stretches.invariant.3
+        (omega (arith, length-shown old)) (omega (arith, length-shown new)) unlike in
+    let own : Leads (shown old) (shown new) 0 0 0 (c.stretches.stretches.items ++ record { old_start = i; old_end = length old; new_start = j; new_end = length new } ∷ []) (length (shown old)) (length (shown new)) =
+        rw (← length-shown old, ← length-shown new) leads in
+    subst (λ (found : List Stretch). Leads (shown old) (shown new) 0 0 0 found (length (shown old)) (length (shown new))) (sym c.in_ok-push.ensures.items) own
+
+pub returns-clause-leads : goal.returns-clause-leads
+returns-clause-leads g c =
+    let old = c.args.old.now in
+    let new = c.args.new.now in
+    rw append-nil at (completes-end (shown old) (shown new) c.stretches.old_at c.stretches.new_at c.stretches.stretches.items c.stretches.invariant.3
+      (omega (arith, length-shown old)) (omega (arith, length-shown new)))

@@ -1,0 +1,5 @@
+-- # What the public contracts say
+pub mod Hunks
+pub mod HunkTexts
+-- # Vocabulary of private contracts
+pub mod Stretches
