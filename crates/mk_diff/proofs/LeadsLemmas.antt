@@ -33,7 +33,7 @@ module _ (old new : List (List ℕ)) where
         rest))
 
   -- the first stretch begins within both texts
-  Leads-first : (floor i j : ℕ) (ss : List Stretch) (I J : ℕ) → Leads old new floor i j ss I J → (i ≤ first_old_start ss I) × (first_old_start ss I ≤ length old)
+  pub Leads-first : (floor i j : ℕ) (ss : List Stretch) (I J : ℕ) → Leads old new floor i j ss I J → (i ≤ first_old_start ss I) × (first_old_start ss I ≤ length old)
   Leads-first floor i j [] I J h = (h.0, h.1)
   Leads-first floor i j (s ∷ ss) I J (below, is, rest) = (is.begins, omega (arith, is.old_order, is.old_within))
 
@@ -99,3 +99,10 @@ module _ (old new : List (List ℕ)) where
       ∙ ap (λ l. above ++ l) (between-joined s.new_start s.new_end f new is.new_order order)
       ∙ ap (λ l. l ++ between s.new_start f new) is.same
       ∙ between-joined j s.new_start f new (omega (arith, is.even, is.begins)) (omega (arith, order, is.new_order))
+
+  -- the places are in order, and within both texts
+  pub Leads-order : (floor i j : ℕ) (g : List Stretch) (e f : ℕ) → Leads old new floor i j g e f → (i ≤ e) × (j ≤ f) × (e ≤ length old) × (f ≤ length new)
+  Leads-order floor i j [] e f (order, old_within, new_within, even, same) = (order, omega arith, old_within, new_within)
+  Leads-order floor i j (s ∷ g) e f (below, is, rest) =
+      let w = Leads-order (suc s.old_end) s.old_end s.new_end g e f rest in
+      (omega (arith, w.0, is.begins, is.old_order), omega (arith, w.1, is.new_order, is.even, is.begins), w.2, w.3)

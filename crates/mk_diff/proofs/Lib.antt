@@ -1,5 +1,8 @@
+mod AppliedLemmas
 mod BetweenLemmas
+mod ContextLemmas
 mod FinderLemmas
+mod HunkTextLemmas
 mod LeadsLemmas
 mod MatchLemmas
 mod PhysicalLineLemmas

@@ -36,12 +36,17 @@ changes_text (c ∷ cs) =
     signed_lines 32 c.above ++ (signed_lines 45 c.removed ++ (signed_lines 43 c.added
     ++ changes_text cs))
 
--- a hunk: its numbers in the old text and in the new one, its changes, and the lines below them
+-- the first line of a hunk: its numbers in the old text and in the new one
+abbrev pub header_text : (old_start old_count new_start new_count : ℕ) → List ℕ
+header_text old_start old_count new_start new_count =
+    codes "@@ -" ++ (range_text old_start old_count ++ (codes " +"
+    ++ (range_text new_start new_count ++ codes " @@\n")))
+
+-- a hunk: its first line, its changes, and the lines below them
 abbrev pub hunk_text : Hunk → List ℕ
 hunk_text h =
-    codes "@@ -" ++ (range_text h.old_start (length (old_lines h)) ++ (codes " +"
-    ++ (range_text h.new_start (length (new_lines h)) ++ (codes " @@\n"
-    ++ (changes_text h.changes ++ signed_lines 32 h.below)))))
+    header_text h.old_start (length (old_lines h)) h.new_start (length (new_lines h))
+    ++ (changes_text h.changes ++ signed_lines 32 h.below)
 
 -- the hunks
 abbrev pub hunk_texts : List Hunk → List ℕ

@@ -3,6 +3,7 @@
 use Rattle.std.specs.Prelude.{◌≡◌, ℕ, suc, ◌+◌, ◌-◌, ◌<◌, ◌≤◌, List, [], ◌∷◌, ◌++◌, map, take, drop, get_or, length}
 use Rattle.std.specs.Borrow.{Bor}
 use Rattle.mk_diff.specs.Hunks.{Change, Hunk}
+use Rattle.mk_diff.specs.HunkTexts.{changes_text, signed_lines}
 use Rattle.mk_diff.specs.declared.stretch.Stretch.{Stretch}
 use Rattle.mk_diff.specs.declared.matching.Match.{Match}
 
@@ -105,6 +106,12 @@ hunk_of old new whole ss = record {
   changes = changes_of old new whole.old_start ss;
   below = between (last_old_end whole.old_start ss) whole.old_end old;
 }
+
+-- the text of the lines from `at` up to an end, in which these stretches differ
+abbrev pub lines_text : (old new : List (List ℕ)) → (at : ℕ) → List Stretch → (end : ℕ) → List ℕ
+lines_text old new at ss end =
+    changes_text (changes_of old new at ss)
+    ++ signed_lines 32 (between (last_old_end at ss) end old)
 
 -- The stretch of a hunk with these changes: the texts are the same from one place of each up to it,
 -- and the stretches in which they differ below it are these.

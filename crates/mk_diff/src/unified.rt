@@ -76,7 +76,7 @@ fn put_hunks<A: Allocator>(
     requires { Leads (shown old.now) (shown new.now) 0 0 0 stretches.now (length (shown old.now))
         (length (shown new.now)) }
     ensures bytes { IfOk result (λ _. (hunks : List Hunk)
-        × IsDiff (shown old.now) (shown new.now) hunks
+        × IsDiff (shown old.now) (shown new.now) hunks × (hunks ≡ [] → stretches.now ≡ [])
         × (text.new.items ≡ text.old.items ++ hunk_texts hunks)) }
     ensures fault { IsOkUnless result Fault.NoMemory }
 {
