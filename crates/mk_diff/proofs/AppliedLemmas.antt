@@ -4,7 +4,7 @@ use Rattle.std.proofs.lemmas.List.{take_at, drop_at, take_rest, get_or-take, get
 use Rattle.std.proofs.lemmas.Slice.Eq.{bytes_eq-Decides}
 use Rattle.std.proofs.lemmas.Bool.Decides.{nat_tests}
 use Rattle.mk_lines.specs.Lists.{Each}
-use Rattle.mk_diff.specs.Hunks.{Change, Hunk, ChangesAll, AllChange, EachHunkChanges, IsDiff, after, before, of_text, applied, is_not_in, is_reached, old_lines, new_lines, old_of, new_of, turned, turned_change}
+use Rattle.mk_diff.specs.Hunks.{AreChanges, AreHunks, Change, Hunk, IsDiff, after, before, of_text, applied, is_not_in, is_reached, old_lines, new_lines, old_of, new_of, turned, turned_change}
 use Rattle.mk_diff.specs.Stretches.{AreApart, IsHunkAt, IsStretch, Leads, between, changes_of, hunk_of, last_old_end, line_at}
 use Rattle.mk_diff.specs.declared.stretch.Stretch.{Stretch}
 use Rattle.mk_diff.specs.HunkTexts.{diff_text, hunk_text, hunk_texts, names_text}
@@ -79,27 +79,26 @@ module _ (old new : List (List ℕ)) where
         (λ p q low below same. is.unlike (s.old_start + p) (s.new_start + q) (omega arith) (omega arith) (omega arith) (omega arith)
           (sym (line-between s.old_start s.old_end p old (omega arith)) ∙ same ∙ line-between s.new_start s.new_end q new (omega arith)))
 
-  changes-apart : (floor i j : ℕ) (ss : List Stretch) (e f : ℕ) → Leads old new floor i j ss e f → AllChange (changes_of old new i ss)
+  pub changes-apart : (floor i j : ℕ) (ss : List Stretch) (e f : ℕ) → Leads old new floor i j ss e f → AreChanges (changes_of old new i ss)
   changes-apart floor i j [] e f h = tt
-  changes-apart floor i j (s ∷ ss) e f (below, is, rest) = (stretch-apart i j s is, changes-apart (suc s.old_end) s.old_end s.new_end ss e f rest)
-
-each-more : (hs : List Hunk) (h : Hunk) → EachHunkChanges hs → AllChange h.changes → EachHunkChanges (hs ++ h ∷ [])
-each-more [] h all one = (one, tt)
-each-more (x ∷ hs) h all one = (all.0, each-more hs h all.1 one)
+  changes-apart floor i j (s ∷ ss) e f (below, is, rest) =
+      ((stretch-apart i j s is,
+        omega (arith, is.some, is.old_order, is.new_order, length-between s.old_start s.old_end old is.old_order is.old_within, length-between s.new_start s.new_end new is.new_order is.new_within)),
+       changes-apart (suc s.old_end) s.old_end s.new_end ss e f rest)
 
 module _ (old new : List (List ℕ)) where
   -- Hunks that lead to one place of each text: with hunks that lead from there to the end they lead from one text to the other.
-  pub record IsSoFar (i j : ℕ) (hunks : List Hunk) : Type 0 where
+  pub record IsSoFar (floor i j : ℕ) (hunks : List Hunk) : Type 0 where
     pub applies : (more : List Hunk) → applied i more (drop i old) ≡ Some (drop j new) → applied 0 (hunks ++ more) old ≡ Some new
     pub turns : (more : List Hunk) → applied j (map turned more) (drop j new) ≡ Some (drop i old) → applied 0 (map turned (hunks ++ more)) new ≡ Some old
-    pub changes : EachHunkChanges hunks
+    pub stand : (more : List Hunk) → AreHunks floor (length old) more → AreHunks 0 (length old) (hunks ++ more)
 
-  pub so-far-none : IsSoFar 0 0 []
-  so-far-none = record { applies = λ more h. h; turns = λ more h. h; changes = tt }
+  pub so-far-none : IsSoFar 0 0 0 []
+  so-far-none = record { applies = λ more h. h; turns = λ more h. h; stand = λ more h. h }
 
-  pub so-far-more : (i j : ℕ) (hunks : List Hunk) (whole : Stretch) (changed below : List Stretch) → IsSoFar i j hunks → IsHunkAt old new i j whole changed below
-      → IsSoFar whole.old_end whole.new_end (hunks ++ hunk_of old new whole changed ∷ [])
-  so-far-more i j hunks whole changed below h is =
+  pub so-far-more : (floor i j : ℕ) (hunks : List Hunk) (whole : Stretch) (changed below : List Stretch) → IsSoFar floor i j hunks → IsHunkAt old new i j whole changed below
+      → floor ≤ whole.old_start → IsSoFar (suc whole.old_end) whole.old_end whole.new_end (hunks ++ hunk_of old new whole changed ∷ [])
+  so-far-more floor i j hunks whole changed below h is apart =
       let k : ℕ = whole.old_start in
       let l : ℕ = whole.new_start in
       let e : ℕ = whole.old_end in
@@ -129,17 +128,18 @@ module _ (old new : List (List ℕ)) where
               (new_rest ∙ ap (λ ls. between j l new ++ (ls ++ drop f new)) (sym back_old))
               (old_rest ∙ ap₂ (λ a ls. a ++ (ls ++ drop e old)) is.same (sym back_new)) (omega arith)
               (ap (λ n. applied n (map turned more) (drop f new)) {x = l + length (old_lines (turned hunk))} {y = f} (omega (arith, ap length back_old)) ∙ then)));
-        changes = each-more hunks hunk h.changes (changes-apart old new 0 k l changed e f is.inside);
+        stand = λ more then. rw append_assoc (h.stand (hunk ∷ more)
+            (apart, is.is_hunk, subst (λ (n : ℕ). AreHunks (suc n) (length old) more) {x = e} {y = k + length (old_lines hunk)} (omega arith) then));
       }
 
   -- the texts are the same below
-  pub so-far-all : (i j : ℕ) (hunks : List Hunk) → IsSoFar i j hunks → Leads old new 0 i j [] (length old) (length new) → IsDiff old new hunks
-  so-far-all i j hunks h (order, old_within, new_within, even, same) =
+  pub so-far-all : (floor i j : ℕ) (hunks : List Hunk) → IsSoFar floor i j hunks → Leads old new 0 i j [] (length old) (length new) → IsDiff old new hunks
+  so-far-all floor i j hunks h (order, old_within, new_within, even, same) =
       let rest : drop i old ≡ drop j new = sym (take_rest old i) ∙ same ∙ take_rest new j in
       record {
         applies = rw append-nil at (h.applies [] (ap Some rest));
         turns = rw append-nil at (h.turns [] (ap Some (sym rest)));
-        changes = h.changes;
+        stand = rw append-nil at (h.stand [] tt);
       }
 
 -- the text of one more hunk

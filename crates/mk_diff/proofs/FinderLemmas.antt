@@ -22,6 +22,7 @@ module _ (old new : List (List ℕ)) where
          new_order = is.new_order;
          new_within = is.new_within;
          even = omega (arith, is.even);
+         some = is.some;
          same = sym (between-joined i k s.old_start old high is.begins) ∙ ap₂ (λ a b. a ++ b) front is.same
              ∙ between-joined j l s.new_start new (omega arith) (omega (arith, is.even, is.begins));
          unlike = is.unlike;
@@ -42,15 +43,16 @@ module _ (old new : List (List ℕ)) where
       Leads-leave n 0 0 0 rest (length old) (length new) n n h (omega arith) (omega arith) (omega arith) front
 
   -- the stretch up to a match
-  stretch-of : (i j a b : ℕ) → i + a ≤ length old → j + b ≤ length new → AreUnlike a b (drop i old) (drop j new)
+  stretch-of : (i j a b : ℕ) → 0 < a + b → i + a ≤ length old → j + b ≤ length new → AreUnlike a b (drop i old) (drop j new)
       → IsStretch old new i j (record { old_start = i; old_end = i + a; new_start = j; new_end = j + b })
-  stretch-of i j a b old_in new_in unlike = record {
+  stretch-of i j a b some old_in new_in unlike = record {
     begins = omega arith;
     old_order = omega arith;
     old_within = old_in;
     new_order = omega arith;
     new_within = new_in;
     even = omega arith;
+    some = omega arith;
     same = between-none i old ∙ sym (between-none j new);
     unlike = λ p q low high left right same.
         let at_p : line_at (p - i) (drop i old) ≡ line_at p old = get_or-drop i old (p - i) [] ∙ ap (λ n. line_at n old) {x = i + (p - i)} {y = p} (omega arith) in
@@ -59,11 +61,11 @@ module _ (old new : List (List ℕ)) where
   }
 
   -- one more stretch is found, and below it at least one line is the same
-  pub completes-more : (i j a b n : ℕ) (found : List Stretch) → Completes i j found → i + a ≤ length old → j + b ≤ length new
+  pub completes-more : (i j a b n : ℕ) (found : List Stretch) → Completes i j found → 0 < a + b → i + a ≤ length old → j + b ≤ length new
       → AreUnlike a b (drop i old) (drop j new) → 0 < n → take n (drop (i + a) old) ≡ take n (drop (j + b) new)
       → Completes (i + a + n) (j + b + n) (found ++ record { old_start = i; old_end = i + a; new_start = j; new_end = j + b } ∷ [])
   unfolding Completes
-  completes-more i j a b n found h old_in new_in unlike some same rest leads =
+  completes-more i j a b n found h further old_in new_in unlike some same rest leads =
       let s : Stretch = record { old_start = i; old_end = i + a; new_start = j; new_end = j + b } in
       let cut : n ≡ i + a + n - (i + a) = omega arith in
       let cut_new : n ≡ j + b + n - (j + b) = omega arith in
@@ -71,7 +73,7 @@ module _ (old new : List (List ℕ)) where
           ap (λ m. take m (drop (i + a) old)) (sym cut) ∙ same ∙ ap (λ m. take m (drop (j + b) new)) cut_new in
       let under : Leads old new (suc (i + a)) (i + a) (j + b) rest (length old) (length new) =
           Leads-leave (i + a + n) (suc (i + a)) (i + a) (j + b) rest (length old) (length new) (i + a + n) (j + b + n) leads (omega arith) (omega arith) (omega arith) front in
-      let all = h (s ∷ rest) (omega arith, stretch-of i j a b old_in new_in unlike, under) in
+      let all = h (s ∷ rest) (omega arith, stretch-of i j a b further old_in new_in unlike, under) in
       rw append_assoc all
 
   -- all is found
@@ -82,15 +84,15 @@ module _ (old new : List (List ℕ)) where
         ap (λ n. between i n old) (sym old_end) ∙ between-none i old ∙ sym (between-none j new) ∙ ap (λ n. between j n new) new_end)
 
   -- the last stretch goes to the end of both texts
-  pub completes-last : (i j : ℕ) (found : List Stretch) → Completes i j found → i ≤ length old → j ≤ length new
+  pub completes-last : (i j : ℕ) (found : List Stretch) → Completes i j found → i ≤ length old → j ≤ length new → 0 < (length old - i) + (length new - j)
       → AreApart (drop i old) (drop j new)
       → Leads old new 0 0 0 (found ++ record { old_start = i; old_end = length old; new_start = j; new_end = length new } ∷ []) (length old) (length new)
   unfolding Completes
-  completes-last i j found h old_in new_in unlike =
+  completes-last i j found h old_in new_in some unlike =
       let old_all : i + (length old - i) ≡ length old = omega arith in
       let new_all : j + (length new - j) ≡ length new = omega arith in
       let is : IsStretch old new i j (record { old_start = i; old_end = i + (length old - i); new_start = j; new_end = j + (length new - j) }) =
-          stretch-of i j (length old - i) (length new - j) (omega arith) (omega arith) (λ p q few_old few_new old_under new_under same. unlike p q old_under new_under same) in
+          stretch-of i j (length old - i) (length new - j) some (omega arith) (omega arith) (λ p q few_old few_new old_under new_under same. unlike p q old_under new_under same) in
       let last : IsStretch old new i j (record { old_start = i; old_end = length old; new_start = j; new_end = length new }) =
           rw (← old_all, ← new_all) is in
       h (record { old_start = i; old_end = length old; new_start = j; new_end = length new } ∷ [])
@@ -135,5 +137,5 @@ module _ (old new : List (List ℕ)) where
         old_in = omega (arith, length-drop (i + a) old);
         new_in = omega (arith, length-drop (j + b) new);
         differ = rw (drop-drop n (i + a) old, drop-drop n (j + b) new) at below;
-        completes = completes-more i j a b n found h (omega arith) (omega arith) match.unlike some same;
+        completes = completes-more i j a b n found h match.further (omega arith) (omega arith) match.unlike some same;
       }

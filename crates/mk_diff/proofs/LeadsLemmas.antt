@@ -27,6 +27,7 @@ module _ (old new : List (List ℕ)) where
           new_order = is.new_order;
           new_within = is.new_within;
           even = omega (arith, is.even);
+          some = is.some;
           same = same-back i k s.old_start j l s.new_start old new is.same is.even low high moved;
           unlike = is.unlike;
         },

@@ -1,7 +1,7 @@
 -- Hunks, and what it means that they lead from one text to another. A text is the list of its
 -- physical lines, each with its line end.
 -- Told in docs/EDITS.md, "Running a script".
-use Rattle.std.specs.Prelude.{◌≡◌, ℕ, ◌+◌, ◌-◌, Bool, true, false, not, ◌&&◌, nat_le, if◌then◌else◌, List, [], ◌∷◌, ◌++◌, map, take, drop, length, Option, Some, None}
+use Rattle.std.specs.Prelude.{◌≡◌, ℕ, suc, ◌+◌, ◌-◌, ◌<◌, ◌≤◌, Bool, true, false, not, ◌&&◌, nat_le, if◌then◌else◌, List, [], ◌∷◌, ◌++◌, map, take, drop, length, Option, Some, None}
 use Rattle.std.specs.Str.{bytes_eq}
 use Rattle.mk_lines.specs.Lists.{Each}
 
@@ -89,29 +89,53 @@ turned h = record {
   below = h.below;
 }
 
--- ---- what is not to be in a hunk
+-- ---- what a hunk may have
 
 -- whether a line is none of these
 abbrev pub is_not_in : List (List ℕ) → List ℕ → Bool
 is_not_in [] l = true
 is_not_in (m ∷ ms) l = not (bytes_eq l m) && is_not_in ms l
 
--- no line is removed and added by a change
-abbrev pub ChangesAll : Change → Type 0
-ChangesAll c = Each (is_not_in c.added) c.removed
+-- no line is removed and added by a change, which removes or adds a line
+abbrev pub IsChange : Change → Type 0
+IsChange c = Each (is_not_in c.added) c.removed × (0 < length c.removed + length c.added)
 
--- a fact of each change
-abbrev pub AllChange : List Change → Type 0
-AllChange [] = Unit {0}
-AllChange (c ∷ cs) = ChangesAll c × AllChange cs
+abbrev pub AreChanges : List Change → Type 0
+AreChanges [] = Unit {0}
+AreChanges (c ∷ cs) = IsChange c × AreChanges cs
 
--- no line is removed and added by a change of these hunks
-abbrev pub EachHunkChanges : List Hunk → Type 0
-EachHunkChanges [] = Unit {0}
-EachHunkChanges (h ∷ hs) = AllChange h.changes × EachHunkChanges hs
+-- so many lines of context, where so many lines are beyond them: three lines, or fewer if none is
+-- beyond
+abbrev pub IsContext : (count beyond : ℕ) → Type 0
+IsContext count beyond = (count ≤ 3) × (0 < beyond → count ≡ 3)
 
--- The hunks lead from the old lines to the new ones, and back.
+-- the changes below the first of a hunk: one line to six lines stand above each
+abbrev pub AreJoined : List Change → Type 0
+AreJoined [] = Unit {0}
+AreJoined (c ∷ cs) = (0 < length c.above) × (length c.above ≤ 6) × AreJoined cs
+
+-- the changes of a hunk that so many lines of the old text stand above: at least one
+abbrev pub AreInContext : (start : ℕ) → List Change → Type 0
+AreInContext start [] = ⊥
+AreInContext start (c ∷ cs) = IsContext (length c.above) start × AreJoined cs
+
+-- a hunk in an old text of so many lines
+abbrev pub IsHunk : (total : ℕ) → Hunk → Type 0
+IsHunk total h =
+    AreChanges h.changes × AreInContext h.old_start h.changes
+    × IsContext (length h.below) (total - (h.old_start + length (old_lines h)))
+
+-- hunks in an old text of so many lines, the first below `floor` lines. Between two of them there
+-- is a line.
+abbrev pub AreHunks : (floor total : ℕ) → List Hunk → Type 0
+AreHunks floor total [] = Unit {0}
+AreHunks floor total (h ∷ hs) =
+    (floor ≤ h.old_start) × IsHunk total h
+    × AreHunks (suc (h.old_start + length (old_lines h))) total hs
+
+-- The hunks lead from the old lines to the new ones, and turned they lead back. Each has its
+-- context, and no line is removed and added by one of their changes.
 pub record IsDiff (old new : List (List ℕ)) (hunks : List Hunk) : Type 0 where
   pub applies : applied 0 hunks old ≡ Some new
   pub turns : applied 0 (map turned hunks) new ≡ Some old
-  pub changes : EachHunkChanges hunks
+  pub stand : AreHunks 0 (length old) hunks

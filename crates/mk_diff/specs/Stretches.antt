@@ -1,8 +1,8 @@
 -- Stretches of two texts, as the code finds them.
 -- Told in docs/DECISIONS.md, "mk_diff".
-use Rattle.std.specs.Prelude.{◌≡◌, ℕ, suc, ◌+◌, ◌-◌, ◌<◌, ◌≤◌, List, [], ◌∷◌, ◌++◌, map, take, drop, get_or, length}
+use Rattle.std.specs.Prelude.{◌≡◌, ℕ, suc, ◌+◌, ◌-◌, ◌<◌, ◌≤◌, ◌⊎◌, List, [], ◌∷◌, ◌++◌, map, take, drop, get_or, length}
 use Rattle.std.specs.Borrow.{Bor}
-use Rattle.mk_diff.specs.Hunks.{Change, Hunk}
+use Rattle.mk_diff.specs.Hunks.{Change, Hunk, IsHunk}
 use Rattle.mk_diff.specs.HunkTexts.{changes_text, signed_lines}
 use Rattle.mk_diff.specs.declared.stretch.Stretch.{Stretch}
 use Rattle.mk_diff.specs.declared.matching.Match.{Match}
@@ -59,6 +59,7 @@ module _ (old new : List (List ℕ)) where
     pub new_order : s.new_start ≤ s.new_end
     pub new_within : s.new_end ≤ length new
     pub even : s.old_start + j ≡ s.new_start + i
+    pub some : s.old_start + s.new_start < s.old_end + s.new_end
     pub same : between i s.old_start old ≡ between j s.new_start new
     pub unlike : (p q : ℕ) → s.old_start ≤ p → p < s.old_end → s.new_start ≤ q → q < s.new_end
         → line_at p old ≡ line_at q new → ⊥
@@ -98,6 +99,27 @@ abbrev pub first_old_start : List Stretch → (end : ℕ) → ℕ
 first_old_start [] end = end
 first_old_start (s ∷ ss) end = s.old_start
 
+-- below a place of the old text, at most six lines stand above each of these stretches
+abbrev pub AreNear : (at : ℕ) → List Stretch → Type 0
+AreNear at [] = Unit {0}
+AreNear at (s ∷ ss) = (s.old_start ≤ at + 6) × AreNear s.old_end ss
+
+-- the contexts of each two of these stretches meet
+abbrev pub AreGroup : List Stretch → Type 0
+AreGroup [] = Unit {0}
+AreGroup (s ∷ ss) = AreNear s.old_end ss
+
+-- the context of the first of some stretches, if there is one, does not meet that of what ends here
+abbrev pub AreFar : (at : ℕ) → List Stretch → Type 0
+AreFar at [] = Unit {0}
+AreFar at (s ∷ ss) = at + 6 < s.old_start
+
+-- the first stretch, if there is one, has its context below the place where the last hunk ends; or
+-- there is no such hunk
+abbrev pub IsRoomBelow : (at : ℕ) → List Stretch → Type 0
+IsRoomBelow at [] = Unit {0}
+IsRoomBelow at (s ∷ ss) = (at ≡ 0) ⊎ (at + 4 ≤ s.old_start)
+
 -- the hunk that has the lines of a stretch, in which these stretches differ
 abbrev pub hunk_of : (old new : List (List ℕ)) → Stretch → List Stretch → Hunk
 hunk_of old new whole ss = record {
@@ -121,4 +143,7 @@ pub record IsHunkAt (old new : List (List ℕ)) (i j : ℕ) (whole : Stretch)
   pub even : whole.old_start + j ≡ whole.new_start + i
   pub same : between i whole.old_start old ≡ between j whole.new_start new
   pub inside : Leads old new 0 whole.old_start whole.new_start changed whole.old_end whole.new_end
+  pub is_hunk : IsHunk (length old) (hunk_of old new whole changed)
+  pub near : first_old_start changed 0 ≤ whole.old_start + 3
+  pub room : 0 < length below → whole.old_end + 4 ≤ first_old_start below 0
   pub rest : Leads old new 0 whole.old_end whole.new_end below (length old) (length new)

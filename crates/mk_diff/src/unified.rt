@@ -1,9 +1,10 @@
 //! Which changes make a hunk, and the whole diff.
-ghost use Rattle.std.specs.Prelude.{◌≡◌, ◌++◌, ◌-◌, ◌<◌, ◌≤◌, List, [], IfOk, IsOkUnless, length, nat_le};
+ghost use Rattle.std.specs.Prelude.{◌≡◌, ◌++◌, ◌+◌, ◌<◌, ◌≤◌, List, [], IfOk, IsOkUnless, drop, length, take};
+ghost use Rattle.std.specs.Bool.{Decides};
 ghost use Rattle.mk_lines.specs.PhysicalLines.{physical_lines};
 ghost use Rattle.mk_diff.specs.Hunks.{Hunk, IsDiff};
 ghost use Rattle.mk_diff.specs.HunkTexts.{diff_text, hunk_texts, names_text};
-ghost use Rattle.mk_diff.specs.Stretches.{IsHunkAt, Leads, first_old_start, shown};
+ghost use Rattle.mk_diff.specs.Stretches.{AreFar, AreGroup, IsHunkAt, IsRoomBelow, Leads, first_old_start, last_old_end, shown};
 
 use crate::finder::differences;
 use crate::hunk::{put, put_hunk};
@@ -99,6 +100,8 @@ fn near_count(stretches: &[Stretch]) -> usize
     requires { 0 < length stretches.now }
     ensures some { 0 < result }
     ensures within { result ≤ length stretches.now }
+    ensures near { AreGroup (take result stretches.now) }
+    ensures far { AreFar (last_old_end 0 (take result stretches.now)) (drop result stretches.now) }
 {
     let mut count = 1;
     while count < stretches.len() && is_near(stretches[count - 1], stretches[count]) {
@@ -109,7 +112,7 @@ fn near_count(stretches: &[Stretch]) -> usize
 
 // Whether the contexts of two stretches meet.
 fn is_near(above: Stretch, below: Stretch) -> bool
-    ensures { result ≡ nat_le (below.old_start - above.old_end) 6 }
+    ensures { Decides result (below.old_start ≤ above.old_end + 6) }
 {
     below.old_start.saturating_sub(above.old_end) <= 2 * CONTEXT
 }
@@ -125,6 +128,9 @@ fn with_context(
     below: &[Stretch],
 ) -> Stretch
     requires some { 0 < length changed.now }
+    requires near { AreGroup changed.now }
+    requires far { AreFar (last_old_end 0 changed.now) below.now }
+    requires room { IsRoomBelow old_at changed.now }
     requires leads { Leads (shown old.now) (shown new.now) 0 old_at new_at
         (changed.now ++ below.now) (length (shown old.now)) (length (shown new.now)) }
     ensures { IsHunkAt (shown old.now) (shown new.now) old_at new_at result changed.now below.now }
@@ -153,7 +159,9 @@ fn first_start(stretches: &[Stretch], end: usize) -> usize
 
 // So many lines, or those of a context if they are more.
 fn at_most_context(count: usize) -> usize
-    ensures { result ≤ count }
+    ensures within { result ≤ count }
+    ensures few { result ≤ 3 }
+    ensures all { result < count → result ≡ 3 }
 {
     if count < CONTEXT { count } else { CONTEXT }
 }

@@ -1,9 +1,10 @@
-use Rattle.std.proofs.Common.{◌≡◌, ◌-◌, ◌≤◌, ◌++◌, ◌∷◌, [], List, length, drop, rules, arith, ◌∙◌, sym, ap, subst, append-nil, ◌+◌}
+use Rattle.std.proofs.Common.{◌≡◌, ◌-◌, ◌≤◌, ◌<◌, ◌++◌, ◌∷◌, [], List, length, drop, rules, arith, ◌∙◌, sym, ap, subst, append-nil, ◌+◌}
 use Rattle.mk_diff.specs.Stretches.{AreApart, Leads, shown}
 use Rattle.mk_diff.specs.declared.stretch.Stretch.{Stretch}
 use Rattle.mk_diff.proofs.FinderLemmas.{Completes, completes-end, completes-front, completes-last, differ-drop, further}
 use Rattle.mk_diff.proofs.ShownLemmas.{length-shown, shown-rest, within-rest}
 use Rattle.mk_diff.proofs.finder.differences.Goals as goal
+use Rattle.mk_diff.proofs.finder.differences.Goals.{then-old_at-old, else-old_at-old+then-new_at-new}
 
 pub stretches-init : goal.stretches-init
 stretches-init g c =
@@ -44,8 +45,12 @@ returns-in_default-clause-leads g c =
     let i = c.stretches.old_at in
     let j = c.stretches.new_at in
     let unlike : AreApart (drop i (shown old)) (drop j (shown new)) = rw (shown-rest i old, shown-rest j new) at c.in_default.ensures in
+    let some : 0 < (length (shown old) - i) + (length (shown new) - j) = elim c.if-old_at-old.branch [
+        then-old_at-old w ↦ omega (arith, length-shown old, w.if-old_at-old.true)
+      | else-old_at-old+then-new_at-new w ↦ omega (arith, length-shown new, w.if-new_at-new.true)
+      ] in
     let leads = completes-last (shown old) (shown new) i j c.stretches.stretches.items c.stretches.invariant.3
-        (omega (arith, length-shown old)) (omega (arith, length-shown new)) unlike in
+        (omega (arith, length-shown old)) (omega (arith, length-shown new)) some unlike in
     let own : Leads (shown old) (shown new) 0 0 0 (c.stretches.stretches.items ++ record { old_start = i; old_end = length old; new_start = j; new_end = length new } ∷ []) (length (shown old)) (length (shown new)) =
         rw (← length-shown old, ← length-shown new) leads in
     subst (λ (found : List Stretch). Leads (shown old) (shown new) 0 0 0 found (length (shown old)) (length (shown new))) (sym c.in_ok-push.ensures.items) own
