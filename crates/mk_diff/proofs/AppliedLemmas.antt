@@ -1,11 +1,11 @@
 -- Hunks applied, one after the other.
-use Rattle.std.proofs.Common.{◌≡◌, ℕ, zero, suc, ◌+◌, ◌-◌, ◌≤◌, ◌<◌, Bool, true, false, cond, not, ◌&&◌, nat_le, List, [], ◌∷◌, ◌++◌, map, length, take, drop, get_or, refl, sym, ap, ap₂, ◌∙◌, subst, arith, append_assoc, append-nil, length-append, Some, None, Option, bytes_eq}
+use Rattle.std.proofs.Common.{◌≡◌, ℕ, suc, ◌+◌, ◌-◌, ◌≤◌, ◌<◌, Bool, true, false, cond, List, [], ◌∷◌, ◌++◌, map, length, take, drop, refl, sym, ap, ap₂, ◌∙◌, subst, arith, append_assoc, append-nil, length-append, Some, None, Option, bytes_eq}
 use Rattle.std.proofs.lemmas.List.{take_at, drop_at, take_rest, get_or-take, get_or-drop}
 use Rattle.std.proofs.lemmas.Slice.Eq.{bytes_eq-Decides}
 use Rattle.std.proofs.lemmas.Bool.Decides.{nat_tests}
 use Rattle.mk_lines.specs.Lists.{Each}
 use Rattle.mk_diff.specs.Hunks.{AreChanges, AreHunks, Change, Hunk, IsDiff, after, before, of_text, applied, is_not_in, is_reached, old_lines, new_lines, old_of, new_of, turned, turned_change}
-use Rattle.mk_diff.specs.Stretches.{AreApart, IsHunkAt, IsStretch, Leads, between, changes_of, hunk_of, last_old_end, line_at}
+use Rattle.mk_diff.specs.Stretches.{AreApart, IsHunkAt, IsStretch, Leads, between, changes_of, hunk_of, line_at}
 use Rattle.mk_diff.specs.declared.stretch.Stretch.{Stretch}
 use Rattle.mk_diff.specs.HunkTexts.{diff_text, hunk_text, hunk_texts, names_text}
 use Rattle.mk_diff.proofs.HunkTextLemmas.{in-two}

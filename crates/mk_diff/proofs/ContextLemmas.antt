@@ -1,5 +1,5 @@
 -- The stretch of a hunk: its changes with their context.
-use Rattle.std.proofs.Common.{◌≡◌, ℕ, zero, suc, ◌+◌, ◌-◌, ◌≤◌, ◌<◌, List, [], ◌∷◌, ◌++◌, length, get_or, take, drop, refl, sym, ap, ◌∙◌, subst, arith, ◌⊎◌, inl, inr}
+use Rattle.std.proofs.Common.{◌≡◌, ℕ, zero, suc, ◌+◌, ◌-◌, ◌≤◌, ◌<◌, List, [], ◌∷◌, ◌++◌, length, get_or, take, drop, refl, ap, ◌∙◌, subst, arith, ◌⊎◌, inl, inr}
 use Rattle.std.proofs.lemmas.List.{get_or-take, length-take-le}
 use Rattle.mk_diff.specs.Hunks.{AreJoined, Hunk, old_lines}
 use Rattle.mk_diff.specs.Stretches.{AreFar, AreGroup, AreNear, IsHunkAt, IsRoomBelow, Leads, between, changes_of, first_old_start, hunk_of, last_new_end, last_old_end}

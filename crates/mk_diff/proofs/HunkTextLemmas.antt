@@ -1,5 +1,5 @@
 -- The text of a hunk, line by line.
-use Rattle.std.proofs.Common.{◌≡◌, ℕ, ◌+◌, ◌-◌, ◌<◌, ◌≤◌, List, [], ◌∷◌, ◌++◌, length, take, drop, get_or, refl, sym, ap, ap₂, ◌∙◌, arith, append_assoc}
+use Rattle.std.proofs.Common.{◌≡◌, ℕ, ◌-◌, List, ◌∷◌, ◌++◌, length, sym, ap, ap₂, ◌∙◌, append_assoc}
 use Rattle.mk_diff.specs.Hunks.{old_lines, new_lines}
 use Rattle.mk_diff.specs.HunkTexts.{changes_text, header_text, hunk_text, signed_lines}
 use Rattle.mk_diff.specs.Stretches.{Leads, between, changes_of, hunk_of, last_old_end, lines_text}

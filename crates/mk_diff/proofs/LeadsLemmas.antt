@@ -1,7 +1,7 @@
 -- Stretches in which two texts differ: entered elsewhere, cut in two, and their lines.
-use Rattle.std.proofs.Common.{◌≡◌, ℕ, suc, ◌+◌, ◌-◌, ◌≤◌, List, [], ◌∷◌, ◌++◌, length, take, drop, refl, sym, ap, ap₂, ◌∙◌, arith, append_assoc}
+use Rattle.std.proofs.Common.{◌≡◌, ℕ, suc, ◌+◌, ◌≤◌, List, [], ◌∷◌, ◌++◌, length, refl, ap, ◌∙◌, arith, append_assoc}
 use Rattle.mk_diff.specs.Hunks.{old_of, new_of}
-use Rattle.mk_diff.specs.Stretches.{between, IsStretch, Leads, changes_of, last_old_end, last_new_end, first_old_start}
+use Rattle.mk_diff.specs.Stretches.{between, Leads, changes_of, last_old_end, last_new_end, first_old_start}
 use Rattle.mk_diff.specs.declared.stretch.Stretch.{Stretch}
 use Rattle.mk_diff.proofs.BetweenLemmas.{between-joined, same-front, same-back}
 

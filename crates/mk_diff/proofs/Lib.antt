@@ -6,4 +6,5 @@ mod HunkTextLemmas
 mod LeadsLemmas
 mod MatchLemmas
 mod PhysicalLineLemmas
+mod PlaceLemmas
 mod ShownLemmas

@@ -1,7 +1,6 @@
 -- Lines of two texts that differ.
-use Rattle.std.proofs.Common.{◌≡◌, ℕ, zero, suc, ◌+◌, ◌-◌, ◌<◌, ◌≤◌, List, length, refl, sym, ap, ◌∙◌, subst, arith, ◌⊎◌, inl, inr, eq-or-lt_of_le}
+use Rattle.std.proofs.Common.{◌≡◌, ℕ, zero, suc, ◌+◌, ◌-◌, ◌<◌, ◌≤◌, List, length, refl, sym, ap, ◌∙◌, arith, ◌⊎◌, inl, inr, eq-or-lt_of_le}
 use Rattle.mk_diff.specs.Stretches.{AreUnlike, DifferAt, IsMatch, IsNotIn, line_at}
-use Rattle.mk_diff.specs.declared.matching.Match.{Match}
 
 -- lines above which there are, in both texts together, fewer lines than `sum` differ
 unfoldable pub DifferBefore : (sum : ℕ) → (old new : List (List ℕ)) → Type 0

@@ -3,3 +3,4 @@ pub mod Hunks
 pub mod HunkTexts
 -- # Vocabulary of private contracts
 pub mod Stretches
+pub mod Places

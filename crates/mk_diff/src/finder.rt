@@ -13,7 +13,7 @@ use std::alloc::Allocator;
 /// # Errors
 ///
 /// [`Fault::NoMemory`] if the list could not grow.
-pub(crate) fn differences<A: Allocator>(
+pub(crate) fn differences<A: Allocator + Copy>(
     alloc: A,
     old: &[&[u8]],
     new: &[&[u8]],
@@ -23,10 +23,12 @@ pub(crate) fn differences<A: Allocator>(
     ensures fault { IsOkUnless result Fault.NoMemory }
 {
     let mut stretches = Vec::new(alloc);
+    let mut places = None;
     let mut old_at = common_front(old, new);
     let mut new_at = old_at;
     'stretches: while old_at < old.len() || new_at < new.len() {
-        let Some(found) = next_match(&old[old_at..], &new[new_at..]) else {
+        let found = next_match(alloc, &old[old_at..], new, new_at, &mut places)?;
+        let Some(found) = found else {
             stretches.push(Stretch {
                 old_start: old_at,
                 old_end: old.len(),

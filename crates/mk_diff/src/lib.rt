@@ -18,6 +18,7 @@ mod finder;
 mod hunk;
 mod lines;
 mod matching;
+mod places;
 mod stretch;
 mod unified;
 

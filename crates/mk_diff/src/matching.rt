@@ -1,8 +1,13 @@
 //! How far two texts agree, and where they agree again. Both are lists of lines.
-ghost use Rattle.std.specs.Prelude.{◌≡◌, ◌<◌, ◌≤◌, IfSome, MatchOption, length, take};
+ghost use Rattle.std.specs.Prelude.{◌≡◌, ◌<◌, ◌≤◌, IfOk, IfSome, IsOkUnless, MatchOption, drop, length, take};
+ghost use Rattle.mk_diff.specs.Places.{AreListed};
 ghost use Rattle.mk_diff.specs.Stretches.{AreApart, DifferAt, IsMatch, IsNotIn, line_at, shown};
 
 use crate::lines::is_same;
+use crate::places::{is_listed_from, places_of};
+use mk_lines::Fault;
+use std::alloc::Allocator;
+use std::collections::BTreeMap;
 
 /// How many lines at the front of two texts are the same.
 pub(crate) fn common_front(old: &[&[u8]], new: &[&[u8]]) -> usize
@@ -58,27 +63,62 @@ fn place_of(line: &[u8], text: &[&[u8]]) -> Option<usize>
     None
 }
 
-// The first line of the old text that the new one has too, with its first place there.
-fn far_match(old: &[&[u8]], new: &[&[u8]]) -> Option<Match>
-    requires { DifferAt 0 (shown old.now) (shown new.now) }
-    ensures { MatchOption result (AreApart (shown old.now) (shown new.now)) (λ found. IsMatch found (shown old.now) (shown new.now)) }
+// The first line of the old text that stands in the new one at an index or below it, with its first
+// place there, counted from that index.
+fn far_match<A: Allocator>(
+    old: &[&[u8]],
+    new: &[&[u8]],
+    at: usize,
+    places: &BTreeMap<&[u8], usize, A>,
+) -> Option<Match>
+    requires within { at ≤ length new.now }
+    requires differ { DifferAt 0 (shown old.now) (drop at (shown new.now)) }
+    requires listed { AreListed (shown new.now) (length new.now) places.now }
+    ensures { MatchOption result (AreApart (shown old.now) (drop at (shown new.now))) (λ found.
+        IsMatch found (shown old.now) (drop at (shown new.now))) }
 {
     for (removed, line) in old.iter().enumerate() {
-        if let Some(added) = place_of(line, new) {
+        if !is_listed_from(places, line, at) {
+            continue;
+        }
+        if let Some(added) = place_of(line, &new[at..]) {
             return Some(Match { removed, added });
         }
     }
     None
 }
 
-/// Where two texts whose first lines differ agree again: no line before the match in one of them
-/// stands before it in the other. `None` if they have no line in common.
-pub(crate) fn next_match(old: &[&[u8]], new: &[&[u8]]) -> Option<Match>
-    requires { DifferAt 0 (shown old.now) (shown new.now) }
-    ensures { MatchOption result (AreApart (shown old.now) (shown new.now)) (λ found. IsMatch found (shown old.now) (shown new.now)) }
+/// Where two texts agree again, if their first lines differ: no line before the match in one of them
+/// stands before it in the other. `None` if they have no line in common. The new text is the one
+/// from an index on. The places are those of its lines; they are listed where they are needed.
+///
+/// # Errors
+///
+/// [`Fault::NoMemory`] if the places could not be listed.
+pub(crate) fn next_match<'a, A: Allocator + Copy>(
+    alloc: A,
+    old: &[&[u8]],
+    new: &[&'a [u8]],
+    at: usize,
+    places: &mut Option<BTreeMap<&'a [u8], usize, A>>,
+) -> Result<Option<Match>, Fault>
+    requires within { at ≤ length new.now }
+    requires differ { DifferAt 0 (shown old.now) (drop at (shown new.now)) }
+    requires listed { IfSome places.old (AreListed (shown new.now) (length new.now)) }
+    ensures listed { IfSome places.new (AreListed (shown new.now) (length new.now)) }
+    ensures found { IfOk result (λ found. MatchOption found
+        (AreApart (shown old.now) (drop at (shown new.now))) (λ found.
+        IsMatch found (shown old.now) (drop at (shown new.now)))) }
+    ensures fault { IsOkUnless result Fault.NoMemory }
 {
-    match near_match(old, new) {
-        Some(found) => Some(found),
-        None => far_match(old, new),
+    if let Some(found) = near_match(old, &new[at..]) {
+        return Ok(Some(found));
     }
+    let listed = match places.take() {
+        Some(listed) => listed,
+        None => places_of(alloc, new)?,
+    };
+    let found = far_match(old, new, at, &listed);
+    *places = Some(listed);
+    Ok(found)
 }

@@ -1,4 +1,4 @@
-use Rattle.std.proofs.Common.{subst, sym}
+use Rattle.std.proofs.Common.{subst}
 use Rattle.memchr.specs.Find.{IsFirstByte, is_byte}
 use Rattle.mk_diff.proofs.PhysicalLineLemmas.{line-at_feed, line-without_feed}
 use Rattle.mk_diff.proofs.lines.first_length.Goals as goal

@@ -1,6 +1,6 @@
-use Rattle.std.proofs.Common.{◌≡◌, rules, arith, ◌∙◌, sym, length}
+use Rattle.std.proofs.Common.{arith, ◌∙◌, sym}
 use Rattle.std.proofs.lemmas.Bool.{false≢true}
-use Rattle.mk_diff.specs.Stretches.{line_at, shown}
+use Rattle.mk_diff.specs.Stretches.{shown}
 use Rattle.mk_diff.proofs.ShownLemmas.{front-more, length-shown, line_at-shown}
 use Rattle.mk_diff.proofs.matching.common_front.Goals as goal
 

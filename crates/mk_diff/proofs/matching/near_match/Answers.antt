@@ -1,4 +1,4 @@
-use Rattle.std.proofs.Common.{rules, arith, ◌∙◌, sym}
+use Rattle.std.proofs.Common.{arith, ◌∙◌, sym}
 use Rattle.std.proofs.lemmas.Bool.{false≢true}
 use Rattle.mk_diff.specs.Stretches.{shown}
 use Rattle.mk_diff.proofs.MatchLemmas.{above-more, above-none, before-first, before-more, match-near}

@@ -1,5 +1,5 @@
 -- Lines with fewer lines above them differ.
-use Rattle.std.proofs.Common.{◌≡◌, ℕ, ◌+◌, ◌<◌, length}
+use Rattle.std.proofs.Common.{◌<◌}
 use Rattle.mk_diff.proofs.MatchLemmas.{DifferBefore, DifferAbove}
 use Rattle.mk_diff.specs.Stretches.{shown}
 use Rattle.mk_diff.proofs.matching.near_match.Given as goal

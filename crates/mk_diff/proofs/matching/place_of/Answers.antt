@@ -1,4 +1,4 @@
-use Rattle.std.proofs.Common.{◌≡◌, ℕ, ◌<◌, ◌⊎◌, inl, inr, eq-or-lt_of_le, rules, arith, ◌∙◌, sym, ap}
+use Rattle.std.proofs.Common.{◌≡◌, ◌<◌, ◌⊎◌, inl, inr, eq-or-lt_of_le, arith, ◌∙◌, sym, ap}
 use Rattle.std.proofs.lemmas.Bool.{false≢true}
 use Rattle.mk_diff.specs.Stretches.{line_at, shown}
 use Rattle.mk_diff.proofs.ShownLemmas.{length-shown, line_at-shown}

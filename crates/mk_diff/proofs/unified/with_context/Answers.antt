@@ -1,5 +1,5 @@
-use Rattle.std.proofs.Common.{◌≡◌, ◌≤◌, ◌-◌, get_or, rules, arith, length, ap}
-use Rattle.mk_diff.specs.Stretches.{IsHunkAt, first_old_start, shown}
+use Rattle.std.proofs.Common.{arith, length, ap}
+use Rattle.mk_diff.specs.Stretches.{first_old_start, shown}
 use Rattle.mk_diff.proofs.ContextLemmas.{hunk-at, limit-is}
 use Rattle.mk_diff.proofs.LeadsLemmas.{Leads-order}
 use Rattle.mk_diff.proofs.ShownLemmas.{length-shown}
