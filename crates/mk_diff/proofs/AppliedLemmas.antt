@@ -7,7 +7,7 @@ use Rattle.mk_lines.specs.Lists.{Each}
 use Rattle.mk_diff.specs.Hunks.{AreChanges, AreHunks, Change, Hunk, IsDiff, after, before, of_text, applied, is_not_in, is_reached, old_lines, new_lines, old_of, new_of, turned, turned_change}
 use Rattle.mk_diff.specs.Stretches.{AreApart, IsHunkAt, IsStretch, Leads, between, changes_of, hunk_of, line_at}
 use Rattle.mk_diff.specs.declared.stretch.Stretch.{Stretch}
-use Rattle.mk_diff.specs.HunkTexts.{diff_text, hunk_text, hunk_texts, names_text}
+use Rattle.mk_diff.specs.HunkTexts.{hunk_text, hunk_texts}
 use Rattle.mk_diff.proofs.HunkTextLemmas.{in-two}
 use Rattle.mk_diff.proofs.BetweenLemmas.{between-rest, length-between}
 use Rattle.mk_diff.proofs.LeadsLemmas.{Leads-order, old_of-between, new_of-between}
@@ -23,7 +23,7 @@ reached-is : (i start : ℕ) (text : List (List ℕ)) → i ≤ start → start 
 reached-is i start text low high = grind (arith, nat_tests)
 
 -- a hunk that fits, and then the others
-pub applied-step : (i : ℕ) (h : Hunk) (hs : List Hunk) (text gap rest text' rest' : List (List ℕ))
+applied-step : (i : ℕ) (h : Hunk) (hs : List Hunk) (text gap rest text' rest' : List (List ℕ))
     → text ≡ gap ++ (old_lines h ++ rest) → text' ≡ gap ++ (new_lines h ++ rest') → h.old_start ≡ i + length gap
     → applied (h.old_start + length (old_lines h)) hs rest ≡ Some rest'
     → applied i (h ∷ hs) text ≡ Some text'
@@ -76,15 +76,18 @@ module _ (old new : List (List ℕ)) where
       let old_count = length-between s.old_start s.old_end old is.old_order is.old_within in
       let new_count = length-between s.new_start s.new_end new is.new_order is.new_within in
       apart-each (between s.old_start s.old_end old) (between s.new_start s.new_end new)
-        (λ p q low below same. is.unlike (s.old_start + p) (s.new_start + q) (omega arith) (omega arith) (omega arith) (omega arith)
-          (sym (line-between s.old_start s.old_end p old (omega arith)) ∙ same ∙ line-between s.new_start s.new_end q new (omega arith)))
+      (λ p q low below same. is.unlike (s.old_start + p) (s.new_start + q) (omega arith) (omega arith) (omega arith) (omega arith)
+      (sym (line-between s.old_start s.old_end p old (omega arith)) ∙ same ∙ line-between s.new_start s.new_end q new (omega arith)))
 
   pub changes-apart : (floor i j : ℕ) (ss : List Stretch) (e f : ℕ) → Leads old new floor i j ss e f → AreChanges (changes_of old new i ss)
   changes-apart floor i j [] e f h = tt
-  changes-apart floor i j (s ∷ ss) e f (below, is, rest) =
-      ((stretch-apart i j s is,
-        omega (arith, is.some, is.old_order, is.new_order, length-between s.old_start s.old_end old is.old_order is.old_within, length-between s.new_start s.new_end new is.new_order is.new_within)),
-       changes-apart (suc s.old_end) s.old_end s.new_end ss e f rest)
+  changes-apart floor i j (s ∷ ss) e f (below, is, rest) = (
+    (
+      stretch-apart i j s is,
+      omega (arith, is.some, is.old_order, is.new_order, length-between s.old_start s.old_end old is.old_order is.old_within, length-between s.new_start s.new_end new is.new_order is.new_within),
+    ),
+    changes-apart (suc s.old_end) s.old_end s.new_end ss e f rest,
+  )
 
 module _ (old new : List (List ℕ)) where
   -- Hunks that lead to one place of each text: with hunks that lead from there to the end they lead from one text to the other.
@@ -113,21 +116,21 @@ module _ (old new : List (List ℕ)) where
       let gap_count : length (between i k old) ≡ k - i = length-between i k old is.reached (omega arith) in
       let new_gap_count : length (between j l new) ≡ l - j = length-between j l new j_order (omega arith) in
       let old_rest : drop i old ≡ between i k old ++ (old_lines hunk ++ drop e old) =
-          sym (between-rest i k old is.reached) ∙ ap (λ ls. between i k old ++ ls) (sym (between-rest k e old order.0) ∙ ap (λ ls. ls ++ drop e old) (sym takes)) in
+      sym (between-rest i k old is.reached) ∙ ap (λ ls. between i k old ++ ls) (sym (between-rest k e old order.0) ∙ ap (λ ls. ls ++ drop e old) (sym takes)) in
       let new_rest : drop j new ≡ between j l new ++ (new_lines hunk ++ drop f new) =
-          sym (between-rest j l new j_order) ∙ ap (λ ls. between j l new ++ ls) (sym (between-rest l f new order.1) ∙ ap (λ ls. ls ++ drop f new) (sym gives)) in
+      sym (between-rest j l new j_order) ∙ ap (λ ls. between j l new ++ ls) (sym (between-rest l f new order.1) ∙ ap (λ ls. ls ++ drop f new) (sym gives)) in
       let back_old : old_lines (turned hunk) ≡ new_lines hunk = ap (λ ls. ls ++ hunk.below) (turned-old hunk.changes) in
       let back_new : new_lines (turned hunk) ≡ old_lines hunk = ap (λ ls. ls ++ hunk.below) (turned-new hunk.changes) in
       record {
         applies = λ more then. rw append_assoc (h.applies (hunk ∷ more)
             (applied-step i hunk more (drop i old) (between i k old) (drop e old) (drop j new) (drop f new)
-              old_rest (new_rest ∙ ap (λ ls. ls ++ (new_lines hunk ++ drop f new)) (sym is.same)) (omega arith)
-              (ap (λ n. applied n more (drop e old)) {x = k + length (old_lines hunk)} {y = e} (omega arith) ∙ then)));
+            old_rest (new_rest ∙ ap (λ ls. ls ++ (new_lines hunk ++ drop f new)) (sym is.same)) (omega arith)
+            (ap (λ n. applied n more (drop e old)) {x = k + length (old_lines hunk)} {y = e} (omega arith) ∙ then)));
         turns = λ more then. rw append_assoc (h.turns (hunk ∷ more)
             (applied-step j (turned hunk) (map turned more) (drop j new) (between j l new) (drop f new) (drop i old) (drop e old)
-              (new_rest ∙ ap (λ ls. between j l new ++ (ls ++ drop f new)) (sym back_old))
-              (old_rest ∙ ap₂ (λ a ls. a ++ (ls ++ drop e old)) is.same (sym back_new)) (omega arith)
-              (ap (λ n. applied n (map turned more) (drop f new)) {x = l + length (old_lines (turned hunk))} {y = f} (omega (arith, ap length back_old)) ∙ then)));
+            (new_rest ∙ ap (λ ls. between j l new ++ (ls ++ drop f new)) (sym back_old))
+            (old_rest ∙ ap₂ (λ a ls. a ++ (ls ++ drop e old)) is.same (sym back_new)) (omega arith)
+            (ap (λ n. applied n (map turned more) (drop f new)) {x = l + length (old_lines (turned hunk))} {y = f} (omega (arith, ap length back_old)) ∙ then)));
         stand = λ more then. rw append_assoc (h.stand (hunk ∷ more)
             (apart, is.is_hunk, subst (λ (n : ℕ). AreHunks (suc n) (length old) more) {x = e} {y = k + length (old_lines hunk)} (omega arith) then));
       }
@@ -150,8 +153,3 @@ hunk_texts-more text middle end hs h before more = in-two text middle end (hunk_
     joined : (hs : List Hunk) → hunk_texts (hs ++ h ∷ []) ≡ hunk_texts hs ++ hunk_text h
     joined [] = append-nil (hunk_text h)
     joined (x ∷ hs) = ap (λ t. hunk_text x ++ t) (joined hs) ∙ sym (append_assoc (hunk_text x) (hunk_texts hs) (hunk_text h))
-
--- hunks are in the diff behind the names
-pub diff_text-some : (name : List ℕ) (hs : List Hunk) → (hs ≡ [] → ⊥) → diff_text name hs ≡ names_text name ++ hunk_texts hs
-diff_text-some name [] some = absurd (some refl)
-diff_text-some name (h ∷ hs) some = refl

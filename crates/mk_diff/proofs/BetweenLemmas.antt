@@ -31,7 +31,7 @@ pub same-front : (i k s j l t : ℕ) (old new : List (List ℕ)) → between i s
 same-front i k s j l t old new same even low high moved =
     let left : between i k old ≡ take (k - i) (between i s old) = sym (take-take (k - i) (s - i) (drop i old) (omega arith)) in
     let right : take (k - i) (between j t new) ≡ between j l new =
-        ap (λ n. take n (between j t new)) (omega arith) ∙ take-take (l - j) (t - j) (drop j new) (omega arith) in
+    ap (λ n. take n (between j t new)) (omega arith) ∙ take-take (l - j) (t - j) (drop j new) (omega arith) in
     left ∙ ap (take (k - i)) same ∙ right
 
 back-of : (i k s : ℕ) (ls : List (List ℕ)) → i ≤ k → k ≤ s → between k s ls ≡ drop (k - i) (between i s ls)

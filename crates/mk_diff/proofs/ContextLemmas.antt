@@ -62,11 +62,11 @@ module _ (old new : List (List ℕ)) where
       → under ≤ 3 → under ≤ first_old_start a (length old) - (get_or g (length g - 1) d).old_end
       → (under < first_old_start a (length old) - (get_or g (length g - 1) d).old_end → under ≡ 3)
       → IsHunkAt old new i j (record {
-          old_start = (get_or g 0 d).old_start - above;
-          old_end = (get_or g (length g - 1) d).old_end + under;
-          new_start = (get_or g 0 d).new_start - above;
-          new_end = (get_or g (length g - 1) d).new_end + under;
-        }) g a
+        old_start = (get_or g 0 d).old_start - above;
+        old_end = (get_or g (length g - 1) d).old_end + under;
+        new_start = (get_or g 0 d).new_start - above;
+        new_end = (get_or g (length g - 1) d).new_end + under;
+      }) g a
   hunk-at i j [] a d above under some h near far room few high all few_under low all_under = absurd (omega arith)
   hunk-at i j (s ∷ g) a d above under some (below, is, rest) near far room few high all few_under low all_under =
       let k : ℕ = s.old_start - above in
@@ -88,19 +88,23 @@ module _ (old new : List (List ℕ)) where
       let takes : old_lines hunk ≡ between k e old = old_of-between old new 0 k l (s ∷ g) e f cut.0 in
       let takes_count : length (old_lines hunk) ≡ e - k = ap length takes ∙ length-between k e old order.0 order.2 in
       let above_count : length (between k s.old_start old) ≡ above =
-          length-between k s.old_start old (omega arith) (omega (arith, is.old_order, is.old_within)) ∙ (omega arith) in
+      length-between k s.old_start old (omega arith) (omega (arith, is.old_order, is.old_within)) ∙ (omega arith) in
       let below_count : length (between (last_old_end k (s ∷ g)) e old) ≡ under =
-          length-between (last_old_end k (s ∷ g)) e old (omega arith) order.2 ∙ (omega arith) in
+      length-between (last_old_end k (s ∷ g)) e old (omega arith) order.2 ∙ (omega arith) in
       let far_last : AreFar last.old_end a = subst (λ (n : ℕ). AreFar n a) last_old far in
       record {
         reached = omega arith;
         even = omega arith;
         same = entered.0;
         inside = cut.0;
-        is_hunk = (changes-apart old new 0 k l (s ∷ g) e f cut.0,
-          ((omega arith, λ some_above. above_count ∙ full-above i s.old_start above k room few high all refl some_above),
-           joined s.old_end s.new_end g e f cut.0.2 near),
-          (omega arith, λ some_below. below_count ∙ full-below a last.old_end under far_last few_under low all_under (omega arith)));
+        is_hunk = (
+          changes-apart old new 0 k l (s ∷ g) e f cut.0,
+          (
+            (omega arith, λ some_above. above_count ∙ full-above i s.old_start above k room few high all refl some_above),
+            joined s.old_end s.new_end g e f cut.0.2 near,
+          ),
+          (omega arith, λ some_below. below_count ∙ full-below a last.old_end under far_last few_under low all_under (omega arith)),
+        );
         near = omega arith;
         room = λ some_below. room-below a last.old_end under far_last few_under some_below;
         rest = cut.1;
@@ -134,10 +138,6 @@ far-from (s ∷ ss) (suc n) d at h = far-from ss n d at (λ below. h (omega arit
 pub room-front : (at : ℕ) (g a : List Stretch) → IsRoomBelow at (g ++ a) → IsRoomBelow at g
 room-front at [] a h = tt
 room-front at (s ∷ g) a h = h
-
-pub room-of : (at : ℕ) (g : List Stretch) → (0 < length g → at + 4 ≤ first_old_start g 0) → IsRoomBelow at g
-room-of at [] h = tt
-room-of at (s ∷ g) h = inr (h (omega arith))
 
 -- ---- the place of the last hunk
 

@@ -9,24 +9,29 @@ module _ (old new : List (List ℕ)) where
   -- a place further up, with the same lines of both texts below it
   Leads-leave : (floor low i j : ℕ) (ss : List Stretch) (I J k l : ℕ) → Leads old new floor k l ss I J → low ≤ floor → i ≤ k → k + j ≡ l + i
       → between i k old ≡ between j l new → Leads old new low i j ss I J
-  Leads-leave floor low i j [] I J k l (order, old_within, new_within, even, same) lower high moved front =
-      (omega arith, old_within, new_within, omega arith,
-       sym (between-joined i k I old high order) ∙ ap₂ (λ a b. a ++ b) front same ∙ between-joined j l J new (omega arith) (omega arith))
-  Leads-leave floor low i j (s ∷ ss) I J k l (below, is, rest) lower high moved front =
-      (omega arith,
-       record {
-         begins = omega (arith, is.begins);
-         old_order = is.old_order;
-         old_within = is.old_within;
-         new_order = is.new_order;
-         new_within = is.new_within;
-         even = omega (arith, is.even);
-         some = is.some;
-         same = sym (between-joined i k s.old_start old high is.begins) ∙ ap₂ (λ a b. a ++ b) front is.same
-             ∙ between-joined j l s.new_start new (omega arith) (omega (arith, is.even, is.begins));
-         unlike = is.unlike;
-       },
-       rest)
+  Leads-leave floor low i j [] I J k l (order, old_within, new_within, even, same) lower high moved front = (
+    omega arith,
+    old_within,
+    new_within,
+    omega arith,
+    sym (between-joined i k I old high order) ∙ ap₂ (λ a b. a ++ b) front same ∙ between-joined j l J new (omega arith) (omega arith),
+  )
+  Leads-leave floor low i j (s ∷ ss) I J k l (below, is, rest) lower high moved front = (
+    omega arith,
+    record {
+      begins = omega (arith, is.begins);
+      old_order = is.old_order;
+      old_within = is.old_within;
+      new_order = is.new_order;
+      new_within = is.new_within;
+      even = omega (arith, is.even);
+      some = is.some;
+      same = sym (between-joined i k s.old_start old high is.begins) ∙ ap₂ (λ a b. a ++ b) front is.same
+          ∙ between-joined j l s.new_start new (omega arith) (omega (arith, is.even, is.begins));
+      unlike = is.unlike;
+    },
+    rest,
+  )
 
   -- ---- the stretches so far: those that are found from here on complete them
 
@@ -60,7 +65,7 @@ module _ (old new : List (List ℕ)) where
   }
 
   -- one more stretch is found, and below it at least one line is the same
-  pub completes-more : (i j a b n : ℕ) (found : List Stretch) → Completes i j found → 0 < a + b → i + a ≤ length old → j + b ≤ length new
+  completes-more : (i j a b n : ℕ) (found : List Stretch) → Completes i j found → 0 < a + b → i + a ≤ length old → j + b ≤ length new
       → AreUnlike a b (drop i old) (drop j new) → 0 < n → take n (drop (i + a) old) ≡ take n (drop (j + b) new)
       → Completes (i + a + n) (j + b + n) (found ++ record { old_start = i; old_end = i + a; new_start = j; new_end = j + b } ∷ [])
   unfolding Completes
@@ -69,9 +74,9 @@ module _ (old new : List (List ℕ)) where
       let cut : n ≡ i + a + n - (i + a) = omega arith in
       let cut_new : n ≡ j + b + n - (j + b) = omega arith in
       let front : between (i + a) (i + a + n) old ≡ between (j + b) (j + b + n) new =
-          ap (λ m. take m (drop (i + a) old)) (sym cut) ∙ same ∙ ap (λ m. take m (drop (j + b) new)) cut_new in
+      ap (λ m. take m (drop (i + a) old)) (sym cut) ∙ same ∙ ap (λ m. take m (drop (j + b) new)) cut_new in
       let under : Leads old new (suc (i + a)) (i + a) (j + b) rest (length old) (length new) =
-          Leads-leave (i + a + n) (suc (i + a)) (i + a) (j + b) rest (length old) (length new) (i + a + n) (j + b + n) leads (omega arith) (omega arith) (omega arith) front in
+      Leads-leave (i + a + n) (suc (i + a)) (i + a) (j + b) rest (length old) (length new) (i + a + n) (j + b + n) leads (omega arith) (omega arith) (omega arith) front in
       let all = h (s ∷ rest) (omega arith, stretch-of i j a b further old_in new_in unlike, under) in
       rw append_assoc all
 
@@ -79,8 +84,13 @@ module _ (old new : List (List ℕ)) where
   pub completes-end : (i j : ℕ) (found : List Stretch) → Completes i j found → i ≡ length old → j ≡ length new → Leads old new 0 0 0 (found ++ []) (length old) (length new)
   unfolding Completes
   completes-end i j found h old_end new_end =
-      h [] (omega arith, omega arith, omega arith, omega arith,
-        ap (λ n. between i n old) (sym old_end) ∙ between-none i old ∙ sym (between-none j new) ∙ ap (λ n. between j n new) new_end)
+      h [] (
+        omega arith,
+        omega arith,
+        omega arith,
+        omega arith,
+        ap (λ n. between i n old) (sym old_end) ∙ between-none i old ∙ sym (between-none j new) ∙ ap (λ n. between j n new) new_end,
+      )
 
   -- the last stretch goes to the end of both texts
   pub completes-last : (i j : ℕ) (found : List Stretch) → Completes i j found → i ≤ length old → j ≤ length new → 0 < (length old - i) + (length new - j)
@@ -91,12 +101,14 @@ module _ (old new : List (List ℕ)) where
       let old_all : i + (length old - i) ≡ length old = omega arith in
       let new_all : j + (length new - j) ≡ length new = omega arith in
       let is : IsStretch old new i j (record { old_start = i; old_end = i + (length old - i); new_start = j; new_end = j + (length new - j) }) =
-          stretch-of i j (length old - i) (length new - j) some (omega arith) (omega arith) (λ p q few_old few_new old_under new_under same. unlike p q old_under new_under same) in
+      stretch-of i j (length old - i) (length new - j) some (omega arith) (omega arith) (λ p q few_old few_new old_under new_under same. unlike p q old_under new_under same) in
       let last : IsStretch old new i j (record { old_start = i; old_end = length old; new_start = j; new_end = length new }) =
-          rw (← old_all, ← new_all) is in
-      h (record { old_start = i; old_end = length old; new_start = j; new_end = length new } ∷ [])
-        (omega arith, last,
-         (omega arith, omega arith, omega arith, omega arith, between-none (length old) old ∙ sym (between-none (length new) new)))
+      rw (← old_all, ← new_all) is in
+      h (record { old_start = i; old_end = length old; new_start = j; new_end = length new } ∷ []) (
+        omega arith,
+        last,
+        (omega arith, omega arith, omega arith, omega arith, between-none (length old) old ∙ sym (between-none (length new) new)),
+      )
 
   -- ---- where both texts agree again
 
@@ -104,7 +116,7 @@ module _ (old new : List (List ℕ)) where
   pub differ-drop : (n : ℕ) (a b : List (List ℕ)) → DifferAt n a b → DifferAt 0 (drop n a) (drop n b)
   differ-drop n a b h some other same =
       h (omega (arith, length-drop n a)) (omega (arith, length-drop n b))
-        (ap (λ m. line_at m a) {x = n} {y = n + 0} (omega arith) ∙ sym (get_or-drop n a 0 []) ∙ same ∙ get_or-drop n b 0 [] ∙ ap (λ m. line_at m b) {x = n + 0} {y = n} (omega arith))
+      (ap (λ m. line_at m a) {x = n} {y = n + 0} (omega arith) ∙ sym (get_or-drop n a 0 []) ∙ same ∙ get_or-drop n b 0 [] ∙ ap (λ m. line_at m b) {x = n + 0} {y = n} (omega arith))
 
   some-same : (n : ℕ) (a b : List (List ℕ)) → DifferAt n a b → 0 < length a → 0 < length b → line_at 0 a ≡ line_at 0 b → 0 < n
   some-same zero a b h some other same = absurd (h some other same)
@@ -126,11 +138,11 @@ module _ (old new : List (List ℕ)) where
       let old_under : i + a < length old = omega (arith, match.old_within, length-drop i old) in
       let new_under : j + b < length new = omega (arith, match.new_within, length-drop j new) in
       let left : line_at 0 (drop (i + a) old) ≡ line_at a (drop i old) =
-          get_or-drop (i + a) old 0 [] ∙ ap (λ m. line_at m old) {x = i + a + 0} {y = i + a} (omega arith) ∙ sym (get_or-drop i old a []) in
+      get_or-drop (i + a) old 0 [] ∙ ap (λ m. line_at m old) {x = i + a + 0} {y = i + a} (omega arith) ∙ sym (get_or-drop i old a []) in
       let right : line_at b (drop j new) ≡ line_at 0 (drop (j + b) new) =
-          get_or-drop j new b [] ∙ ap (λ m. line_at m new) {x = j + b} {y = j + b + 0} (omega arith) ∙ sym (get_or-drop (j + b) new 0 []) in
+      get_or-drop j new b [] ∙ ap (λ m. line_at m new) {x = j + b} {y = j + b + 0} (omega arith) ∙ sym (get_or-drop (j + b) new 0 []) in
       let some : 0 < n = some-same n (drop (i + a) old) (drop (j + b) new) stops (omega (arith, length-drop (i + a) old)) (omega (arith, length-drop (j + b) new))
-          (left ∙ match.same ∙ right) in
+      (left ∙ match.same ∙ right) in
       let below = differ-drop n (drop (i + a) old) (drop (j + b) new) stops in
       record {
         old_in = omega (arith, length-drop (i + a) old);

@@ -24,15 +24,15 @@ module _ (old new : List (List ℕ)) where
   pub hunk_text-is : (whole : Stretch) (changed : List Stretch) → Leads old new 0 whole.old_start whole.new_start changed whole.old_end whole.new_end
       → hunk_text (hunk_of old new whole changed)
       ≡ header_text whole.old_start (whole.old_end - whole.old_start) whole.new_start (whole.new_end - whole.new_start)
-          ++ lines_text old new whole.old_start changed whole.old_end
+      ++ lines_text old new whole.old_start changed whole.old_end
   hunk_text-is whole changed h =
       let order = Leads-order old new 0 whole.old_start whole.new_start changed whole.old_end whole.new_end h in
       let old_count : length (old_lines (hunk_of old new whole changed)) ≡ whole.old_end - whole.old_start =
-          ap length (old_of-between old new 0 whole.old_start whole.new_start changed whole.old_end whole.new_end h)
-          ∙ length-between whole.old_start whole.old_end old order.0 order.2 in
+      ap length (old_of-between old new 0 whole.old_start whole.new_start changed whole.old_end whole.new_end h)
+      ∙ length-between whole.old_start whole.old_end old order.0 order.2 in
       let new_count : length (new_lines (hunk_of old new whole changed)) ≡ whole.new_end - whole.new_start =
-          ap length (new_of-between old new 0 whole.old_start whole.new_start changed whole.old_end whole.new_end h)
-          ∙ length-between whole.new_start whole.new_end new order.1 order.3 in
+      ap length (new_of-between old new 0 whole.old_start whole.new_start changed whole.old_end whole.new_end h)
+      ∙ length-between whole.new_start whole.new_end new order.1 order.3 in
       ap₂ (λ a b. header_text whole.old_start a whole.new_start b ++ lines_text old new whole.old_start changed whole.old_end) old_count new_count
 
 -- a text in two parts

@@ -7,31 +7,35 @@ use Rattle.mk_diff.proofs.BetweenLemmas.{between-joined, same-front, same-back}
 
 module _ (old new : List (List ℕ)) where
   -- the first stretch may begin at any floor above
-  pub Leads-lower : (floor i j : ℕ) (ss : List Stretch) (I J : ℕ) → Leads old new floor i j ss I J → Leads old new 0 i j ss I J
+  Leads-lower : (floor i j : ℕ) (ss : List Stretch) (I J : ℕ) → Leads old new floor i j ss I J → Leads old new 0 i j ss I J
   Leads-lower floor i j [] I J h = h
   Leads-lower floor i j (s ∷ ss) I J h = (omega arith, h.1, h.2)
 
   -- a place above the first stretch, with the same lines of both texts above it
   pub Leads-enter : (floor i j : ℕ) (ss : List Stretch) (I J k l : ℕ) → Leads old new floor i j ss I J → i ≤ k → k ≤ first_old_start ss I → k + j ≡ l + i
       → (between i k old ≡ between j l new) × Leads old new floor k l ss I J
-  Leads-enter floor i j [] I J k l (order, old_within, new_within, even, same) low high moved =
-      (same-front i k I j l J old new same even low high moved,
-       (high, old_within, new_within, omega arith, same-back i k I j l J old new same even low high moved))
-  Leads-enter floor i j (s ∷ ss) I J k l (below, is, rest) low high moved =
-      (same-front i k s.old_start j l s.new_start old new is.same is.even low high moved,
-       (below,
-        record {
-          begins = high;
-          old_order = is.old_order;
-          old_within = is.old_within;
-          new_order = is.new_order;
-          new_within = is.new_within;
-          even = omega (arith, is.even);
-          some = is.some;
-          same = same-back i k s.old_start j l s.new_start old new is.same is.even low high moved;
-          unlike = is.unlike;
-        },
-        rest))
+  Leads-enter floor i j [] I J k l (order, old_within, new_within, even, same) low high moved = (
+    same-front i k I j l J old new same even low high moved,
+    (high, old_within, new_within, omega arith, same-back i k I j l J old new same even low high moved),
+  )
+  Leads-enter floor i j (s ∷ ss) I J k l (below, is, rest) low high moved = (
+    same-front i k s.old_start j l s.new_start old new is.same is.even low high moved,
+    (
+      below,
+      record {
+        begins = high;
+        old_order = is.old_order;
+        old_within = is.old_within;
+        new_order = is.new_order;
+        new_within = is.new_within;
+        even = omega (arith, is.even);
+        some = is.some;
+        same = same-back i k s.old_start j l s.new_start old new is.same is.even low high moved;
+        unlike = is.unlike;
+      },
+      rest,
+    ),
+  )
 
   -- the first stretch begins within both texts
   pub Leads-first : (floor i j : ℕ) (ss : List Stretch) (I J : ℕ) → Leads old new floor i j ss I J → (i ≤ first_old_start ss I) × (first_old_start ss I ≤ length old)

@@ -8,3 +8,5 @@ mod MatchLemmas
 mod PhysicalLineLemmas
 mod PlaceLemmas
 mod ShownLemmas
+-- Definitions computed
+mod WorkedRows

@@ -4,17 +4,10 @@ use Rattle.std.specs.Prelude.{Some, None}
 use Rattle.std.proofs.Math.Seq.{take-length, drop-length}
 use Rattle.memchr.specs.Find.{IsFirstByte, is_byte}
 use Rattle.mk_lines.specs.Lists.{onto_first}
-use Rattle.mk_lines.specs.PhysicalLines.{physical_lines, before_lines}
-use Rattle.mk_lines.specs.Bytes.{ByteKind, LineFeed, CarriageReturn, Backslash, Blank, Ordinary, byte_kind}
+use Rattle.mk_lines.specs.PhysicalLines.{physical_lines}
+use Rattle.mk_lines.specs.Bytes.{byte_kind}
+use Rattle.mk_lines.proofs.on_lines.LineCut.{before_lines-ordinary}
 use Rattle.mk_lines.proofs.on_lists.ByteLemmas.{line_feed-byte}
-
--- a byte that is no line feed goes to the first line
-other-byte : (k : ByteKind) (b : ℕ) (ls : List (List ℕ)) → (k ≡ LineFeed → ⊥) → before_lines k b ls ≡ onto_first (b ∷ []) ls
-other-byte LineFeed b ls not_feed = absurd (not_feed refl)
-other-byte CarriageReturn b ls not_feed = refl
-other-byte Backslash b ls not_feed = refl
-other-byte Blank b ls not_feed = refl
-other-byte Ordinary b ls not_feed = refl
 
 -- the line up to the first line feed
 up-to-feed : (text : List ℕ) (k : ℕ) → k < length text → ((j : ℕ) → j < k → get_or text j 0 ≡ 10 → ⊥) → get_or text k 0 ≡ 10
@@ -22,15 +15,15 @@ up-to-feed : (text : List ℕ) (k : ℕ) → k < length text → ((j : ℕ) → 
 up-to-feed [] k high none feed = absurd (omega arith)
 up-to-feed (b ∷ text) zero high none feed = rw feed refl
 up-to-feed (b ∷ text) (suc k) high none feed =
-    other-byte (byte_kind b) b (physical_lines text) (λ is. none 0 (omega arith) (line_feed-byte b is))
+    before_lines-ordinary (byte_kind b) b (physical_lines text) (λ is. none 0 (omega arith) (line_feed-byte b is))
     ∙ ap (onto_first (b ∷ [])) (up-to-feed text k (omega arith) (λ j below. none (suc j) (omega arith)) feed)
 
 -- the last line, which has no line feed
 last-line : (text : List ℕ) → 0 < length text → ((j : ℕ) → j < length text → get_or text j 0 ≡ 10 → ⊥) → physical_lines text ≡ text ∷ []
 last-line [] some none = absurd (omega arith)
-last-line (b ∷ []) some none = other-byte (byte_kind b) b [] (λ is. none 0 (omega arith) (line_feed-byte b is))
+last-line (b ∷ []) some none = before_lines-ordinary (byte_kind b) b [] (λ is. none 0 (omega arith) (line_feed-byte b is))
 last-line (b ∷ c ∷ text) some none =
-    other-byte (byte_kind b) b (physical_lines (c ∷ text)) (λ is. none 0 (omega arith) (line_feed-byte b is))
+    before_lines-ordinary (byte_kind b) b (physical_lines (c ∷ text)) (λ is. none 0 (omega arith) (line_feed-byte b is))
     ∙ ap (onto_first (b ∷ [])) (last-line (c ∷ text) (omega arith) (λ j below. none (suc j) (omega arith)))
 
 -- by what a search for the line feed tells

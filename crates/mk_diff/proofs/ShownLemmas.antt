@@ -6,7 +6,7 @@ use Rattle.mk_diff.specs.Stretches.{shown, between, line_at}
 pub length-shown : (ls : List (Bor (List ℕ))) → length (shown ls) ≡ length ls
 length-shown ls = length-map ls (λ (l : Bor (List ℕ)). l.now)
 
-pub shown-drop : (n : ℕ) (ls : List (Bor (List ℕ))) → shown (drop n ls) ≡ drop n (shown ls)
+shown-drop : (n : ℕ) (ls : List (Bor (List ℕ))) → shown (drop n ls) ≡ drop n (shown ls)
 shown-drop zero ls = refl
 shown-drop (suc n) [] = refl
 shown-drop (suc n) (l ∷ ls) = shown-drop n ls

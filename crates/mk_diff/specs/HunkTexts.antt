@@ -4,10 +4,11 @@ use Rattle.std.specs.Prelude.{ℕ, ◌+◌, ◌==◌, if◌then◌else◌, List,
 use Rattle.mk_lines.specs.PhysicalLines.{line_end}
 use Rattle.mk_lines.specs.declared.ends.End.{End}
 use Rattle.mk_lines.specs.declared.ends.End.TheVariants.{None, Lf, CrLf}
+use Rattle.mk_diff.specs.NameTexts.{name_text}
 use Rattle.mk_diff.specs.Hunks.{Change, Hunk, old_lines, new_lines}
 
 -- what is said of a line that ends in this way: of the last line, that it has no line feed
-abbrev pub end_text : End → List ℕ
+abbrev end_text : End → List ℕ
 end_text None = codes "\n\\ No newline at end of file\n"
 end_text Lf = []
 end_text CrLf = []
@@ -55,7 +56,9 @@ hunk_texts (h ∷ hs) = hunk_text h ++ hunk_texts hs
 
 -- the two lines of names
 abbrev pub names_text : (name : List ℕ) → List ℕ
-names_text name = codes "--- a/" ++ (name ++ (codes "\n+++ b/" ++ (name ++ codes "\n")))
+names_text name =
+    codes "--- " ++ (name_text (codes "a/") name ++ (codes "\n+++ " ++ (name_text (codes "b/") name
+    ++ codes "\n")))
 
 -- the diff of a file of this name: nothing where there are no hunks
 abbrev pub diff_text : (name : List ℕ) → List Hunk → List ℕ

@@ -72,8 +72,8 @@ applied passed [] text = Some text
 applied passed (h ∷ hs) text =
     if is_reached passed h.old_start text
     then of_text (after (old_lines h) (drop (h.old_start - passed) text)) (λ rest.
-        before (take (h.old_start - passed) text ++ new_lines h)
-            (applied (h.old_start + length (old_lines h)) hs rest))
+    before (take (h.old_start - passed) text ++ new_lines h)
+    (applied (h.old_start + length (old_lines h)) hs rest))
     else None
 
 -- a change that takes a change back
@@ -97,7 +97,7 @@ is_not_in [] l = true
 is_not_in (m ∷ ms) l = not (bytes_eq l m) && is_not_in ms l
 
 -- no line is removed and added by a change, which removes or adds a line
-abbrev pub IsChange : Change → Type 0
+abbrev IsChange : Change → Type 0
 IsChange c = Each (is_not_in c.added) c.removed × (0 < length c.removed + length c.added)
 
 abbrev pub AreChanges : List Change → Type 0
@@ -106,7 +106,7 @@ AreChanges (c ∷ cs) = IsChange c × AreChanges cs
 
 -- so many lines of context, where so many lines are beyond them: three lines, or fewer if none is
 -- beyond
-abbrev pub IsContext : (count beyond : ℕ) → Type 0
+abbrev IsContext : (count beyond : ℕ) → Type 0
 IsContext count beyond = (count ≤ 3) × (0 < beyond → count ≡ 3)
 
 -- the changes below the first of a hunk: one line to six lines stand above each
@@ -115,7 +115,7 @@ AreJoined [] = Unit {0}
 AreJoined (c ∷ cs) = (0 < length c.above) × (length c.above ≤ 6) × AreJoined cs
 
 -- the changes of a hunk that so many lines of the old text stand above: at least one
-abbrev pub AreInContext : (start : ℕ) → List Change → Type 0
+abbrev AreInContext : (start : ℕ) → List Change → Type 0
 AreInContext start [] = ⊥
 AreInContext start (c ∷ cs) = IsContext (length c.above) start × AreJoined cs
 

@@ -4,22 +4,10 @@ ghost use Rattle.mk_diff.specs.HunkTexts.{header_text, hunk_text, range_text, si
 ghost use Rattle.mk_diff.specs.Stretches.{Leads, hunk_of, lines_text, shown};
 
 use crate::stretch::Stretch;
+use crate::text::put;
 use mk_lines::ends::line_end;
 use mk_lines::{End, Fault};
 use std::alloc::Allocator;
-
-// Puts some bytes behind a text.
-//
-// # Errors
-//
-// [`Fault::NoMemory`] if the text could not grow, as of each call below.
-pub(crate) fn put<A: Allocator>(text: &mut Vec<u8, A>, bytes: &[u8]) -> Result<(), Fault>
-    ensures bytes { IfOk result (λ _. text.new.items ≡ text.old.items ++ bytes.now) }
-    ensures fault { IsOkUnless result Fault.NoMemory }
-{
-    text.extend_from_slice(bytes)?;
-    Ok(())
-}
 
 // Puts a line of a hunk with its sign behind a text.
 fn put_line<A: Allocator>(text: &mut Vec<u8, A>, sign: u8, line: &[u8]) -> Result<(), Fault>

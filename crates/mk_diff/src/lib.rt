@@ -6,8 +6,11 @@
 //!
 //! The modules, lowest first:
 //!
+//! - `text`: a text that grows at its end.
+//! - `name`: the name of a file in a diff.
 //! - `lines`: the physical lines of a text.
 //! - `stretch`: lines of the old text and the lines of the new text in their place.
+//! - `places`: where each line of a text stands last.
 //! - `matching`: how far two texts agree, and where they agree again.
 //! - `finder`: the stretches in which two texts differ.
 //! - `hunk`: the text of a hunk.
@@ -18,8 +21,10 @@ mod finder;
 mod hunk;
 mod lines;
 mod matching;
+mod name;
 mod places;
 mod stretch;
+mod text;
 mod unified;
 
 pub use unified::diff;

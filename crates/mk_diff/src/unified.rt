@@ -7,9 +7,11 @@ ghost use Rattle.mk_diff.specs.HunkTexts.{diff_text, hunk_texts, names_text};
 ghost use Rattle.mk_diff.specs.Stretches.{AreFar, AreGroup, IsHunkAt, IsRoomBelow, Leads, first_old_start, last_old_end, shown};
 
 use crate::finder::differences;
-use crate::hunk::{put, put_hunk};
+use crate::hunk::put_hunk;
 use crate::lines::physical_lines;
+use crate::name::put_name;
 use crate::stretch::Stretch;
+use crate::text::put;
 use mk_lines::Fault;
 use std::alloc::Allocator;
 
@@ -60,10 +62,10 @@ fn put_names<A: Allocator>(text: &mut Vec<u8, A>, name: &[u8]) -> Result<(), Fau
     ensures bytes { IfOk result (λ _. text.new.items ≡ text.old.items ++ names_text name.now) }
     ensures fault { IsOkUnless result Fault.NoMemory }
 {
-    put(text, b"--- a/")?;
-    put(text, name)?;
-    put(text, b"\n+++ b/")?;
-    put(text, name)?;
+    put(text, b"--- ")?;
+    put_name(text, b"a/", name)?;
+    put(text, b"\n+++ ")?;
+    put_name(text, b"b/", name)?;
     put(text, b"\n")
 }
 

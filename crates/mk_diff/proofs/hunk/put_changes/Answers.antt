@@ -21,7 +21,7 @@ loop-change-preserved g c =
     let more : drop i changed ≡ s ∷ rest = drop_more changed i _ c.loop-change-test.true in
     let (floor, j, leads, text) = c.loop-change.invariant in
     let here : Leads (shown old) (shown new) floor at j (s ∷ rest) c.args.whole.old_end c.args.whole.new_end =
-        subst (λ (ss : List Stretch). Leads (shown old) (shown new) floor at j ss c.args.whole.old_end c.args.whole.new_end) more leads in
+    subst (λ (ss : List Stretch). Leads (shown old) (shown new) floor at j ss c.args.whole.old_end c.args.whole.new_end) more leads in
     let before : List ℕ = c.loop-change.text.items in
     let above = shown-between at s.old_start old in
     let removed = shown-between s.old_start s.old_end old in
@@ -30,10 +30,13 @@ loop-change-preserved g c =
     let second = c.in_ok-put_lines-2.ensures.bytes in
     let third = c.in_ok-put_lines-3.ensures.bytes in
     let is : ((before ++ signed_lines 32 (between at s.old_start (shown old))) ++ signed_lines 45 (between s.old_start s.old_end (shown old))) ++ signed_lines 43 (between s.new_start s.new_end (shown new))
-        ≡ c.put_lines-in-loop-change-2.new.text.items = cc in
-    (suc s.old_end, s.new_end, here.2,
-     lines_text-more (shown old) (shown new) before _ at s rest end is
-     ∙ ap (λ (ss : List Stretch). before ++ lines_text (shown old) (shown new) at ss end) (sym more) ∙ text)
+    ≡ c.put_lines-in-loop-change-2.new.text.items = cc in (
+      suc s.old_end,
+      s.new_end,
+      here.2,
+      lines_text-more (shown old) (shown new) before _ at s rest end is
+          ∙ ap (λ (ss : List Stretch). before ++ lines_text (shown old) (shown new) at ss end) (sym more) ∙ text,
+    )
 
 pub returns-clause-bytes : goal.returns-clause-bytes
 returns-clause-bytes g c =

@@ -8,4 +8,4 @@ invariant-loop-change g l =
     (floor : ℕ) × (j : ℕ)
     × Leads (shown l.old) (shown l.new) floor l.at j (drop l.change-index l.changed) l.whole.old_end l.whole.new_end
     × (l.text.items ++ lines_text (shown l.old) (shown l.new) l.at (drop l.change-index l.changed) l.whole.old_end
-       ≡ l.initial.text.items ++ lines_text (shown l.old) (shown l.new) l.whole.old_start l.changed l.whole.old_end)
+    ≡ l.initial.text.items ++ lines_text (shown l.old) (shown l.new) l.whole.old_start l.changed l.whole.old_end)

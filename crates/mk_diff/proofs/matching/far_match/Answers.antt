@@ -13,8 +13,8 @@ loop-removed-preserved-then-not-is_listed_from g c =
     let at = c.args.at in
     let removed = c.loop-removed.removed in
     unlike-more removed (length new) (shown old) (drop at (shown new)) c.loop-removed.invariant
-      (subst (λ (l : List ℕ). IsNotIn l (drop at (shown new))) (sym (line_at-shown old removed _ c.loop-removed-test.true))
-        (not-listed (shown new) at (length new) c.args.places.now _ c.requires.listed (sym (length-shown new)) (sym c.is_listed_from.ensures ∙ c.if-not-is_listed_from.true)))
+    (subst (λ (l : List ℕ). IsNotIn l (drop at (shown new))) (sym (line_at-shown old removed _ c.loop-removed-test.true))
+    (not-listed (shown new) at (length new) c.args.places.now _ c.requires.listed (sym (length-shown new)) (sym c.is_listed_from.ensures ∙ c.if-not-is_listed_from.true)))
 
 pub loop-removed-preserved : goal.loop-removed-preserved
 loop-removed-preserved g c =
@@ -23,8 +23,8 @@ loop-removed-preserved g c =
     let at = c.args.at in
     let removed = c.loop-removed.removed in
     unlike-more removed (length new) (shown old) (drop at (shown new)) c.loop-removed.invariant
-      (subst (λ (l : List ℕ). IsNotIn l (drop at (shown new))) (sym (line_at-shown old removed _ c.loop-removed-test.true))
-        (rw (shown-rest at new) at c.in_default.ensures))
+    (subst (λ (l : List ℕ). IsNotIn l (drop at (shown new))) (sym (line_at-shown old removed _ c.loop-removed-test.true))
+    (rw (shown-rest at new) at c.in_default.ensures))
 
 pub returns-in-Some : goal.returns-in-Some
 returns-in-Some g c =
@@ -35,5 +35,5 @@ returns-in-Some g c =
     let found = c.in-Some.ensures in
     let line = rw (shown-rest at new) at found.1 in
     match-far removed c.in-Some.added (length new) (shown old) (drop at (shown new)) c.requires.differ c.loop-removed.invariant
-      (omega (arith, length-shown old)) (omega (arith, length-drop at (shown new), length-shown new, c.requires.within, within-rest (c.in-Some.added + 1) at new (omega (arith, found.0)))) (omega (arith, length-drop at (shown new), length-shown new))
-      (line_at-shown old removed _ c.loop-removed-test.true ∙ sym line)
+    (omega (arith, length-shown old)) (omega (arith, length-drop at (shown new), length-shown new, c.requires.within, within-rest (c.in-Some.added + 1) at new (omega (arith, found.0)))) (omega (arith, length-drop at (shown new), length-shown new))
+    (line_at-shown old removed _ c.loop-removed-test.true ∙ sym line)

@@ -13,8 +13,8 @@ returns-then-is_same c =
     let removed = c.loop-removed.removed in
     let sum = c.loop-sum.sum in
     match-near sum removed (shown old) (shown new) c.loop-removed.invariant.0 c.loop-removed.invariant.2 (omega arith)
-      (omega (arith, length-shown old)) (omega (arith, length-shown new))
-      (line_at-shown old removed _ c.if-removed-old.true ∙ c.is_same.ensures.0 c.if-is_same.true ∙ sym (line_at-shown new _ _ c.if-added-new.true))
+    (omega (arith, length-shown old)) (omega (arith, length-shown new))
+    (line_at-shown old removed _ c.if-removed-old.true ∙ c.is_same.ensures.0 c.if-is_same.true ∙ sym (line_at-shown new _ _ c.if-added-new.true))
 
 pub loop-sum-init : goal.loop-sum-init
 loop-sum-init c = before-first (shown c.args.old.now) (shown c.args.new.now) c.requires
@@ -31,14 +31,15 @@ loop-removed-preserved c =
     let old = c.args.old.now in
     let new = c.args.new.now in
     let removed = c.loop-removed.removed in
-    let sum = c.loop-sum.sum in
-    (c.loop-removed.invariant.0,
-     above-more sum removed (shown old) (shown new) (omega arith) c.loop-removed.invariant.1
-       (λ old_in new_in same. elim c.else-removed-old.branch [
-           else-removed-old-via-then-removed-old+then-added-new+else-is_same w ↦
-             false≢true (sym w.if-is_same.false ∙ w.is_same.ensures.1
-               (sym (line_at-shown old removed _ w.if-removed-old.true) ∙ same ∙ line_at-shown new _ _ w.if-added-new.true))
-         | else-removed-old-via-then-removed-old+else-added-new w ↦ omega (arith, length-shown new, w.if-added-new.false, new_in)
-         | else-removed-old-via-else-removed-old w ↦ omega (arith, length-shown old, w.if-removed-old.false, old_in)
-       ]),
-     c.loop-removed.invariant.2)
+    let sum = c.loop-sum.sum in (
+      c.loop-removed.invariant.0,
+      above-more sum removed (shown old) (shown new) (omega arith) c.loop-removed.invariant.1
+          (λ old_in new_in same. elim c.else-removed-old.branch [
+            | else-removed-old-via-then-removed-old+then-added-new+else-is_same w ↦
+                false≢true (sym w.if-is_same.false ∙ w.is_same.ensures.1
+                (sym (line_at-shown old removed _ w.if-removed-old.true) ∙ same ∙ line_at-shown new _ _ w.if-added-new.true))
+            | else-removed-old-via-then-removed-old+else-added-new w ↦ omega (arith, length-shown new, w.if-added-new.false, new_in)
+            | else-removed-old-via-else-removed-old w ↦ omega (arith, length-shown old, w.if-removed-old.false, old_in)
+          ]),
+      c.loop-removed.invariant.2,
+    )

@@ -14,7 +14,7 @@ loop-at-preserved c q few within same = go (eq-or-lt_of_le {n = q} {m = c.loop-a
     go (inr less) = c.loop-at.invariant q less within same
     go (inl is) =
         false≢true (sym c.if-is_same.false ∙ c.is_same.ensures.1
-          (sym same ∙ ap (λ n. line_at n (shown c.args.text.now)) is ∙ line_at-shown c.args.text.now c.loop-at.at _ c.loop-at-test.true))
+        (sym same ∙ ap (λ n. line_at n (shown c.args.text.now)) is ∙ line_at-shown c.args.text.now c.loop-at.at _ c.loop-at-test.true))
 
 pub returns : goal.returns
 returns c q within same = c.loop-at.invariant q (omega (arith, length-shown c.args.text.now)) within same

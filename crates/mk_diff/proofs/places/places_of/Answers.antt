@@ -8,4 +8,4 @@ use Rattle.mk_diff.proofs.places.places_of.Goals as goal
 pub loop-at-preserved : goal.loop-at-preserved
 loop-at-preserved g c =
     listed-more (shown c.args.lines.now) c.loop-at.at c.loop-at.places c.insert.new.self _ (line_at-shown c.args.lines.now c.loop-at.at _ c.loop-at-test.true)
-      (btree_map_updates_str _ c.loop-at.places c.insert.new.self (Some c.loop-at.at) c.in_ok-insert.ensures.updates) c.loop-at.invariant
+    (btree_map_updates_str _ c.loop-at.places c.insert.new.self (Some c.loop-at.at) c.in_ok-insert.ensures.updates) c.loop-at.invariant

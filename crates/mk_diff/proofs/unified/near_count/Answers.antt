@@ -12,11 +12,13 @@ loop-count-preserved c =
     let n = c.loop-count.count in
     let none : Stretch = record { old_start = 0; old_end = 0; new_start = 0; new_end = 0 } in
     let close = c.is_near.ensures.0 c.if-is_near.true in
-    let last = last-at ss n none c.loop-count.invariant.0 c.loop-count.invariant.1 in
-    (omega arith, omega arith,
-     subst AreGroup (sym (take_more ss n none c.loop-count-test.true))
-       (group-more (take n ss) (get_or ss n none) c.loop-count.invariant.2 (omega (arith, length-take-le n ss c.loop-count.invariant.1, c.loop-count.invariant.0))
-         (omega (arith, close, last))))
+    let last = last-at ss n none c.loop-count.invariant.0 c.loop-count.invariant.1 in (
+      omega arith,
+      omega arith,
+      subst AreGroup (sym (take_more ss n none c.loop-count-test.true))
+          (group-more (take n ss) (get_or ss n none) c.loop-count.invariant.2 (omega (arith, length-take-le n ss c.loop-count.invariant.1, c.loop-count.invariant.0))
+          (omega (arith, close, last))),
+    )
 
 pub returns-else-is_near-clause-far : goal.returns-else-is_near-clause-far
 returns-else-is_near-clause-far c =

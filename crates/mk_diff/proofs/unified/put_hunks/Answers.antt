@@ -25,13 +25,15 @@ hunks-preserved g c =
     let rest : List Stretch = c.hunks.rest.now in
     let parts : changed ++ below ≡ rest = ap₂ (λ (x y : List Stretch). x ++ y) c.split_at.ensures.front c.split_at.ensures.back ∙ take-append-drop count rest in
     let here : IsFloor floor c.hunks.old_at (changed ++ below) = subst (IsFloor floor c.hunks.old_at) (sym parts) room in
-    let some : 0 < length changed = omega (arith, c.split_at.ensures.front_len, c.near_count.ensures.some) in
-    (hunks ++ hunk ∷ [], suc whole.old_end,
-     so-far-more old new floor c.hunks.old_at c.hunks.new_at hunks whole changed below so_far is (floor-within floor c.hunks.old_at whole.old_start changed below here some is.near),
-     inr (refl, is.room),
-     is.rest,
-     (λ none. absurd (omega (arith, length_push hunks hunk, ap length none))),
-     hunk_texts-more _ _ _ hunks hunk text c.in_ok-put_hunk.ensures.bytes)
+    let some : 0 < length changed = omega (arith, c.split_at.ensures.front_len, c.near_count.ensures.some) in (
+      hunks ++ hunk ∷ [],
+      suc whole.old_end,
+      so-far-more old new floor c.hunks.old_at c.hunks.new_at hunks whole changed below so_far is (floor-within floor c.hunks.old_at whole.old_start changed below here some is.near),
+      inr (refl, is.room),
+      is.rest,
+      (λ none. absurd (omega (arith, length_push hunks hunk, ap length none))),
+      hunk_texts-more _ _ _ hunks hunk text c.in_ok-put_hunk.ensures.bytes,
+    )
 
 pub returns-clause-bytes : goal.returns-clause-bytes
 returns-clause-bytes g c =
@@ -40,7 +42,7 @@ returns-clause-bytes g c =
     let (hunks, floor, so_far, room, leads, first, text) = c.hunks.invariant in
     let none : c.hunks.rest.now ≡ [] = nil_from_length c.hunks.rest.now (search rules) in
     let end : Leads old new 0 c.hunks.old_at c.hunks.new_at [] (length old) (length new) =
-        subst (λ (ss : List Stretch). Leads old new 0 c.hunks.old_at c.hunks.new_at ss (length old) (length new)) none leads in
+    subst (λ (ss : List Stretch). Leads old new 0 c.hunks.old_at c.hunks.new_at ss (length old) (length new)) none leads in
     (hunks, so-far-all old new floor c.hunks.old_at c.hunks.new_at hunks so_far end, (λ empty. sym (first empty) ∙ none), text)
 
 pub with_context-whole-requires-clause-room : goal.with_context-whole-requires-clause-room

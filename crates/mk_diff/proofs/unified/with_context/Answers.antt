@@ -21,10 +21,10 @@ returns c =
     let below = c.args.below.now in
     let end = ap (first_old_start below) (length-shown c.args.old.now) in
     hunk-at old new c.args.old_at c.args.new_at c.args.changed.now below (record { old_start = 0; old_end = 0; new_start = 0; new_end = 0 }) c.at_most_context-above.result c.at_most_context-under.result
-      c.requires.some c.requires.leads c.requires.near c.requires.far c.requires.room
-      c.at_most_context-above.ensures.few c.at_most_context-above.ensures.within c.at_most_context-above.ensures.all
-      c.at_most_context-under.ensures.few (omega (arith, end, c.first_start.ensures, c.at_most_context-under.ensures.within))
-      (λ less. c.at_most_context-under.ensures.all (omega (arith, end, c.first_start.ensures, less)))
+    c.requires.some c.requires.leads c.requires.near c.requires.far c.requires.room
+    c.at_most_context-above.ensures.few c.at_most_context-above.ensures.within c.at_most_context-above.ensures.all
+    c.at_most_context-under.ensures.few (omega (arith, end, c.first_start.ensures, c.at_most_context-under.ensures.within))
+    (λ less. c.at_most_context-under.ensures.all (omega (arith, end, c.first_start.ensures, less)))
 
 pub overflow_add-result-2 : goal.overflow_add-result-2
 overflow_add-result-2 c =
@@ -33,9 +33,9 @@ overflow_add-result-2 c =
     let below = c.args.below.now in
     let end = ap (first_old_start below) (length-shown c.args.old.now) in
     let is = hunk-at old new c.args.old_at c.args.new_at c.args.changed.now below (record { old_start = 0; old_end = 0; new_start = 0; new_end = 0 }) c.at_most_context-above.result c.at_most_context-under.result
-      c.requires.some c.requires.leads c.requires.near c.requires.far c.requires.room
-      c.at_most_context-above.ensures.few c.at_most_context-above.ensures.within c.at_most_context-above.ensures.all
-      c.at_most_context-under.ensures.few (omega (arith, end, c.first_start.ensures, c.at_most_context-under.ensures.within))
-      (λ less. c.at_most_context-under.ensures.all (omega (arith, end, c.first_start.ensures, less))) in
+    c.requires.some c.requires.leads c.requires.near c.requires.far c.requires.room
+    c.at_most_context-above.ensures.few c.at_most_context-above.ensures.within c.at_most_context-above.ensures.all
+    c.at_most_context-under.ensures.few (omega (arith, end, c.first_start.ensures, c.at_most_context-under.ensures.within))
+    (λ less. c.at_most_context-under.ensures.all (omega (arith, end, c.first_start.ensures, less))) in
     let order = Leads-order old new 0 _ _ below (length old) (length new) is.rest in
     omega (arith, order.1, length-shown c.args.new.now)
