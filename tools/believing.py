@@ -14,6 +14,7 @@ from tests.gate.believed import Believed, Place  # noqa: E402
 CALLS = (
     "mk_command_line::read_request",
     "mk_script::parse_script",
+    "mk_diff::diff",
     "mk_queries::vars",
     "mk_queries::rules",
     "mk_queries::recipes",

@@ -1,0 +1,12 @@
+mod AppliedLemmas
+mod BetweenLemmas
+mod ContextLemmas
+mod FinderLemmas
+mod HunkTextLemmas
+mod LeadsLemmas
+mod MatchLemmas
+mod PhysicalLineLemmas
+mod PlaceLemmas
+mod ShownLemmas
+-- Definitions computed
+mod WorkedRows

@@ -1,0 +1,7 @@
+-- # What the public contracts say
+pub mod Hunks
+pub mod NameTexts
+pub mod HunkTexts
+-- # Vocabulary of private contracts
+pub mod Stretches
+pub mod Places

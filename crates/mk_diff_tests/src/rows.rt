@@ -1,0 +1,113 @@
+//! Two texts, and their diff. GNU diff 3.8 has written each, as `diff -u -a --label a/F --label b/F`.
+
+/// Two texts, and the diff that leads from the old one to the new one.
+pub struct Row {
+    pub old: &'static [u8],
+    pub new: &'static [u8],
+    pub diff: &'static [u8],
+}
+
+pub static ROWS: [Row; 17] = [
+    // texts that are the same
+    Row {
+        old: b"a\nb\n",
+        new: b"a\nb\n",
+        diff: b"",
+    },
+    // a line changed in its middle
+    Row {
+        old: b"1\n2\n3\n4\n5\n6\n7\n8\n9\n",
+        new: b"1\n2\n3\n4\nfive\n6\n7\n8\n9\n",
+        diff: b"--- a/F\n+++ b/F\n@@ -2,7 +2,7 @@\n 2\n 3\n 4\n-5\n+five\n 6\n 7\n 8\n",
+    },
+    // the first line changed
+    Row {
+        old: b"1\n2\n3\n4\n5\n",
+        new: b"one\n2\n3\n4\n5\n",
+        diff: b"--- a/F\n+++ b/F\n@@ -1,4 +1,4 @@\n-1\n+one\n 2\n 3\n 4\n",
+    },
+    // the last line removed
+    Row {
+        old: b"1\n2\n3\n4\n5\n",
+        new: b"1\n2\n3\n4\n",
+        diff: b"--- a/F\n+++ b/F\n@@ -2,4 +2,3 @@\n 2\n 3\n 4\n-5\n",
+    },
+    // a line put in at the end
+    Row {
+        old: b"1\n",
+        new: b"1\n2\n",
+        diff: b"--- a/F\n+++ b/F\n@@ -1 +1,2 @@\n 1\n+2\n",
+    },
+    // one line alone
+    Row {
+        old: b"x\n",
+        new: b"y\n",
+        diff: b"--- a/F\n+++ b/F\n@@ -1 +1 @@\n-x\n+y\n",
+    },
+    // from nothing
+    Row {
+        old: b"",
+        new: b"a\nb\n",
+        diff: b"--- a/F\n+++ b/F\n@@ -0,0 +1,2 @@\n+a\n+b\n",
+    },
+    // to nothing
+    Row {
+        old: b"a\n",
+        new: b"",
+        diff: b"--- a/F\n+++ b/F\n@@ -1 +0,0 @@\n-a\n",
+    },
+    // both without a line feed
+    Row {
+        old: b"a\nb",
+        new: b"a\nc",
+        diff: b"--- a/F\n+++ b/F\n@@ -1,2 +1,2 @@\n a\n-b\n\\ No newline at end of file\n+c\n\\ No newline at end of file\n",
+    },
+    // the old text without a line feed
+    Row {
+        old: b"a\nb",
+        new: b"a\nb\n",
+        diff: b"--- a/F\n+++ b/F\n@@ -1,2 +1,2 @@\n a\n-b\n\\ No newline at end of file\n+b\n",
+    },
+    // the new text without a line feed
+    Row {
+        old: b"a\n",
+        new: b"a",
+        diff: b"--- a/F\n+++ b/F\n@@ -1 +1 @@\n-a\n+a\n\\ No newline at end of file\n",
+    },
+    // a kept line without a line feed
+    Row {
+        old: b"1\n2\n3",
+        new: b"one\n2\n3",
+        diff: b"--- a/F\n+++ b/F\n@@ -1,3 +1,3 @@\n-1\n+one\n 2\n 3\n\\ No newline at end of file\n",
+    },
+    // CRLF
+    Row {
+        old: b"a\r\nb\r\nc\r\n",
+        new: b"a\r\nB\r\nc\r\n",
+        diff: b"--- a/F\n+++ b/F\n@@ -1,3 +1,3 @@\n a\r\n-b\r\n+B\r\n c\r\n",
+    },
+    // bytes that are no UTF-8, and NUL
+    Row {
+        old: b"\xff\xfe\n\0\nc\n",
+        new: b"\xff\xfe\n\0\n\xc3(\n",
+        diff: b"--- a/F\n+++ b/F\n@@ -1,3 +1,3 @@\n \xff\xfe\n \0\n-c\n+\xc3(\n",
+    },
+    // six lines between two changes
+    Row {
+        old: b"a\n1\n2\n3\n4\n5\n6\nb\n",
+        new: b"A\n1\n2\n3\n4\n5\n6\nB\n",
+        diff: b"--- a/F\n+++ b/F\n@@ -1,8 +1,8 @@\n-a\n+A\n 1\n 2\n 3\n 4\n 5\n 6\n-b\n+B\n",
+    },
+    // seven lines between two changes
+    Row {
+        old: b"a\n1\n2\n3\n4\n5\n6\n7\nb\n",
+        new: b"A\n1\n2\n3\n4\n5\n6\n7\nB\n",
+        diff: b"--- a/F\n+++ b/F\n@@ -1,4 +1,4 @@\n-a\n+A\n 1\n 2\n 3\n@@ -6,4 +6,4 @@\n 5\n 6\n 7\n-b\n+B\n",
+    },
+    // a line put in and a line removed far below
+    Row {
+        old: b"1\n2\n3\n4\n5\n6\n7\n8\n9\n10\n11\n12\n13\n14\n",
+        new: b"1\n2\nnew\n3\n4\n5\n6\n7\n8\n9\n10\n11\n13\n14\n",
+        diff: b"--- a/F\n+++ b/F\n@@ -1,5 +1,6 @@\n 1\n 2\n+new\n 3\n 4\n 5\n@@ -9,6 +10,5 @@\n 9\n 10\n 11\n-12\n 13\n 14\n",
+    },
+];
