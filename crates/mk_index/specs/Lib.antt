@@ -7,8 +7,8 @@ pub mod Blocks
 pub mod Indexes
 -- What is known of a document, and what a change of it means for that
 pub mod Effects
+-- Lines that are exchanged for others of the same kind
+pub mod Exchanges
 -- # Vocabulary of private contracts
 -- How far a walk over the blocks has come
 pub mod Walks
--- Lines that are exchanged for others of the same kind
-pub mod Exchanges

@@ -1,10 +1,9 @@
 -- Blocks that are marked by hashes.
-use Rattle.std.proofs.Common.{◌≡◌, refl, sym, ap, ◌∙◌, arith, ℕ, zero, suc, ◌+◌, ◌/◌, ◌<◌, set, List, [], ◌∷◌, Bool, true, false, length, get_or, inl, inr}
-use Rattle.std.proofs.lemmas.List.{length-set}
+use Rattle.std.proofs.Common.{◌≡◌, arith, ℕ, ◌<◌, List, [], ◌∷◌, Bool, true, false, length, get_or, inl, inr}
 use Rattle.mk_tree.specs.LocatedLines.{LocatedLine}
 use Rattle.mk_edit_parts.specs.LocatedParts.{AreEachClassed}
 use Rattle.mk_edit_parts.specs.Windows.{NonePasses}
-use Rattle.mk_index.specs.Blocks.{AreGroupMarks, AreLinesMentioned, PassesInMarked}
+use Rattle.mk_index.specs.Blocks.{AreLinesMentioned, PassesInMarked}
 use Rattle.mk_index.specs.Chains.{AreChainsOf, Mention, Stored}
 use Rattle.mk_index.specs.Indexes.{AreMarked, PassesByKeys}
 use Rattle.mk_index.specs.Keys.{hashes_of}
@@ -26,33 +25,3 @@ marked-passes s test c hs ms marks by marked chains = λ b ls within unmarked cl
     go b [] within unmarked classed mentioned = tt
     go b (l ∷ ls) within unmarked classed mentioned =
         (by l classed.0 (λ h one key. absurd (let is = marked ms chains h one b (mentioned-one ms b h (hashes_of s l) mentioned.0 key) within in cc)), go b ls within unmarked classed.1 mentioned.1)
-
--- ---- marks that are taken back
-
--- no mark is made
-pub unmark-kept : (marks : List Bool) (i b : ℕ) → get_or marks b false ≡ false → get_or (set marks i false) b false ≡ false
-unmark-kept [] i b h = h
-unmark-kept (m ∷ ms) zero zero h = refl
-unmark-kept (m ∷ ms) zero (suc b) h = h
-unmark-kept (m ∷ ms) (suc i) zero h = h
-unmark-kept (m ∷ ms) (suc i) (suc b) h = unmark-kept ms i b h
-
-pub unmark-here : (marks : List Bool) (i : ℕ) → get_or (set marks i false) i false ≡ false
-unmark-here [] i = refl
-unmark-here (m ∷ ms) zero = refl
-unmark-here (m ∷ ms) (suc i) = unmark-here ms i
-
--- a mark that is left was there
-pub mark-left : (marks : List Bool) (i b : ℕ) → get_or (set marks i false) b false ≡ true → get_or marks b false ≡ true
-mark-left [] i b h = h
-mark-left (m ∷ ms) zero zero h = absurd (cc)
-mark-left (m ∷ ms) zero (suc b) h = h
-mark-left (m ∷ ms) (suc i) zero h = h
-mark-left (m ∷ ms) (suc i) (suc b) h = mark-left ms i b h
-
--- one mark fewer
-pub groups-left : (marks groups : List Bool) (i : ℕ) → AreGroupMarks marks groups → AreGroupMarks (set marks i false) groups
-groups-left marks groups i h = record {
-  count_is = h.count_is ∙ ap (λ (n : ℕ). n / 128 + 1) (sym (length-set marks i false));
-  each = λ b is. h.each b (mark-left marks i b is);
-}

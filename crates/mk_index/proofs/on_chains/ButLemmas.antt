@@ -2,7 +2,6 @@
 use Rattle.std.proofs.Common.{◌≡◌, refl, sym, ap, ◌∙◌, subst, ℕ, Bool, false, List, [], ◌∷◌, ◌++◌, append_assoc, map, inl, inr}
 use Rattle.std.specs.Prelude.{◌⊎◌}
 use Rattle.mk_tree.specs.LocatedLines.{LocatedLine, text_of_line}
-use Rattle.mk_class.specs.declared.class.Class.TheVariants as variants
 use Rattle.mk_edit_parts.specs.LocatedParts.{is_unread_located}
 use Rattle.mk_edit_parts.specs.RenamedRanges.{word_parts}
 use Rattle.mk_index.specs.Chains.{AreChainsOf, AreMentioned, IsMentioned, Mention, Stored, hash_of}
@@ -93,15 +92,6 @@ but-after t hs u ks b ms d e one two =
 
 -- ---- lines that are alike
 
-pub alike-headers : (h k : _) → AreAlike (variants.Header h) (variants.Header k)
-alike-headers h k = record { context_is = λ c. refl; old_read = λ t. refl; new_read = λ t. refl; old_keys = λ s t. refl; new_keys = λ s t. refl }
-
-pub alike-target_assigns : (a b : _) → AreAlike (variants.TargetAssign a) (variants.TargetAssign b)
-alike-target_assigns a b = record { context_is = λ c. refl; old_read = λ t. refl; new_read = λ t. refl; old_keys = λ s t. refl; new_keys = λ s t. refl }
-
-pub alike-recipes : AreAlike variants.Recipe variants.Recipe
-alike-recipes = record { context_is = λ c. refl; old_read = λ t. refl; new_read = λ t. refl; old_keys = λ s t. refl; new_keys = λ s t. refl }
-
 all-mentioned : (ms : List Mention) (b : ℕ) (hs : List ℕ) → ((h : ℕ) → IsOneOf h hs → IsMentioned ms h b) → AreMentioned ms b hs
 all-mentioned ms b [] f = tt
 all-mentioned ms b (h ∷ hs) f = (f h (inl refl), all-mentioned ms b hs (λ x is. f x (inr is)))
@@ -131,7 +121,3 @@ alike-exchanged s k l b kept ms c alike h = record {
     context_is = alike.context_is;
   };
 }
-
--- nothing is listed, and the line is not kept for
-pub not-exchanged : (s : Scope) (k l : LocatedLine) (b : ℕ) (ms : List Mention) (c : Stored) → AreChainsOf ms c → HaveExchanged s k l b false ms c
-not-exchanged s k l b ms c h = record { added = []; chains_are = h; takes_place = λ is. absurd (cc) }

@@ -89,7 +89,7 @@ walk-from ms hash c number marks h within is = record {
 }
 
 -- the walk at its end
-pub walk-over : (ms : List Mention) (hash : ℕ) (c : Stored) (number : ℕ) (marks : List Bool) → Walk ms hash c number marks → number ≡ 0 → (b : ℕ) → IsMentioned ms hash b → b < length marks → get_or marks b false ≡ true
+walk-over : (ms : List Mention) (hash : ℕ) (c : Stored) (number : ℕ) (marks : List Bool) → Walk ms hash c number marks → number ≡ 0 → (b : ℕ) → IsMentioned ms hash b → b < length marks → get_or marks b false ≡ true
 walk-over ms hash c number marks w e b m inside = elim (w.marked b m inside) [
   | inl is ↦ is
   | inr r ↦ absurd (none-mentioned (length c.heads) hash w.ahead (sym w.number_is ∙ e) b r)
@@ -153,7 +153,7 @@ same-some : (e f : Entry) → Some e ≡ Some f → e ≡ f
 same-some e f h = cc
 
 -- a number without an entry is 0: the walk is at its end
-pub walk-ends : (ms : List Mention) (hash : ℕ) (c : Stored) (number : ℕ) (marks : List Bool) → Walk ms hash c number marks → (if number == 0 then None else slice_get c.entries (number - 1)) ≡ None → number ≡ 0
+walk-ends : (ms : List Mention) (hash : ℕ) (c : Stored) (number : ℕ) (marks : List Bool) → Walk ms hash c number marks → (if number == 0 then None else slice_get c.entries (number - 1)) ≡ None → number ≡ 0
 walk-ends ms hash c zero marks w h = refl
 walk-ends ms hash c (suc k) marks w h =
     let s : WalkStep ms hash c (suc k) marks = walk-step ms hash c (suc k) marks w (λ z. omega (arith, z)) in
@@ -161,7 +161,7 @@ walk-ends ms hash c (suc k) marks w h =
 
 -- the walk goes on behind an entry, if the blocks that were marked stay so, and the entry's block is
 -- marked if it is of this hash
-pub walk-next : (ms : List Mention) (hash : ℕ) (c : Stored) (number : ℕ) (marks after : List Bool) (e : Entry) → Walk ms hash c number marks → (if number == 0 then None else slice_get c.entries (number - 1)) ≡ Some e
+walk-next : (ms : List Mention) (hash : ℕ) (c : Stored) (number : ℕ) (marks after : List Bool) (e : Entry) → Walk ms hash c number marks → (if number == 0 then None else slice_get c.entries (number - 1)) ≡ Some e
     → length after ≡ length marks → ((b : ℕ) → get_or marks b false ≡ true → get_or after b false ≡ true) → (e.hash ≡ hash → e.block < length marks → get_or after e.block false ≡ true)
     → Walk ms hash c e.before after
 walk-next ms hash c zero marks after e w is same kept marked = absurd (cc)

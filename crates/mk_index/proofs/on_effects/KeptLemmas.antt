@@ -27,9 +27,6 @@ pub record Keeping (s : Scope) (doc now : List LocatedLine) (chains : Stored) (b
   pub now_is : AreBlocks s mentions 0 (Some start) now bs end
   pub end_is : (e : End) → IsEndOf doc e → IsEndOf now e
 
-pub keeping-from : (s : Scope) (doc : List LocatedLine) (ms : List Mention) (chains : Stored) (bs : List Block) (end : Context) → AreChainsOf ms chains → AreBlocks s ms 0 (Some start) doc bs end → Keeping s doc doc chains bs end
-keeping-from s doc ms chains bs end h b = record { mentions = ms; chains_are = h; before_is = b; now_is = b; end_is = λ e is. is }
-
 -- one line more is exchanged
 pub keeping-next : (s : Scope) (doc now : List LocatedLine) (chains new : Stored) (bs : List Block) (end : Context) (at n : ℕ) (k l : LocatedLine) → Keeping s doc now chains bs end → Some k ≡ slice_get now at → IsHeld bs at n → ((ms : List Mention) → AreChainsOf ms chains → HaveExchanged s k l n true ms new) → Keeping s doc (exchanged at l now) new bs end
 keeping-next s doc now chains new bs end at n k l w there held listed =
