@@ -21,6 +21,7 @@ complete -c mkedit -n '__fish_seen_subcommand_from edit' -s i -l in-place -d 'FI
 complete -c mkedit -n '__fish_seen_subcommand_from edit' -l backup -x -d 'With -i, keeps the old file under FILE with this suffix at its end'
 complete -c mkedit -n '__fish_seen_subcommand_from edit' -s e -l expression -x -d 'A line of a script, in place of SCRIPT; several -e are its lines'
 
+complete -c mkedit -n '__fish_seen_subcommand_from edit vars rules recipes check caveats; and not __fish_seen_subcommand_from help' -l notes -d 'Says below a message why a file could not be opened, read or written'
 complete -c mkedit -n '__fish_seen_subcommand_from edit vars rules recipes check caveats; and not __fish_seen_subcommand_from help' -F
 complete -c mkedit -n '__fish_seen_subcommand_from help' -a 'edit vars rules recipes check caveats explain help'
 # made by tools/texts: refusals

@@ -31,12 +31,14 @@ _mkedit_edit() {
         '(-i --in-place -o --output)'{-i,--in-place}'[the makefile gets the text]' \
         '(-o --output)--backup=[with -i, keeps the old file under its name with this suffix at its end]:suffix: ' \
         '*'{-e+,--expression=}'[a line of a script, in place of the script]:command: ' \
+        '--notes[say below a message why a file could not be opened, read or written]' \
         '(-h --help)'{-h,--help}'[print help]' \
         $files
 }
 
 _mkedit_query() {
     _arguments -s \
+        '--notes[say below a message why a file could not be opened, read or written]' \
         '(-h --help)'{-h,--help}'[print help]' \
         '1:makefile:_files'
 }

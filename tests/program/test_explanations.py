@@ -26,6 +26,12 @@ class Explanations(RoomCase):
             self.assert_run(Outcome(shown, b"", 0), "explain", str(it.number))
             self.assert_run(Outcome(shown, b"", 0), "explain", it.name)
 
+    def test_a_refusal_is_called_by_its_name_in_any_case(self):
+        for it in sources():
+            shown = f"{it.number} {it.name}\n\n{it.text}".encode()
+            for word in (it.name.lower(), it.name.upper(), it.name.swapcase()):
+                self.assert_run(Outcome(shown, b"", 0), "explain", word)
+
     def test_the_sources_are_those_of_the_definitions(self):
         self.assertEqual([(str(it.number), it.name) for it in sources()], refusals())
         self.assertEqual(len(refusals()), 20)
@@ -39,7 +45,7 @@ class Explanations(RoomCase):
                 self.assertIn(f": refused {it.number} {it.name}", it.report)
 
     def test_another_word_is_no_refusal(self):
-        words = ("0", "21", "014", "+14", "-1", "14.", " 14", "14 ", "", "leans", "Lean", "Leans ", "all")
+        words = ("0", "21", "014", "+14", "-1", "14.", " 14", "14 ", "", "Lean", "Leans ", "all")
         lines = [["explain", "--", it] for it in words]
         for line in (*lines, ["explain"], ["explain", "14", "15"], ["explain", "-k", "14"]):
             self.assert_bad_command_line(*line)

@@ -91,6 +91,13 @@ expression_rule = record (new_rule (codes "expression")) {
   action = Some Append;
 }
 
+-- --notes
+abbrev pub notes_rule : Rule
+notes_rule = record (new_rule (codes "notes")) {
+  long = Some (codes "notes");
+  action = Some SetTrue;
+}
+
 -- REFUSAL, which is required
 abbrev pub refusal_rule : Rule
 refusal_rule = record (new_rule (codes "REFUSAL")) { required = true }
@@ -99,11 +106,12 @@ refusal_rule = record (new_rule (codes "REFUSAL")) { required = true }
 
 abbrev pub edit_options : List Rule
 edit_options =
-    keep_going_rule ∷ depth_rule ∷ output_rule ∷ in_place_rule ∷ backup_rule ∷ expression_rule ∷ []
+    keep_going_rule ∷ depth_rule ∷ output_rule ∷ in_place_rule ∷ backup_rule ∷ expression_rule
+    ∷ notes_rule ∷ []
 
 abbrev arguments_of : CommandName → List Rule
 arguments_of Edit = edit_options ++ script_rule ∷ file_rule ∷ []
-arguments_of (Query query) = file_rule ∷ []
+arguments_of (Query query) = notes_rule ∷ file_rule ∷ []
 arguments_of Explain = refusal_rule ∷ []
 
 -- a command with these arguments, and without commands of its own

@@ -17,6 +17,8 @@ use Rattle.mk_command_line.specs.declared.request.Script.TheVariants as script
 use Rattle.mk_command_line.specs.declared.request.Output.{Output}
 use Rattle.mk_command_line.specs.declared.request.Output.TheVariants as output
 use Rattle.mk_command_line.specs.declared.request.EditWords.{EditWords}
+use Rattle.mk_command_line.specs.declared.request.QueryWords.{QueryWords}
+use Rattle.mk_command_line.specs.declared.request.Query as query
 use Rattle.mk_command_line.specs.declared.request.Request.{Request}
 use Rattle.mk_command_line.specs.declared.request.Request.TheVariants as request
 
@@ -86,6 +88,7 @@ GoesTo _ _ _ _ _ = ⊥
 pub record AsksEdit (rows : List Row) (words : EditWords) : Type 0 where
   pub keep_going : IsFlag (codes "keep-going") rows words.keep_going
   pub depth : IsDepth (first_of (codes "depth") rows) words.depth
+  pub notes : IsFlag (codes "notes") rows words.notes
   pub from : ReadsFrom (all_of (codes "expression") rows) (first_of (codes "SCRIPT") rows)
       (first_of (codes "FILE") rows) words.script words.file
   pub apart : AreApart words.script words.file
@@ -93,14 +96,20 @@ pub record AsksEdit (rows : List Row) (words : EditWords) : Type 0 where
       × GoesTo in_place (first_of (codes "output") rows) (first_of (codes "backup") rows)
       words.file words.output
 
+-- ---- the words of a query
+
+pub record AsksQuery (query : query.Query) (rows : List Row) (words : QueryWords) : Type 0 where
+  pub query_is : words.query ≡ query
+  pub notes : IsFlag (codes "notes") rows words.notes
+  pub file : IsMakefile (first_of (codes "FILE") rows) words.file
+
 -- ---- all words
 
 module _ {R E : Type 0} (reads : Text → Result R E → Type 0) where
   -- what a command asks for; `reads` tells what refusal a word calls
   abbrev AsksByCommand : Option CommandName → List Row → Request R → Type 0
   AsksByCommand (Some Edit) rows (request.Edit words) = AsksEdit rows words
-  AsksByCommand (Some (Query query)) rows (request.Query asked file) =
-      (asked ≡ query) × IsMakefile (first_of (codes "FILE") rows) file
+  AsksByCommand (Some (Query query)) rows (request.Query words) = AsksQuery query rows words
   AsksByCommand (Some Explain) rows (request.Explain refusal) =
       (word : Text) × (first_of (codes "REFUSAL") rows ≡ Some word) × reads word (Ok refusal)
   AsksByCommand _ _ _ = ⊥

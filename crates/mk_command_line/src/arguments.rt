@@ -2,7 +2,7 @@
 ghost use Rattle.std.specs.Prelude.{◌≡◌, IfOk, false};
 ghost use Rattle.clap.specs.Words.{rule_of};
 ghost use Rattle.mk_command_line.specs.Commands.{backup_rule, depth_rule, expression_rule, file_rule};
-ghost use Rattle.mk_command_line.specs.Commands.{in_place_rule, keep_going_rule, output_rule};
+ghost use Rattle.mk_command_line.specs.Commands.{in_place_rule, keep_going_rule, notes_rule, output_rule};
 ghost use Rattle.mk_command_line.specs.Commands.{refusal_rule, script_rule};
 
 use crate::request::MAX_DEPTH;
@@ -28,6 +28,8 @@ pub(crate) const IN_PLACE: &str = "in-place";
 pub(crate) const BACKUP: &str = "backup";
 
 pub(crate) const EXPRESSION: &str = "expression";
+
+pub(crate) const NOTES: &str = "notes";
 
 pub(crate) const REFUSAL: &str = "REFUSAL";
 
@@ -121,6 +123,17 @@ pub(crate) fn expression<'a>(alloc: Global) -> Arg<'a>
         .value_name("COMMAND")
         .action(ArgAction::Append)
         .help("A line of a script, in place of SCRIPT; several -e are its lines")
+}
+
+/// Whether a message has notes below it.
+pub(crate) fn notes<'a>(alloc: Global) -> Arg<'a>
+    ensures rule { rule_of result ≡ notes_rule }
+    ensures local { result.global ≡ false }
+{
+    Arg::new(alloc, NOTES)
+        .long("notes")
+        .action(ArgAction::SetTrue)
+        .help("Says below a message why a file could not be opened, read or written")
 }
 
 /// The word that calls a refusal.

@@ -19,4 +19,6 @@ mod reading;
 pub mod request;
 
 pub use reading::read_request;
-pub use request::{EditWords, InPlace, Input, MAX_DEPTH, Output, Query, Request, Script};
+pub use request::{
+    EditWords, InPlace, Input, MAX_DEPTH, Output, Query, QueryWords, Request, Script,
+};

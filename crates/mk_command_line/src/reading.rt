@@ -6,16 +6,16 @@ ghost use Rattle.clap.specs.Words.{all_of, app_of, first_of, found_of, kind_of, 
 ghost use Rattle.clap.specs.Words.{subcommand_of, subcommand_rows_of, takes};
 ghost use Rattle.clap.specs.declared.error.kind.ErrorKind.TheVariants.{OutOfMemory};
 ghost use Rattle.mk_command_line.specs.Commands.{program_for};
-ghost use Rattle.mk_command_line.specs.Requests.{AreApart, Asks, AsksEdit, GoesTo, IsDepth, IsFlag};
+ghost use Rattle.mk_command_line.specs.Requests.{AreApart, Asks, AsksEdit, AsksQuery, GoesTo, IsDepth, IsFlag};
 ghost use Rattle.mk_command_line.specs.Requests.{IsMakefile, ReadsFrom, file_named, file_of};
 ghost use Rattle.mk_command_line.specs.Requests.{IsBackup, is_query, is_suffix};
 
 use crate::arguments::{
-    BACKUP, DEPTH, EXPRESSION, FILE, IN_PLACE, KEEP_GOING, OUTPUT, REFUSAL, SCRIPT,
+    BACKUP, DEPTH, EXPRESSION, FILE, IN_PLACE, KEEP_GOING, NOTES, OUTPUT, REFUSAL, SCRIPT,
 };
 use crate::command_name::{CommandName, command_named};
 use crate::commands::program_for;
-use crate::request::{EditWords, InPlace, Input, Output, Request, Script};
+use crate::request::{EditWords, InPlace, Input, Output, Query, QueryWords, Request, Script};
 use clap::error::ErrorKind;
 use clap::{ArgMatches, Command};
 use std::alloc::{AllocError, Global};
@@ -216,10 +216,23 @@ fn edit_words<'a>(
     Ok(EditWords {
         keep_going: is_set(matches, KEEP_GOING),
         depth,
+        notes: is_set(matches, NOTES),
         output,
         script,
         file,
     })
+}
+
+// What the words of a query ask for.
+fn query_words<'a>(query: Query, matches: &ArgMatches<'a>) -> QueryWords<'a>
+    ensures { AsksQuery query (rows_of (found_of matches.now)) result }
+{
+    let notes = is_set(matches, NOTES);
+    QueryWords {
+        query,
+        notes,
+        file: makefile(value(matches, FILE)),
+    }
 }
 
 // The refusal that the word of `explain` calls.
@@ -256,9 +269,7 @@ where
         return Err(command.error(ErrorKind::MissingSubcommand, NO_COMMAND)?);
     };
     match command_named(name) {
-        Some(CommandName::Query(query)) => {
-            Ok(Request::Query(query, makefile(value(matches, FILE))))
-        }
+        Some(CommandName::Query(query)) => Ok(Request::Query(query_words(query, matches))),
         Some(CommandName::Explain) => Ok(Request::Explain(explained(command, matches)?)),
         Some(CommandName::Edit) => Ok(Request::Edit(edit_words(alloc, command, matches)?)),
         None => Err(command.error(ErrorKind::MissingSubcommand, NO_COMMAND)?),

@@ -64,6 +64,8 @@ pub struct EditWords<'a> {
     pub keep_going: bool,
     /// How many edits can be undone.
     pub depth: u32,
+    /// Whether a message has notes below it.
+    pub notes: bool,
     /// Where the text goes.
     pub output: Output<'a>,
     /// Where the commands come from.
@@ -72,13 +74,24 @@ pub struct EditWords<'a> {
     pub file: Input<'a>,
 }
 
+/// What the words of a query say.
+#[derive(Clone, Copy)]
+pub struct QueryWords<'a> {
+    /// What is asked.
+    pub query: Query,
+    /// Whether a message has notes below it.
+    pub notes: bool,
+    /// The makefile.
+    pub file: Input<'a>,
+}
+
 /// What the command line asks for. `R` is what a refusal is for the caller.
 #[derive(Drop)]
 pub enum Request<'a, R> {
     /// A script over a makefile.
     Edit(EditWords<'a>),
-    /// A query, and the makefile.
-    Query(Query, Input<'a>),
+    /// A query of a makefile.
+    Query(QueryWords<'a>),
     /// What is said of a refusal.
     Explain(R),
 }

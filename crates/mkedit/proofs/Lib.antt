@@ -3,3 +3,5 @@ mod RefusalLemmas
 mod UntoldLemmas
 -- Lemmas on sources
 mod ComparisonLemmas
+-- Lemmas on texts that are written
+mod WritesLemmas

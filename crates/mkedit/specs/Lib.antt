@@ -2,4 +2,5 @@
 -- What the program prints.
 pub mod QueryTexts
 pub mod Explanations
+pub mod Notes
 pub mod Settled

@@ -2,13 +2,17 @@
 ghost use Rattle.std.specs.Prelude.{◌≡◌, ◌||◌, false};
 ghost use Rattle.mk_run.specs.RunEnds.{IsRunOver, TellsFaults, written};
 
+use crate::ending::End;
 use crate::files::{CannotOpen, open};
 use crate::in_place::InPlaceFile;
+use crate::noted::Noted;
+use crate::notes::{STANDARD_INPUT, STANDARD_OUTPUT};
 use crate::out_file::OutFile;
 use mk_command_line::{EditWords, Input, Output, Script};
 use mk_lines::{ByteSink, ByteSource, StdSink, StdSource};
 use mk_run::{Outcome, run};
 use std::alloc::Allocator;
+use std::io::Read;
 use std::mem;
 
 // The command line takes the depths that a history has.
@@ -57,12 +61,12 @@ where
 }
 
 // Runs the script over the makefile, with the text to where the words say.
-fn run_over<R: ByteSource, S: ByteSource>(
-    rt: &HostRuntime,
-    words: &EditWords<'_>,
+fn run_over<'a, R: ByteSource, S: ByteSource>(
+    rt: &'a HostRuntime,
+    words: &EditWords<'a>,
     makefile: &mut R,
     script: &mut S,
-) -> Outcome
+) -> End<'a>
     requires makefile_works { R.failed makefile.old ≡ false }
     requires script_works { S.failed script.old ≡ false }
 {
@@ -70,39 +74,64 @@ fn run_over<R: ByteSource, S: ByteSource>(
     match words.output {
         Output::File(name) => {
             let mut out = OutFile::new(rt, name);
-            run_to(rt.alloc(), words, makefile, script, &mut out, &mut report)
+            let outcome = run_to(rt.alloc(), words, makefile, script, &mut out, &mut report);
+            End::of(outcome).with_fault(out.fault())
         }
         Output::InPlace(place) => {
             let mut out = InPlaceFile::new(rt, place.name, place.backup);
             let outcome = run_to(rt.alloc(), words, makefile, script, &mut out, &mut report);
+            let end = End::of(outcome).with_fault(out.fault());
             out.close();
-            outcome
+            end
         }
         Output::Standard => {
-            let mut out = StdSink::new(rt.stdout());
-            run_to(rt.alloc(), words, makefile, script, &mut out, &mut report)
+            let mut device = Noted::new(rt.stdout());
+            let mut out = StdSink::new(&mut device);
+            let outcome = run_to(rt.alloc(), words, makefile, script, &mut out, &mut report);
+            End::of(outcome).with_fault(device.fault(STANDARD_OUTPUT))
         }
     }
 }
 
+// Runs the script over a makefile that is called by this name.
+fn run_named<'a, R: Read + Drop, S: ByteSource>(
+    rt: &'a HostRuntime,
+    words: &EditWords<'a>,
+    name: &'a str,
+    makefile: R,
+    script: &mut S,
+) -> End<'a>
+    requires script_works { S.failed script.old ≡ false }
+{
+    let mut makefile = Noted::new(makefile);
+    let end = run_over(rt, words, &mut StdSource::new(&mut makefile), script);
+    end.with_fault(makefile.fault(name))
+}
+
 // Opens the makefile, and runs the script over it.
 fn run_by<'a, S: ByteSource>(
-    rt: &HostRuntime,
+    rt: &'a HostRuntime,
     words: &EditWords<'a>,
     script: &mut S,
-) -> Result<Outcome, CannotOpen<'a>>
+) -> Result<End<'a>, CannotOpen<'a>>
     requires script_works { S.failed script.old ≡ false }
 {
     match words.file {
-        Input::File(name) => {
-            let mut makefile = StdSource::new(open(rt, name)?);
-            Ok(run_over(rt, words, &mut makefile, script))
-        }
-        Input::Standard => {
-            let mut makefile = StdSource::new(rt.stdin());
-            Ok(run_over(rt, words, &mut makefile, script))
-        }
+        Input::File(name) => Ok(run_named(rt, words, name, open(rt, name)?, script)),
+        Input::Standard => Ok(run_named(rt, words, STANDARD_INPUT, rt.stdin(), script)),
     }
+}
+
+// Runs the script of this name over the makefile, which is opened after it.
+fn run_script<'a, S: Read + Drop>(
+    rt: &'a HostRuntime,
+    words: &EditWords<'a>,
+    name: &'a str,
+    script: S,
+) -> Result<End<'a>, CannotOpen<'a>> {
+    let mut script = Noted::new(script);
+    let end = run_by(rt, words, &mut StdSource::new(&mut script))?;
+    Ok(end.with_fault(script.fault(name)))
 }
 
 /// Opens the script, then the makefile, and runs the one over the other.
@@ -110,19 +139,10 @@ fn run_by<'a, S: ByteSource>(
 /// # Errors
 ///
 /// [`CannotOpen`] where one of the two cannot be opened. Nothing is read then.
-pub fn edit<'a>(rt: &HostRuntime, words: &EditWords<'a>) -> Result<Outcome, CannotOpen<'a>> {
+pub fn edit<'a>(rt: &'a HostRuntime, words: &EditWords<'a>) -> Result<End<'a>, CannotOpen<'a>> {
     match &words.script {
-        Script::From(Input::File(name)) => {
-            let mut script = StdSource::new(open(rt, name)?);
-            run_by(rt, words, &mut script)
-        }
-        Script::From(Input::Standard) => {
-            let mut script = StdSource::new(rt.stdin());
-            run_by(rt, words, &mut script)
-        }
-        Script::Lines(lines) => {
-            let mut script = StdSource::new(lines.as_bytes());
-            run_by(rt, words, &mut script)
-        }
+        Script::From(Input::File(name)) => run_script(rt, words, name, open(rt, name)?),
+        Script::From(Input::Standard) => run_script(rt, words, STANDARD_INPUT, rt.stdin()),
+        Script::Lines(lines) => run_by(rt, words, &mut StdSource::new(lines.as_bytes())),
     }
 }

@@ -1,14 +1,18 @@
 //! How the program ends: a message on standard error, and the status.
-ghost use Rattle.std.specs.Prelude.{◌≡◌, ◌≢◌, false};
+ghost use Rattle.std.specs.Prelude.{◌≡◌, ◌≢◌, ◌++◌, None, false, if◌then◌else◌};
+ghost use Rattle.std.specs.Option.{option_or};
 ghost use Rattle.std.specs.Io.KnownBytes.{Appends};
 ghost use Rattle.std.specs.Process.{exit_status};
 ghost use Rattle.clap.specs.Values.{kind_of};
 ghost use Rattle.clap.specs.declared.error.kind.ErrorKind.TheVariants.{DisplayHelp, DisplayVersion};
 ghost use Rattle.mk_lines.specs.Device.{AppendsPrefix};
+ghost use Rattle.mk_lines.specs.Device.{Writes};
 ghost use Rattle.mk_run.specs.Outcome.{message_of, status_of};
+ghost use Rattle.mkedit.specs.Notes.{notes_of};
 
 use crate::files::CannotOpen;
-use mk_lines::{ByteSink, StdSink};
+use crate::notes::{SystemFault, put_notes};
+use mk_lines::{ByteSink, Fault, StdSink};
 use mk_run::{Outcome, message, status};
 use std::process::ExitCode;
 
@@ -18,35 +22,96 @@ pub const BAD_COMMAND_LINE: u8 = 2;
 /// The status of a file that cannot be opened.
 pub const CANNOT_OPEN: u8 = 3;
 
-// Puts the message on an outcome out, and answers its status. A fault of the message changes no
-// status.
-fn told<W: ByteSink>(outcome: &Outcome, errors: &mut W) -> ExitCode
+/// How a run or a query ended.
+#[derive(Clone, Copy)]
+pub struct End<'a> {
+    /// Its outcome.
+    pub outcome: Outcome,
+    /// Which file or stream failed, and why, if one did.
+    pub fault: Option<SystemFault<'a>>,
+}
+
+impl<'a> End<'a> {
+    /// An end of which no fault of the system is told.
+    pub fn of(outcome: Outcome) -> End<'a>
+        ensures outcome { result.outcome ≡ outcome }
+        ensures fault { result.fault ≡ None }
+    {
+        End {
+            outcome,
+            fault: None,
+        }
+    }
+
+    /// The same end, with this fault where it has none.
+    pub fn with_fault(self, fault: Option<SystemFault<'a>>) -> End<'a>
+        ensures outcome { result.outcome ≡ self.entry.outcome }
+        ensures fault { result.fault ≡ option_or self.entry.fault fault.entry }
+    {
+        match self.fault {
+            Some(_) => self,
+            None => End {
+                outcome: self.outcome,
+                fault,
+            },
+        }
+    }
+
+    // The fault that is told: none without notes.
+    fn told_fault(&self, notes: bool) -> Option<SystemFault<'a>>
+        ensures { result ≡ (if notes then self.now.fault else None) }
+    {
+        if notes { self.fault } else { None }
+    }
+}
+
+// Writes the message on an outcome, and below it the note on a fault.
+fn tell<W: ByteSink>(
+    outcome: &Outcome,
+    fault: Option<SystemFault<'_>>,
+    errors: &mut W,
+) -> Result<(), Fault>
+    requires { W.failed errors.old ≡ false }
+    ensures { Writes W.contents W.failed W.flushes errors.old errors.new result
+        (message_of outcome.now ++ notes_of fault.entry) }
+{
+    message(outcome, errors)?;
+    put_notes(fault, errors)
+}
+
+// Puts the message on an outcome out, and below it the note on a fault, and answers the outcome's
+// status. A fault of the message changes no status.
+fn told<W: ByteSink>(outcome: &Outcome, fault: Option<SystemFault<'_>>, errors: &mut W) -> ExitCode
     requires { W.failed errors.old ≡ false }
     ensures status { exit_status result ≡ status_of outcome.now }
     ensures message { W.failed errors.new ≡ false
-        → Appends (W.contents errors.old) (W.contents errors.new) (message_of outcome.now) }
+        → Appends (W.contents errors.old) (W.contents errors.new)
+        (message_of outcome.now ++ notes_of fault.entry) }
     ensures prefix { AppendsPrefix (W.contents errors.old) (W.contents errors.new)
-        (message_of outcome.now) }
+        (message_of outcome.now ++ notes_of fault.entry) }
 {
-    let _ = message(outcome, errors);
+    let _ = tell(outcome, fault, errors);
     ExitCode::from(status(outcome))
 }
 
-/// Puts the message on an outcome out on standard error, and answers its status. A fault of the
-/// message changes no status.
-pub fn ended(rt: &HostRuntime, outcome: &Outcome) -> ExitCode
-    ensures { exit_status result ≡ status_of outcome.now }
+/// Puts the message on an end out on standard error, with a note on its fault where there are notes,
+/// and answers its status. A fault of the message changes no status.
+pub fn ended(rt: &HostRuntime, end: &End<'_>, notes: bool) -> ExitCode
+    ensures { exit_status result ≡ status_of end.now.outcome }
 {
     let mut errors = StdSink::new(rt.stderr());
-    told(outcome, &mut errors)
+    told(&end.outcome, end.told_fault(notes), &mut errors)
 }
 
-/// Says that a file cannot be opened, and answers the status of that.
-pub fn not_opened(rt: &HostRuntime, file: &CannotOpen<'_>) -> ExitCode
+/// Says that a file cannot be opened, and why where there are notes, and answers the status of that.
+pub fn not_opened(rt: &HostRuntime, file: &CannotOpen<'_>, notes: bool) -> ExitCode
     ensures { exit_status result ≡ CANNOT_OPEN }
 {
-    let name = file.0;
+    let name = file.0.name;
     let _ = eprintln!(rt; "mkedit: cannot open {name}");
+    if notes {
+        let _ = put_notes(Some(file.0), &mut StdSink::new(rt.stderr()));
+    }
     ExitCode::from(CANNOT_OPEN)
 }
 

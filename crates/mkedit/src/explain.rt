@@ -12,12 +12,12 @@ use mk_run::Outcome;
 use mk_session::{Field, Refusal};
 use std::str::FromStr;
 
-// Whether the word is the refusal's name, or its number in decimal digits.
+// Whether the word is the refusal's name, in any case, or its number in decimal digits.
 fn is_called(word: &str, refusal: &Refusal) -> bool
     ensures { result ≡ is_called word.now refusal.now }
 {
     let mut digits = itoa::Buffer::new();
-    word == refusal.name() || word == digits.format(refusal.number())
+    word.eq_ignore_ascii_case(refusal.name()) || word == digits.format(refusal.number())
 }
 
 // The first of some refusals that a word calls.
@@ -34,7 +34,7 @@ fn first_called(word: &str, refusals: &[Refusal]) -> Option<Refusal>
     None
 }
 
-/// The refusal that has this name or number. Where it has a count or a field, this is any.
+/// The refusal that has this name, in any case, or this number. Where it has a count or a field, this is any.
 pub fn refusal_of(word: &str) -> Option<Refusal>
     ensures found { IfSome result (λ refusal. is_called word.now refusal ≡ true) }
     ensures none { IfNone result ((refusal : Refusal) → is_called word.now refusal ≡ false) }

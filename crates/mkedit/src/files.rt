@@ -1,12 +1,23 @@
 //! Files beside the standard streams.
 ghost use Rattle.std.specs.Prelude.{◌≡◌, IfOk, IfErr};
+ghost use Rattle.std.specs.IoError.{error_kind};
 
+use crate::notes::{Cause, SystemFault};
 use std::fs::{File, OpenOptions};
 use std::io;
 
-/// A file that cannot be opened, by its name.
+/// A file that cannot be opened, by its name, and why.
 #[derive(Clone, Copy)]
-pub struct CannotOpen<'a>(pub &'a str);
+pub struct CannotOpen<'a>(pub SystemFault<'a>);
+
+// A file of this name cannot be opened for this error.
+fn cannot_open<'a>(name: &'a str, error: io::Error) -> CannotOpen<'a>
+    ensures name { result.0.name ≡ name.entry }
+    ensures cause { result.0.cause ≡ Cause.System (error_kind error) }
+{
+    let cause = Cause::from(error);
+    CannotOpen(SystemFault { name, cause })
+}
 
 // A file that is opened takes the number of a standard stream where that one is closed, and would
 // then be read or written in its place. A clone has a number above theirs.
@@ -20,11 +31,11 @@ pub(crate) fn beside_standard_streams(file: File) -> io::Result<File> {
 ///
 /// [`CannotOpen`] with the name.
 pub fn open<'a>(rt: &HostRuntime, name: &'a str) -> Result<File, CannotOpen<'a>>
-    ensures cannot { IfErr result (λ error. error.0.now ≡ name.now) }
+    ensures cannot { IfErr result (λ error. error.0.name.now ≡ name.now) }
 {
     match File::open(rt, name).and_then(beside_standard_streams) {
         Ok(file) => Ok(file),
-        Err(_) => Err(CannotOpen(name)),
+        Err(error) => Err(cannot_open(name, error)),
     }
 }
 
@@ -70,10 +81,10 @@ impl<'a> Created<'a> {
 /// so a file that cannot be opened keeps its bytes.
 pub fn create<'a>(rt: &HostRuntime, name: &'a str) -> Result<Created<'a>, CannotOpen<'a>>
     ensures name { IfOk result (λ created. created.name.now ≡ name.now) }
-    ensures cannot { IfErr result (λ error. error.0.now ≡ name.now) }
+    ensures cannot { IfErr result (λ error. error.0.name.now ≡ name.now) }
 {
     match Created::open(rt, name) {
         Ok(created) => Ok(created),
-        Err(_) => Err(CannotOpen(name)),
+        Err(error) => Err(cannot_open(name, error)),
     }
 }

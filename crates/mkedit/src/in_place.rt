@@ -8,12 +8,15 @@
 //! - `comparison`: whether its bytes are those of the makefile.
 ghost use Rattle.std.specs.Prelude.{◌≡◌, ◌||◌, ◌≤◌, None, Some, false, is_err, length, IfOk, IfErr, IfSome, IsSomeAnd, OnErr, OnOk};
 ghost use Rattle.mk_lines.specs.Device.{is_refused};
+ghost use Rattle.mkedit.specs.Notes.{fault_if};
 ghost use Rattle.mkedit.specs.Settled.{IsKeptUnder, draft_of};
 
 mod comparison;
 mod draft;
 
-use draft::{Draft, Placed, Removed, Unchanged};
+use crate::noted::Noted;
+use crate::notes::{Cause, SystemFault};
+use draft::{Draft, Placed, Removed, Unchanged, Unsettled};
 use mk_lines::{ByteSink, Fault, StdSink};
 
 // What became of a draft that was written to its end.
@@ -31,10 +34,10 @@ fn put_into_place<'a>(
     rt: &HostRuntime,
     draft: Draft<'a>,
     backup: Option<&'a str>,
-) -> Result<Placed<'a>, Draft<'a>>
+) -> Result<Placed<'a>, Unsettled<'a>>
     ensures placed { IfOk result (λ placed. placed.draft ≡ draft.entry) }
     ensures kept { IfOk result (λ placed. placed.kept ≡ backup.entry) }
-    ensures draft { IfErr result (λ same. same ≡ draft.entry) }
+    ensures draft { IfErr result (λ unsettled. unsettled.draft ≡ draft.entry) }
 {
     let synced = draft.sync()?;
     match backup {
@@ -49,10 +52,10 @@ fn settle<'a>(
     rt: &HostRuntime,
     draft: Draft<'a>,
     backup: Option<&'a str>,
-) -> Result<Settled<'a>, Draft<'a>>
+) -> Result<Settled<'a>, Unsettled<'a>>
     ensures settled { IfOk result (λ settled. draft_of settled ≡ draft.entry) }
     ensures kept { IfOk result (IsKeptUnder backup.entry) }
-    ensures draft { IfErr result (λ same. same ≡ draft.entry) }
+    ensures draft { IfErr result (λ unsettled. unsettled.draft ≡ draft.entry) }
 {
     match draft.compare(rt) {
         Some(same) => Ok(Settled::Unchanged(draft.leave(rt, same))),
@@ -74,6 +77,8 @@ pub struct InPlaceFile<'a> {
     draft: Option<Draft<'a>>,
     settled: Option<Settled<'a>>,
     is_failed: bool,
+    // Why it has failed, where it has.
+    cause: Cause,
 }
 
 impl<'a> InPlaceFile<'a> {
@@ -93,6 +98,21 @@ impl<'a> InPlaceFile<'a> {
             draft: None,
             settled: None,
             is_failed: false,
+            cause: Cause::TookNothing,
+        }
+    }
+
+    /// Why the makefile could not be written, if it has failed.
+    pub fn fault(&self) -> Option<SystemFault<'a>>
+        ensures { result ≡ fault_if self.now.is_failed self.now.name self.now.cause }
+    {
+        if self.is_failed {
+            Some(SystemFault {
+                name: self.name,
+                cause: self.cause,
+            })
+        } else {
+            None
         }
     }
 
@@ -108,6 +128,7 @@ impl<'a> InPlaceFile<'a> {
             draft,
             settled: _,
             is_failed: _,
+            cause: _,
         } = self;
         match draft {
             Some(draft) => Some(draft.remove(rt)),
@@ -131,8 +152,9 @@ impl<'a> InPlaceFile<'a> {
         }
         match Draft::begin(self.rt, self.name) {
             Ok(draft) => Ok(draft),
-            Err(_) => {
+            Err(cause) => {
                 self.is_failed = true;
+                self.cause = cause;
                 Err(Fault::Write)
             }
         }
@@ -153,7 +175,9 @@ impl ByteSink for InPlaceFile<'_> {
         ensures backup { self.new.backup ≡ self.old.backup }
     {
         let draft = self.take_draft()?;
-        let answer = StdSink::new(draft.file()).write(text);
+        let mut device = Noted::new(draft.file());
+        let answer = StdSink::new(&mut device).write(text);
+        self.cause = device.cause();
         self.draft = Some(draft);
         let is_refused = match answer {
             Ok(count) => count == 0 && !text.is_empty(),
@@ -178,8 +202,9 @@ impl ByteSink for InPlaceFile<'_> {
     {
         let settled = match settle(self.rt, self.take_draft()?, self.backup) {
             Ok(settled) => settled,
-            Err(draft) => {
-                self.draft = Some(draft);
+            Err(unsettled) => {
+                self.draft = Some(unsettled.draft);
+                self.cause = unsettled.cause;
                 self.is_failed = true;
                 return Err(Fault::Write);
             }

@@ -6,6 +6,7 @@
 //! - `explain`: why a command is refused; `explanations` has the texts.
 //! - `files`: files beside the standard streams.
 //! - `noted`: readers and writers that remember why they failed.
+//! - `notes`: what is said of that below a message.
 //! - `out_file`: the file that a text goes to; `in_place`: the makefile itself.
 //! - `ending`: the message and the status.
 #![tactic(auto)]
@@ -17,11 +18,13 @@ mod explanations;
 mod files;
 mod in_place;
 mod noted;
+mod notes;
 mod out_file;
 mod query;
 
-use ending::{BAD_COMMAND_LINE, answered, ended, not_opened};
+use ending::{BAD_COMMAND_LINE, End, answered, ended, not_opened};
 use explain::CalledRefusal;
+use files::CannotOpen;
 use mk_command_line::{Request, read_request};
 use mk_run::Outcome;
 use std::io::ErrorKind;
@@ -32,9 +35,13 @@ fn words(rt: &HostRuntime) -> Result<Vec<String>, ExitCode> {
     match std::env::args(rt) {
         Ok(words) => match words.collect(rt.alloc()) {
             Ok(words) => Ok(words),
-            Err(_) => Err(ended(rt, &Outcome::NoMemory)),
+            Err(_) => Err(ended(rt, &End::of(Outcome::NoMemory), false)),
         },
-        Err(error) if error.kind() == ErrorKind::OutOfMemory => Err(ended(rt, &Outcome::NoMemory)),
+        Err(error) if error.kind() == ErrorKind::OutOfMemory => Err(ended(
+            rt,
+            &End::of(Outcome::NoMemory),
+            false,
+        )),
         Err(_) => {
             let _ = eprintln!(rt; "mkedit: a word of the command line is not UTF-8");
             Err(ExitCode::from(BAD_COMMAND_LINE))
@@ -42,17 +49,23 @@ fn words(rt: &HostRuntime) -> Result<Vec<String>, ExitCode> {
     }
 }
 
+// Says how a run or a query ended, and answers its status.
+fn finished(rt: &HostRuntime, end: Result<End<'_>, CannotOpen<'_>>, notes: bool) -> ExitCode {
+    match end {
+        Ok(end) => ended(rt, &end, notes),
+        Err(file) => not_opened(rt, &file, notes),
+    }
+}
+
 // Does what the command line asks for.
 fn done(rt: &HostRuntime, words: &[String]) -> ExitCode {
-    let outcome = match read_request(rt.alloc(), words) {
-        Ok(Request::Edit(words)) => edit::edit(rt, &words),
-        Ok(Request::Query(query, file)) => query::ask(rt, query, file),
-        Ok(Request::Explain(CalledRefusal(refusal))) => Ok(explain::explain(rt, &refusal)),
-        Err(error) => return answered(rt, &error),
-    };
-    match outcome {
-        Ok(outcome) => ended(rt, &outcome),
-        Err(file) => not_opened(rt, &file),
+    match read_request(rt.alloc(), words) {
+        Ok(Request::Edit(words)) => finished(rt, edit::edit(rt, &words), words.notes),
+        Ok(Request::Query(words)) => finished(rt, query::ask(rt, words), words.notes),
+        Ok(Request::Explain(CalledRefusal(refusal))) => {
+            ended(rt, &End::of(explain::explain(rt, &refusal)), false)
+        }
+        Err(error) => answered(rt, &error),
     }
 }
 

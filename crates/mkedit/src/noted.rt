@@ -1,10 +1,13 @@
 //! Readers and writers of std that remember why they failed.
 ghost use Rattle.std.specs.Prelude.{◌≡◌, None};
+ghost use Rattle.mkedit.specs.Notes.{cause_by, fault_named};
 
+use crate::notes::{Cause, SystemFault};
 use std::io;
 use std::io::{ErrorKind, Read, Write};
 
-/// A reader or a writer, with the kind of the last error that it answered.
+/// A reader or a writer, with the kind of the last error that it answered. A call that a signal
+/// interrupted, which is made again, is none.
 #[derive(Drop)]
 pub struct Noted<D> {
     device: D,
@@ -29,6 +32,40 @@ impl<D> Noted<D> {
     {
         self.error
     }
+
+    /// Why a device of this name failed, if it answered an error.
+    pub fn fault<'a>(&self, name: &'a str) -> Option<SystemFault<'a>>
+        ensures { result ≡ fault_named name.entry self.now.error }
+    {
+        match self.error {
+            Some(kind) => Some(SystemFault {
+                name,
+                cause: Cause::System(kind),
+            }),
+            None => None,
+        }
+    }
+
+    /// Why a write failed that has failed: without an error it took nothing.
+    pub fn cause(&self) -> Cause
+        ensures { result ≡ cause_by self.now.error }
+    {
+        match self.error {
+            Some(kind) => Cause::System(kind),
+            None => Cause::TookNothing,
+        }
+    }
+
+    // Keeps why a call failed, if it did.
+    fn keep<T>(&mut self, answer: &io::Result<T>)
+        ensures { self.new.device ≡ self.old.device }
+    {
+        if let Err(error) = answer {
+            if error.kind() != ErrorKind::Interrupted {
+                self.error = Some(error.kind());
+            }
+        }
+    }
 }
 
 impl<R: Read> Read for Noted<R> {
@@ -36,9 +73,7 @@ impl<R: Read> Read for Noted<R> {
 
     fn read(&mut self, buf: &mut [u8]) -> io::Result<usize> {
         let answer = self.device.read(buf);
-        if let Err(error) = &answer {
-            self.error = Some(error.kind());
-        }
+        self.keep(&answer);
         answer
     }
 }
@@ -48,17 +83,13 @@ impl<W: Write> Write for Noted<W> {
 
     fn write(&mut self, buf: &[u8]) -> io::Result<usize> {
         let answer = self.device.write(buf);
-        if let Err(error) = &answer {
-            self.error = Some(error.kind());
-        }
+        self.keep(&answer);
         answer
     }
 
     fn flush(&mut self) -> io::Result<()> {
         let answer = self.device.flush();
-        if let Err(error) = &answer {
-            self.error = Some(error.kind());
-        }
+        self.keep(&answer);
         answer
     }
 }

@@ -1,8 +1,11 @@
 //! The file that a text goes to.
 ghost use Rattle.std.specs.Prelude.{◌≡◌, ◌||◌, ◌≤◌, None, Some, false, is_err, length, IfOk, IfErr, IfSome, IsSomeAnd};
 ghost use Rattle.mk_lines.specs.Device.{is_refused};
+ghost use Rattle.mkedit.specs.Notes.{fault_if};
 
-use crate::files::{Created, create};
+use crate::files::{CannotOpen, Created, create};
+use crate::noted::Noted;
+use crate::notes::{Cause, SystemFault};
 use mk_lines::{ByteSink, Fault, StdSink};
 
 /// A sink to the file of this name, which is opened and emptied at the first write or flush.
@@ -15,6 +18,8 @@ pub struct OutFile<'a> {
     name: &'a str,
     file: Option<Created<'a>>,
     is_failed: bool,
+    // Why it has failed, where it has.
+    cause: Cause,
 }
 
 impl<'a> OutFile<'a> {
@@ -29,6 +34,21 @@ impl<'a> OutFile<'a> {
             name,
             file: None,
             is_failed: false,
+            cause: Cause::TookNothing,
+        }
+    }
+
+    /// Why the file has failed, if it has.
+    pub fn fault(&self) -> Option<SystemFault<'a>>
+        ensures { result ≡ fault_if self.now.is_failed self.now.name self.now.cause }
+    {
+        if self.is_failed {
+            Some(SystemFault {
+                name: self.name,
+                cause: self.cause,
+            })
+        } else {
+            None
         }
     }
 
@@ -45,8 +65,9 @@ impl<'a> OutFile<'a> {
         }
         match create(self.rt, self.name) {
             Ok(file) => Ok(file),
-            Err(_) => {
+            Err(CannotOpen(fault)) => {
                 self.is_failed = true;
+                self.cause = fault.cause;
                 Err(Fault::Write)
             }
         }
@@ -65,7 +86,9 @@ impl ByteSink for OutFile<'_> {
         ensures name { self.new.name ≡ self.old.name }
     {
         let file = self.take_file()?;
-        let answer = StdSink::new(file.file()).write(text);
+        let mut device = Noted::new(file.file());
+        let answer = StdSink::new(&mut device).write(text);
+        self.cause = device.cause();
         self.file = Some(file);
         let is_refused = match answer {
             Ok(count) => count == 0 && !text.is_empty(),
@@ -83,7 +106,9 @@ impl ByteSink for OutFile<'_> {
         ensures name { self.new.name ≡ self.old.name }
     {
         let file = self.take_file()?;
-        let answer = StdSink::new(file.file()).flush();
+        let mut device = Noted::new(file.file());
+        let answer = StdSink::new(&mut device).flush();
+        self.cause = device.cause();
         self.file = Some(file);
         self.is_failed = self.is_failed || answer.is_err();
         answer

@@ -9,9 +9,11 @@ ghost use Rattle.mk_tree.specs.Documents.{IsFaithful, IsTooDeep};
 ghost use Rattle.mk_run.specs.RunEnds.{PutsOut, PutsOutIf, ReadsOnce};
 ghost use Rattle.mkedit.specs.QueryTexts.{query_outcome, query_text};
 
+use crate::ending::End;
 use crate::files::{CannotOpen, open};
 use crate::noted::Noted;
-use mk_command_line::{Input, Query};
+use crate::notes::{STANDARD_INPUT, STANDARD_OUTPUT};
+use mk_command_line::{Input, Query, QueryWords};
 use mk_lines::source::{BUFFER, MAX_TEXT, read_all};
 use mk_lines::{ByteSink, ByteSource, Fault, StdSink, StdSource};
 use mk_queries::{caveats, check, recipes, rules, vars};
@@ -118,18 +120,25 @@ fn query_outcome(outcome: Outcome, is_left: bool) -> Outcome
     }
 }
 
-// Answers on standard output, and says how that ended.
-fn print_out<R: Read + Drop>(rt: &HostRuntime, query: Query, makefile: R) -> Outcome {
-    let mut makefile = StdSource::new(makefile);
+// Answers on standard output, and says how that ended. The makefile is called by this name.
+fn print_out<'a, R: Read + Drop>(
+    rt: &HostRuntime,
+    query: Query,
+    name: &'a str,
+    makefile: R,
+) -> End<'a> {
+    let mut makefile = Noted::new(makefile);
     let mut out = Noted::new(rt.stdout());
     let outcome = print(
         rt.alloc(),
         query,
-        &mut makefile,
+        &mut StdSource::new(&mut makefile),
         &mut StdSink::new(&mut out),
     );
     let is_left = matches!(out.error(), Some(ErrorKind::BrokenPipe));
-    query_outcome(outcome, is_left)
+    End::of(query_outcome(outcome, is_left))
+        .with_fault(makefile.fault(name))
+        .with_fault(out.fault(STANDARD_OUTPUT))
 }
 
 /// Answers what the makefile is asked for, on standard output. Where nobody reads that to its end, it
@@ -138,9 +147,9 @@ fn print_out<R: Read + Drop>(rt: &HostRuntime, query: Query, makefile: R) -> Out
 /// # Errors
 ///
 /// [`CannotOpen`] where it cannot be opened.
-pub fn ask<'a>(rt: &HostRuntime, query: Query, file: Input<'a>) -> Result<Outcome, CannotOpen<'a>> {
-    match file {
-        Input::File(name) => Ok(print_out(rt, query, open(rt, name)?)),
-        Input::Standard => Ok(print_out(rt, query, rt.stdin())),
+pub fn ask<'a>(rt: &HostRuntime, words: QueryWords<'a>) -> Result<End<'a>, CannotOpen<'a>> {
+    match words.file {
+        Input::File(name) => Ok(print_out(rt, words.query, name, open(rt, name)?)),
+        Input::Standard => Ok(print_out(rt, words.query, STANDARD_INPUT, rt.stdin())),
     }
 }

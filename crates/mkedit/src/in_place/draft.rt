@@ -16,6 +16,7 @@ ghost use Rattle.std.specs.Path.{path_buf_bytes};
 
 use super::comparison::{SameBytes, same_bytes};
 use crate::files::beside_standard_streams;
+use crate::notes::Cause;
 use mk_lines::StdSource;
 use std::alloc::AllocError;
 use std::fs::{File, Metadata, OpenOptions};
@@ -47,6 +48,13 @@ pub struct Synced<'a> {
     draft: Draft<'a>,
     // The suffix of the name under which the old makefile is kept.
     kept: Option<&'a str>,
+}
+
+/// A draft that could not be settled, and why.
+#[derive(Drop)]
+pub struct Unsettled<'a> {
+    pub draft: Draft<'a>,
+    pub cause: Cause,
 }
 
 /// What was a draft, and has the makefile's name.
@@ -110,6 +118,23 @@ fn with_attributes(old: &Metadata, file: File) -> io::Result<File> {
     }
     file.set_permissions(old.permissions())?;
     Ok(file)
+}
+
+// Makes a new file in the makefile's folder, with the attributes of the old one. Where they cannot be
+// given, no new file stays.
+fn new_file_like(
+    rt: &HostRuntime,
+    makefile: &PathBuf,
+    old: &Metadata,
+) -> io::Result<(PathBuf, File)> {
+    let (path, file) = new_file_beside(rt, makefile)?;
+    match beside_standard_streams(file).and_then(|file| with_attributes(old, file)) {
+        Ok(file) => Ok((path, file)),
+        Err(error) => {
+            let _ = fs::remove_file(rt, &path);
+            Err(error)
+        }
+    }
 }
 
 // Gives a new file the bytes and the attributes of the makefile, and waits until they are on the disk.
@@ -203,26 +228,22 @@ impl<'a> Draft<'a> {
     /// # Errors
     ///
     /// That of the step that fails; the makefile has to be a regular file. No new file stays then.
-    pub fn begin(rt: &HostRuntime, name: &'a str) -> io::Result<Draft<'a>>
+    pub fn begin(rt: &HostRuntime, name: &'a str) -> Result<Draft<'a>, Cause>
         ensures name { IfOk result (λ draft. draft.name.now ≡ name.now) }
     {
         let makefile = fs::canonicalize(rt, name)?;
         let old = fs::metadata(rt, &makefile)?;
         if !old.is_file() {
-            return Err(io::Error::from(ErrorKind::InvalidInput));
+            return Err(Cause::NotRegular);
         }
-        let (path, file) = new_file_beside(rt, &makefile)?;
-        match beside_standard_streams(file).and_then(|file| with_attributes(&old, file)) {
-            Ok(file) => Ok(Draft {
+        match new_file_like(rt, &makefile, &old) {
+            Ok((path, file)) => Ok(Draft {
                 name,
                 path,
                 file,
                 makefile,
             }),
-            Err(error) => {
-                let _ = fs::remove_file(rt, &path);
-                Err(error)
-            }
+            Err(error) => Err(Cause::NewFile(error.kind())),
         }
     }
 
@@ -255,16 +276,19 @@ impl<'a> Draft<'a> {
     /// # Errors
     ///
     /// The draft itself, where the system does not say so.
-    pub fn sync(self) -> Result<Synced<'a>, Draft<'a>>
+    pub fn sync(self) -> Result<Synced<'a>, Unsettled<'a>>
         ensures synced { IfOk result (λ synced. (synced.draft ≡ self.entry) × (synced.kept ≡ None)) }
-        ensures draft { IfErr result (λ draft. draft ≡ self.entry) }
+        ensures draft { IfErr result (λ unsettled. unsettled.draft ≡ self.entry) }
     {
         match self.file.sync_all() {
             Ok(()) => Ok(Synced {
                 draft: self,
                 kept: None,
             }),
-            Err(_) => Err(self),
+            Err(error) => Err(Unsettled {
+                draft: self,
+                cause: Cause::NewFile(error.kind()),
+            }),
         }
     }
 
@@ -285,9 +309,9 @@ impl<'a> Synced<'a> {
     ///
     /// The draft, where the system refuses. The makefile is as it was then, and so is a file of that
     /// name.
-    pub fn keep_old(self, rt: &HostRuntime, suffix: &'a str) -> Result<Synced<'a>, Draft<'a>>
+    pub fn keep_old(self, rt: &HostRuntime, suffix: &'a str) -> Result<Synced<'a>, Unsettled<'a>>
         ensures kept { IfOk result (λ synced. (synced.draft ≡ self.entry.draft) × (synced.kept ≡ Some suffix.entry)) }
-        ensures draft { IfErr result (λ draft. draft ≡ self.entry.draft) }
+        ensures draft { IfErr result (λ unsettled. unsettled.draft ≡ self.entry.draft) }
     {
         let draft = self.draft;
         match keep_old(rt, &draft.makefile, suffix) {
@@ -295,7 +319,10 @@ impl<'a> Synced<'a> {
                 draft,
                 kept: Some(suffix),
             }),
-            Err(_) => Err(draft),
+            Err(error) => Err(Unsettled {
+                draft,
+                cause: Cause::OldFile(error.kind()),
+            }),
         }
     }
 
@@ -304,14 +331,17 @@ impl<'a> Synced<'a> {
     /// # Errors
     ///
     /// The draft, where the system refuses. The makefile is as it was then.
-    pub fn rename(self, rt: &HostRuntime) -> Result<Placed<'a>, Draft<'a>>
+    pub fn rename(self, rt: &HostRuntime) -> Result<Placed<'a>, Unsettled<'a>>
         ensures placed { IfOk result (λ placed. (placed.draft ≡ self.entry.draft) × (placed.kept ≡ self.entry.kept)) }
-        ensures draft { IfErr result (λ draft. draft ≡ self.entry.draft) }
+        ensures draft { IfErr result (λ unsettled. unsettled.draft ≡ self.entry.draft) }
     {
         let Synced { draft, kept } = self;
         match fs::rename(rt, &draft.path, &draft.makefile) {
             Ok(()) => Ok(Placed { draft, kept }),
-            Err(_) => Err(draft),
+            Err(error) => Err(Unsettled {
+                draft,
+                cause: Cause::NewFile(error.kind()),
+            }),
         }
     }
 }

@@ -1,4 +1,4 @@
-use Rattle.std.proofs.Common.{◌≡◌, ◌∙◌, refl, Some, ap, sym}
+use Rattle.std.proofs.Common.{◌≡◌, ◌∙◌, Some, ap, sym}
 use Rattle.clap.specs.Words.{found_of, rows_of, subcommand_rows_of}
 use Rattle.mk_command_line.specs.Commands.{command_named}
 use Rattle.mk_command_line.specs.declared.command_name.CommandName.{CommandName}
@@ -13,4 +13,4 @@ returns-in-Some-Query-clause-asks g c =
     subcommand_found c.args.matches.now c.in-Some.name.now rows c.in-Some.ensures.name c.in-Some.ensures.rows in
     let named : command_named c.in-Some.name.now ≡ Some (Query c.in-Some-Query.query) =
     sym c.command_named.ensures ∙ (c.in-Some-Query.is ∙ ap (λ (n : CommandName). Some n) c.in-Some-Query.field-0-is) in
-    rw (found, named) (refl, rw (← c.value.ensures) c.makefile.ensures)
+    rw (found, named) c.query_words.ensures

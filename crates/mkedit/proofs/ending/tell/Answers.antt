@@ -1,0 +1,16 @@
+use Rattle.std.proofs.Common.{rules}
+use Rattle.mk_lines.proofs.PrefixLemmas.{AppendsPrefix-front}
+use Rattle.mkedit.proofs.WritesLemmas.{writes-then}
+use Rattle.mkedit.proofs.ending.tell.Goals as goal
+
+pub returns : goal.returns
+returns g c = writes-then c.in_ok-message.ensures c.put_notes.ensures
+
+pub returns-in_err-message : goal.returns-in_err-message
+returns-in_err-message g c = record {
+  whole = search rules;
+  prefix = AppendsPrefix-front _ _ _ _ c.in_err-message.ensures.prefix;
+  works = search rules;
+  fault = search rules;
+  unflushed = c.in_err-message.ensures.unflushed;
+}
