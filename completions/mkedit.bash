@@ -5,7 +5,7 @@
 _mkedit_options() {
     case $1 in
         "") echo "-h --help -V --version" ;;
-        edit) echo "-k --keep-going -d --depth -o --output -i --in-place --backup -e --expression -h --help" ;;
+        edit) echo "-k --keep-going -d --depth -o --output -i --in-place --backup --diff -e --expression -h --help" ;;
         help) ;;
         *) echo "-h --help" ;;
     esac

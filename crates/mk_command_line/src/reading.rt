@@ -11,7 +11,7 @@ ghost use Rattle.mk_command_line.specs.Requests.{IsMakefile, ReadsFrom, file_nam
 ghost use Rattle.mk_command_line.specs.Requests.{IsBackup, is_query, is_suffix};
 
 use crate::arguments::{
-    BACKUP, DEPTH, EXPRESSION, FILE, IN_PLACE, KEEP_GOING, OUTPUT, REFUSAL, SCRIPT,
+    BACKUP, DEPTH, DIFF, EXPRESSION, FILE, IN_PLACE, KEEP_GOING, OUTPUT, REFUSAL, SCRIPT,
 };
 use crate::command_name::{CommandName, command_named};
 use crate::commands::program_for;
@@ -217,6 +217,7 @@ fn edit_words<'a>(
         keep_going: is_set(matches, KEEP_GOING),
         depth,
         output,
+        is_diff: is_set(matches, DIFF),
         script,
         file,
     })

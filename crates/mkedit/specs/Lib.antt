@@ -3,3 +3,4 @@
 pub mod QueryTexts
 pub mod Explanations
 pub mod Settled
+pub mod DiffRuns

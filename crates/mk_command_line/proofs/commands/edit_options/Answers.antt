@@ -15,8 +15,9 @@ returns-clause-app c =
     let three = with_argument _ _ _ _ _ c.in_ok-arg-3.ensures c.output.ensures.local two c.output.ensures.rule in
     let four = with_argument _ _ _ _ _ c.in_ok-arg-4.ensures c.in_ok-in_place.ensures.local three c.in_ok-in_place.ensures.rule in
     let five = with_argument _ _ _ _ _ c.in_ok-arg-5.ensures c.backup.ensures.local four c.backup.ensures.rule in
-    IfOk-weaker c.arg-6.result _ _
-    (λ edit added. with_argument _ edit _ _ _ added c.expression.ensures.local five c.expression.ensures.rule) c.arg-6.ensures
+    let six = with_argument _ _ _ _ _ c.in_ok-arg-6.ensures c.in_ok-diff.ensures.local five c.in_ok-diff.ensures.rule in
+    IfOk-weaker c.arg-7.result _ _
+    (λ edit added. with_argument _ edit _ _ _ added c.expression.ensures.local six c.expression.ensures.rule) c.arg-7.ensures
 
 pub returns-clause-local : goal.returns-clause-local
 returns-clause-local c =
@@ -26,4 +27,5 @@ returns-clause-local c =
     let three = stays_local _ _ _ c.in_ok-arg-3.ensures c.output.ensures.local two in
     let four = stays_local _ _ _ c.in_ok-arg-4.ensures c.in_ok-in_place.ensures.local three in
     let five = stays_local _ _ _ c.in_ok-arg-5.ensures c.backup.ensures.local four in
-    IfOk-weaker c.arg-6.result _ _ (λ edit added. stays_local _ edit _ added c.expression.ensures.local five) c.arg-6.ensures
+    let six = stays_local _ _ _ c.in_ok-arg-6.ensures c.in_ok-diff.ensures.local five in
+    IfOk-weaker c.arg-7.result _ _ (λ edit added. stays_local _ edit _ added c.expression.ensures.local six) c.arg-7.ensures
