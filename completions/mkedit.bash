@@ -5,8 +5,8 @@
 _mkedit_options() {
     case $1 in
         "") echo "-h --help -V --version" ;;
-        edit) echo "-k --keep-going -d --depth -o --output -i --in-place --backup -e --expression --notes -h --help" ;;
-        vars | rules | check | caveats) echo "--notes -h --help" ;;
+        edit) echo "-k --keep-going -d --depth -o --output -i --in-place --backup --diff -e --expression --notes -h --help" ;;
+        vars | rules | recipes | check | caveats) echo "--notes -h --help" ;;
         help) ;;
         *) echo "-h --help" ;;
     esac

@@ -28,8 +28,9 @@ _mkedit_edit() {
         '(-k --keep-going)'{-k,--keep-going}'[go on after a refused command]' \
         '(-d --depth)'{-d+,--depth=}'[how many edits can be undone, from 1 to 10000]:depth: ' \
         '(-o --output -i --in-place)'{-o+,--output=}'[where the text goes; it may be FILE, which is then named twice]:output:_files' \
-        '(-i --in-place -o --output)'{-i,--in-place}'[the makefile gets the text]' \
+        '(-i --in-place -o --output --diff)'{-i,--in-place}'[the makefile gets the text]' \
         '(-o --output)--backup=[with -i, keeps the old file under its name with this suffix at its end]:suffix: ' \
+        '(-i --in-place)--diff[prints what would change, as a diff that patch takes, in place of the text]' \
         '*'{-e+,--expression=}'[a line of a script, in place of the script]:command: ' \
         '--notes[say below a message why a file could not be opened, read or written]' \
         '(-h --help)'{-h,--help}'[print help]' \

@@ -31,7 +31,7 @@ class CommandLine(RoomCase):
     def test_help_of_edit_names_its_options(self):
         options = ("-k, --keep-going", "-d, --depth <DEPTH>", "-o, --output <OUT>")
         options += ("-e, --expression <COMMAND>", "mkedit edit [OPTIONS] -e COMMAND [-e COMMAND ...] [FILE]")
-        options += ("-i, --in-place", "mkedit explain 4")
+        options += ("-i, --in-place", "--diff", "mkedit explain 4")
         self.assert_help("edit", "--help", shows=options)
 
     def test_the_version_is_the_one_of_the_list_of_changes(self):
@@ -58,6 +58,10 @@ class CommandLine(RoomCase):
             ["edit", "-x", "script", "Makefile"],
             ["edit", "-k", "-k", "script", "Makefile"],
             ["edit", "-o", "a", "-o", "b", "script", "Makefile"],
+            ["edit", "--diff", "-i", "script", "Makefile"],
+            ["edit", "--diff", "--diff", "script", "Makefile"],
+            ["edit", "--diff=out", "script", "Makefile"],
+            ["edit", "--diff", "--backup", "~", "script", "Makefile"],
             ["edit", "-d", "1", "-d", "2", "script", "Makefile"],
             ["edit", "script", "Makefile", "-o"],
             ["edit", "script", "Makefile", "-d"],

@@ -4,6 +4,7 @@ from typing import NamedTuple
 
 from tests.lib import reading
 from tests.lib.checks import Outcome, brief, differences
+from tests.lib.diffs import PROGRAMS, wrong_ways
 
 from .drawing import Drawing, source_of
 from .edits import LIMIT
@@ -111,6 +112,7 @@ def problems_of(room, case, verdict):
     problems = differences(got, verdict.outcome) + list(broken_promises(got, case, verdict))
     if verdict.outcome.status < 2:
         problems += wrong_undoing(room, case)
+        problems += wrong_diff(room, case, Outcome(out, err, status))
     if not case.filling:
         problems += wrong_queries(room, case, got, out)
     return problems + room.changed()
@@ -159,6 +161,16 @@ def wrong_undoing(room, case):
     got = room.run("edit", "-k", "-d", str(GREATEST_DEPTH), "undone", "Makefile")
     is_right = (got.stdout, got.status) == (case.text, 1)
     return [] if is_right else [f"undoing all gives {brief(got.stdout)} and the status {got.status}"]
+
+
+def wrong_diff(room, case, printed):
+    """What is wrong with the diff of a run, by what it printed without it. One program takes the diff."""
+    got = room.run("edit", "--diff", *case.flags, "script", "Makefile")
+    problems = differences(got._replace(stdout=b""), printed._replace(stdout=b""))
+    is_printed = printed.status == 0 or case.goes_on
+    text = printed.stdout if is_printed else case.text
+    program = sorted(PROGRAMS)[len(case.script) % len(PROGRAMS)]
+    return [*problems, *wrong_ways(got.stdout, case.text, text, programs=(program,))]
 
 
 def wrong_query(room, query, name, text):

@@ -82,6 +82,14 @@ backup_rule = record (new_rule (codes "backup")) {
   value_names = 1;
 }
 
+-- --diff, which does not stand beside -i
+abbrev pub diff_rule : Rule
+diff_rule = record (new_rule (codes "diff")) {
+  long = Some (codes "diff");
+  action = Some SetTrue;
+  is_free = false;
+}
+
 -- -e COMMAND, --expression COMMAND, once or more
 abbrev pub expression_rule : Rule
 expression_rule = record (new_rule (codes "expression")) {
@@ -106,8 +114,8 @@ refusal_rule = record (new_rule (codes "REFUSAL")) { required = true }
 
 abbrev pub edit_options : List Rule
 edit_options =
-    keep_going_rule ∷ depth_rule ∷ output_rule ∷ in_place_rule ∷ backup_rule ∷ expression_rule
-    ∷ notes_rule ∷ []
+    keep_going_rule ∷ depth_rule ∷ output_rule ∷ in_place_rule ∷ backup_rule ∷ diff_rule
+    ∷ expression_rule ∷ notes_rule ∷ []
 
 abbrev arguments_of : CommandName → List Rule
 arguments_of Edit = edit_options ++ script_rule ∷ file_rule ∷ []

@@ -92,6 +92,7 @@ pub record AsksEdit (rows : List Row) (words : EditWords) : Type 0 where
   pub from : ReadsFrom (all_of (codes "expression") rows) (first_of (codes "SCRIPT") rows)
       (first_of (codes "FILE") rows) words.script words.file
   pub apart : AreApart words.script words.file
+  pub diff : IsFlag (codes "diff") rows words.is_diff
   pub to : (in_place : Bool) × IsFlag (codes "in-place") rows in_place
       × GoesTo in_place (first_of (codes "output") rows) (first_of (codes "backup") rows)
       words.file words.output

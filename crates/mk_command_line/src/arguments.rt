@@ -1,7 +1,7 @@
 //! The arguments of the commands, each with the name by which its words are found.
 ghost use Rattle.std.specs.Prelude.{◌≡◌, IfOk, false};
 ghost use Rattle.clap.specs.Words.{rule_of};
-ghost use Rattle.mk_command_line.specs.Commands.{backup_rule, depth_rule, expression_rule, file_rule};
+ghost use Rattle.mk_command_line.specs.Commands.{backup_rule, depth_rule, diff_rule, expression_rule, file_rule};
 ghost use Rattle.mk_command_line.specs.Commands.{in_place_rule, keep_going_rule, notes_rule, output_rule};
 ghost use Rattle.mk_command_line.specs.Commands.{refusal_rule, script_rule};
 
@@ -26,6 +26,8 @@ pub(crate) const OUTPUT: &str = "output";
 pub(crate) const IN_PLACE: &str = "in-place";
 
 pub(crate) const BACKUP: &str = "backup";
+
+pub(crate) const DIFF: &str = "diff";
 
 pub(crate) const EXPRESSION: &str = "expression";
 
@@ -110,6 +112,18 @@ pub(crate) fn backup<'a>(alloc: Global) -> Arg<'a>
         .long("backup")
         .value_name("SUFFIX")
         .help("With -i, keeps the old file under FILE's name with SUFFIX at its end")
+}
+
+/// Whether a diff goes out in place of the text.
+pub(crate) fn diff<'a>(alloc: Global) -> Result<Arg<'a>, AllocError>
+    ensures rule { IfOk result (λ arg. rule_of arg ≡ diff_rule) }
+    ensures local { IfOk result (λ arg. arg.global ≡ false) }
+{
+    let diff = Arg::new(alloc, DIFF)
+        .long("diff")
+        .action(ArgAction::SetTrue)
+        .conflicts_with(IN_PLACE)?;
+    Ok(diff.help("Prints what would change, as a diff that patch takes, in place of the text"))
 }
 
 /// The lines of a script that stand on the command line.

@@ -6,7 +6,7 @@ ghost use Rattle.mk_command_line.specs.Commands.{command_app, commands, edit_opt
 ghost use Rattle.mk_command_line.specs.Commands.{first_command, program_for, program_with, shape_of_command, word_of};
 
 use crate::arguments::{
-    backup, depth, expression, file, in_place, keep_going, notes, output, refusal, script,
+    backup, depth, diff, expression, file, in_place, keep_going, notes, output, refusal, script,
 };
 use crate::command_name::{COMMANDS, CommandName, command_named};
 use crate::help;
@@ -43,6 +43,7 @@ fn edit_options<'a>(alloc: Global) -> Result<Command<'a>, AllocError>
         .arg(output(alloc))?
         .arg(in_place(alloc)?)?
         .arg(backup(alloc))?
+        .arg(diff(alloc)?)?
         .arg(expression(alloc))?
         .arg(notes(alloc))
 }

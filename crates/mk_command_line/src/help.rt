@@ -42,7 +42,9 @@ Example: with `CC = gcc # c` in config.mk, and `set CC clang` in use-clang,
     mkedit edit use-clang config.mk
 prints `CC = clang # c`, and
     mkedit edit -i use-clang config.mk
-changes the file. Without a script,
+changes the file. Before that,
+    mkedit edit --diff use-clang config.mk
+prints what would change, as a diff that `patch -p1` takes. Without a script,
     mkedit edit -e 'set CC clang' -e 'append CC -flto' config.mk
 runs these two commands, as lines 1 and 2.
 

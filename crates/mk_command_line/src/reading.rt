@@ -11,7 +11,7 @@ ghost use Rattle.mk_command_line.specs.Requests.{IsMakefile, ReadsFrom, file_nam
 ghost use Rattle.mk_command_line.specs.Requests.{IsBackup, is_query, is_suffix};
 
 use crate::arguments::{
-    BACKUP, DEPTH, EXPRESSION, FILE, IN_PLACE, KEEP_GOING, NOTES, OUTPUT, REFUSAL, SCRIPT,
+    BACKUP, DEPTH, DIFF, EXPRESSION, FILE, IN_PLACE, KEEP_GOING, NOTES, OUTPUT, REFUSAL, SCRIPT,
 };
 use crate::command_name::{CommandName, command_named};
 use crate::commands::program_for;
@@ -218,6 +218,7 @@ fn edit_words<'a>(
         depth,
         notes: is_set(matches, NOTES),
         output,
+        is_diff: is_set(matches, DIFF),
         script,
         file,
     })

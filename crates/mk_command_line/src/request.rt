@@ -68,6 +68,8 @@ pub struct EditWords<'a> {
     pub notes: bool,
     /// Where the text goes.
     pub output: Output<'a>,
+    /// Whether the diff of the makefile and the text goes there, in place of the text.
+    pub is_diff: bool,
     /// Where the commands come from.
     pub script: Script<'a>,
     /// The makefile. It is not standard input where the script is.

@@ -92,3 +92,24 @@ fn a_line_in_common_far_below(rt: HostRuntime) -> Result<(), Fail> {
     assert_eq!(rt; lines_with(b'+', &text), 501);
     Ok(())
 }
+
+// What stands at the front of a diff of a file of this name.
+const NAMES: [(&[u8], &[u8]); 5] = [
+    (b"F", b"--- a/F\n+++ b/F\n@@"),
+    (b"lib/F.mk", b"--- a/lib/F.mk\n+++ b/lib/F.mk\n@@"),
+    (b"my F", b"--- a/my F\t\n+++ b/my F\t\n@@"),
+    (b"F\"", b"--- \"a/F\\042\"\n+++ \"b/F\\042\"\n@@"),
+    (
+        b"F\\ \n",
+        b"--- \"a/F\\134 \\012\"\n+++ \"b/F\\134 \\012\"\n@@",
+    ),
+];
+
+#[test]
+fn names_are_as_git_reads_them(rt: HostRuntime) -> Result<(), Fail> {
+    for (name, front) in NAMES {
+        let text = diff(rt.alloc(), b"old\n", b"new\n", name)?;
+        assert!(rt; text.starts_with(front));
+    }
+    Ok(())
+}

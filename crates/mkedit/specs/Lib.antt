@@ -4,3 +4,4 @@ pub mod QueryTexts
 pub mod Explanations
 pub mod Notes
 pub mod Settled
+pub mod DiffRuns

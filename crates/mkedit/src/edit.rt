@@ -2,6 +2,7 @@
 ghost use Rattle.std.specs.Prelude.{◌≡◌, ◌||◌, false};
 ghost use Rattle.mk_run.specs.RunEnds.{IsRunOver, TellsFaults, written};
 
+use crate::diff::{diff_name, run_diff};
 use crate::ending::End;
 use crate::files::{CannotOpen, open};
 use crate::in_place::InPlaceFile;
@@ -18,9 +19,9 @@ use std::mem;
 // The command line takes the depths that a history has.
 const _: () = prove!(mk_command_line::MAX_DEPTH == mk_history::history::MAX_DEPTH);
 
-// Runs the script over the makefile as the words say, with the text to a sink. The session is not
-// given up: the program ends soon, and a box for each line would be given up one by one.
-fn run_to<A, R, S, W, P>(
+/// Runs the script over the makefile as the words say, with the text to a sink. The session is not
+/// given up: the program ends soon, and a box for each line would be given up one by one.
+pub(crate) fn run_to<A, R, S, W, P>(
     alloc: A,
     words: &EditWords<'_>,
     makefile: &mut R,
@@ -60,7 +61,33 @@ where
     outcome
 }
 
-// Runs the script over the makefile, with the text to where the words say.
+// Runs the script over the makefile, with the text or the diff to a sink.
+fn print_to<R, S, W, P>(
+    rt: &HostRuntime,
+    words: &EditWords<'_>,
+    makefile: &mut R,
+    script: &mut S,
+    out: &mut W,
+    report: &mut P,
+) -> Outcome
+where
+    R: ByteSource,
+    S: ByteSource,
+    W: ByteSink,
+    P: ByteSink,
+    requires makefile_works { R.failed makefile.old ≡ false }
+    requires script_works { S.failed script.old ≡ false }
+    requires out_works { W.failed out.old ≡ false }
+    requires report_works { P.failed report.old ≡ false }
+{
+    if words.is_diff {
+        let name = diff_name(words.file);
+        return run_diff(rt.alloc(), words, name, makefile, script, out, report);
+    }
+    run_to(rt.alloc(), words, makefile, script, out, report)
+}
+
+// Runs the script over the makefile, with the text or the diff to where the words say.
 fn run_over<'a, R: ByteSource, S: ByteSource>(
     rt: &'a HostRuntime,
     words: &EditWords<'a>,
@@ -74,7 +101,7 @@ fn run_over<'a, R: ByteSource, S: ByteSource>(
     match words.output {
         Output::File(name) => {
             let mut out = OutFile::new(rt, name);
-            let outcome = run_to(rt.alloc(), words, makefile, script, &mut out, &mut report);
+            let outcome = print_to(rt, words, makefile, script, &mut out, &mut report);
             End::of(outcome).with_fault(out.fault())
         }
         Output::InPlace(place) => {
@@ -87,7 +114,7 @@ fn run_over<'a, R: ByteSource, S: ByteSource>(
         Output::Standard => {
             let mut device = Noted::new(rt.stdout());
             let mut out = StdSink::new(&mut device);
-            let outcome = run_to(rt.alloc(), words, makefile, script, &mut out, &mut report);
+            let outcome = print_to(rt, words, makefile, script, &mut out, &mut report);
             End::of(outcome).with_fault(device.fault(STANDARD_OUTPUT))
         }
     }

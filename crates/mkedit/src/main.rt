@@ -2,6 +2,7 @@
 //! What its words ask for, [`mk_command_line`] reads.
 //!
 //! - `edit`: a script over a makefile, by [`mk_run::run`].
+//! - `diff`: the diff of a makefile and its text, in place of that text, by [`mk_diff`].
 //! - `query`: what a makefile has, by [`mk_queries`].
 //! - `explain`: why a command is refused; `explanations` has the texts.
 //! - `files`: files beside the standard streams.
@@ -11,6 +12,7 @@
 //! - `ending`: the message and the status.
 #![tactic(auto)]
 
+mod diff;
 mod edit;
 mod ending;
 mod explain;

@@ -15,9 +15,10 @@ returns-clause-app c =
     let three = with_argument _ _ _ _ _ c.in_ok-arg-3.ensures c.output.ensures.local two c.output.ensures.rule in
     let four = with_argument _ _ _ _ _ c.in_ok-arg-4.ensures c.in_ok-in_place.ensures.local three c.in_ok-in_place.ensures.rule in
     let five = with_argument _ _ _ _ _ c.in_ok-arg-5.ensures c.backup.ensures.local four c.backup.ensures.rule in
-    let six = with_argument _ _ _ _ _ c.in_ok-arg-6.ensures c.expression.ensures.local five c.expression.ensures.rule in
-    IfOk-weaker c.arg-7.result _ _
-    (λ edit added. with_argument _ edit _ _ _ added c.notes.ensures.local six c.notes.ensures.rule) c.arg-7.ensures
+    let six = with_argument _ _ _ _ _ c.in_ok-arg-6.ensures c.in_ok-diff.ensures.local five c.in_ok-diff.ensures.rule in
+    let seven = with_argument _ _ _ _ _ c.in_ok-arg-7.ensures c.expression.ensures.local six c.expression.ensures.rule in
+    IfOk-weaker c.arg-8.result _ _
+    (λ edit added. with_argument _ edit _ _ _ added c.notes.ensures.local seven c.notes.ensures.rule) c.arg-8.ensures
 
 pub returns-clause-local : goal.returns-clause-local
 returns-clause-local c =
@@ -27,5 +28,6 @@ returns-clause-local c =
     let three = stays_local _ _ _ c.in_ok-arg-3.ensures c.output.ensures.local two in
     let four = stays_local _ _ _ c.in_ok-arg-4.ensures c.in_ok-in_place.ensures.local three in
     let five = stays_local _ _ _ c.in_ok-arg-5.ensures c.backup.ensures.local four in
-    let six = stays_local _ _ _ c.in_ok-arg-6.ensures c.expression.ensures.local five in
-    IfOk-weaker c.arg-7.result _ _ (λ edit added. stays_local _ edit _ added c.notes.ensures.local six) c.arg-7.ensures
+    let six = stays_local _ _ _ c.in_ok-arg-6.ensures c.in_ok-diff.ensures.local five in
+    let seven = stays_local _ _ _ c.in_ok-arg-7.ensures c.expression.ensures.local six in
+    IfOk-weaker c.arg-8.result _ _ (λ edit added. stays_local _ edit _ added c.notes.ensures.local seven) c.arg-8.ensures

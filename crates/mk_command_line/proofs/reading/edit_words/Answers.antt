@@ -3,6 +3,7 @@ use Rattle.mk_command_line.proofs.reading.edit_words.Goals as goal
 pub returns : goal.returns
 returns c = record {
   keep_going = c.is_set.ensures;
+  diff = c.is_set-2.ensures;
   depth = c.in-Some.ensures;
   notes = c.is_set-2.ensures;
   from = rw c.in-Some-2.is at c.in_ok-script.ensures;

@@ -1,0 +1,200 @@
+//! `mkedit edit --diff`: the diff of a makefile and of the text that a script makes of it, in place
+//! of that text.
+ghost use Rattle.std.specs.Prelude.{◌≡◌, ◌≢◌, ◌||◌, ◌≤◌, Some, false, true, is_err, length, IfOk, IfErr, OnOk};
+ghost use Rattle.std.specs.Io.KnownBytes.{Appends, Keeps};
+ghost use Rattle.mk_lines.specs.Device.{AppendsPrefix};
+ghost use Rattle.mk_run.specs.Outcome.{is_printed};
+ghost use Rattle.mk_run.specs.RunEnds.{written};
+ghost use Rattle.mkedit.specs.DiffRuns.{IsDiffRun};
+
+use crate::edit::run_to;
+use mk_command_line::{EditWords, Input};
+use mk_diff::diff;
+use mk_lines::sink::write_all;
+use mk_lines::source::read_all;
+use mk_lines::{ByteSink, ByteSource, Fault, StdSource};
+use mk_run::Outcome;
+use std::alloc::Allocator;
+
+// A text in memory, as a sink. Where it cannot grow, the sink fails.
+#[derive(Drop)]
+struct TextSink<A: Allocator> {
+    text: Vec<u8, A>,
+    is_failed: bool,
+}
+
+impl<A: Allocator> ByteSink for TextSink<A> {
+    ghost contents = { λ sink. Some sink.text.items };
+
+    ghost failed = { λ sink. sink.is_failed };
+
+    fn write(&mut self, text: &[u8]) -> Result<usize, Fault> {
+        match self.text.extend_from_slice(text) {
+            Ok(()) => Ok(text.len()),
+            Err(_) => {
+                self.is_failed = true;
+                Err(Fault::Write)
+            }
+        }
+    }
+
+    fn flush(&mut self) -> Result<(), Fault> {
+        Ok(())
+    }
+
+    fn failed(&self) -> bool {
+        self.is_failed
+    }
+}
+
+// The makefile where it could not be read to its end: a source that fails at once, or that never
+// ends. So a run over it ends as it would over the makefile, also where the script is at fault.
+#[derive(Drop)]
+struct Unread {
+    is_endless: bool,
+    is_failed: bool,
+}
+
+impl ByteSource for Unread {
+    ghost failed = { λ source. source.is_failed };
+
+    fn read(&mut self, buf: &mut [u8]) -> Result<usize, Fault> {
+        if self.is_endless {
+            return Ok(buf.len());
+        }
+        self.is_failed = true;
+        Err(Fault::Read)
+    }
+
+    fn failed(&self) -> bool {
+        self.is_failed
+    }
+}
+
+// Whether a run that ended so has put its text out.
+fn is_printed(outcome: &Outcome, keep_going: bool) -> bool
+    ensures { result ≡ is_printed outcome.now keep_going }
+{
+    match outcome {
+        Outcome::Done => true,
+        Outcome::Refused(_) => keep_going,
+        _ => false,
+    }
+}
+
+/// The name of the makefile in a diff: without the `/` and `./` before it, so that `patch` takes it.
+/// Standard input is `-`.
+pub(crate) fn diff_name<'a>(file: Input<'a>) -> &'a [u8] {
+    match file {
+        Input::File(name) => below_top(name.as_bytes()),
+        Input::Standard => b"-",
+    }
+}
+
+// A name without the `/` and `./` before it.
+fn below_top(name: &[u8]) -> &[u8] {
+    let mut rest = name;
+    for _ in 0..name.len() {
+        rest = match rest {
+            [b'/', below @ ..] => below,
+            [b'.', b'/', below @ ..] => below,
+            _ => return rest,
+        };
+    }
+    rest
+}
+
+// The text of a diff that goes out, and is flushed.
+fn put_out<W: ByteSink>(out: &mut W, text: &[u8]) -> Result<(), Fault>
+    requires { W.failed out.old ≡ false }
+    ensures whole { OnOk result (Appends (W.contents out.old) (W.contents out.new) text.now) }
+    ensures fault { IfErr result (λ fault. fault ≡ Fault.Write) }
+{
+    write_all(out, text)?;
+    out.flush()
+}
+
+// Runs the script over a makefile that could not be read to its end, for this fault.
+fn run_unread<A, S, P>(
+    alloc: A,
+    words: &EditWords<'_>,
+    fault: Fault,
+    script: &mut S,
+    report: &mut P,
+) -> Outcome
+where
+    A: Allocator + Copy,
+    S: ByteSource,
+    P: ByteSink,
+    requires script_works { S.failed script.old ≡ false }
+    requires report_works { P.failed report.old ≡ false }
+    ensures unprinted { is_printed result words.now.keep_going ≡ false }
+{
+    let mut makefile = Unread {
+        is_endless: fault == Fault::TooLong,
+        is_failed: false,
+    };
+    let mut sink = TextSink {
+        text: Vec::new(alloc),
+        is_failed: false,
+    };
+    let outcome = run_to(alloc, words, &mut makefile, script, &mut sink, report);
+    if fault == Fault::NoMemory || is_printed(&outcome, words.keep_going) {
+        return Outcome::NoMemory;
+    }
+    outcome
+}
+
+/// Runs the script over the makefile as the words say, and puts the diff of the makefile and the text
+/// out in place of the text. Where the text would not go out, nothing does.
+pub(crate) fn run_diff<A, R, S, W, P>(
+    alloc: A,
+    words: &EditWords<'_>,
+    name: &[u8],
+    makefile: &mut R,
+    script: &mut S,
+    out: &mut W,
+    report: &mut P,
+) -> Outcome
+where
+    A: Allocator + Copy,
+    R: ByteSource,
+    S: ByteSource,
+    P: ByteSink,
+    W: ByteSink,
+    requires script_works { S.failed script.old ≡ false }
+    requires makefile_works { R.failed makefile.old ≡ false }
+    requires report_works { P.failed report.old ≡ false }
+    requires out_works { W.failed out.old ≡ false }
+    ensures law { is_printed result words.now.keep_going ≡ true
+        → IsDiffRun (R.remaining makefile.old) (S.remaining script.old) words.now.depth
+        words.now.keep_going name.now result (P.failed report.new)
+        (written (P.contents report.old) (P.contents report.new))
+        (written (W.contents out.old) (W.contents out.new)) }
+    ensures unprinted { is_printed result words.now.keep_going ≡ false → result ≢ Outcome.Write
+        → out.new ≡ out.old }
+{
+    let old = match read_all(alloc, makefile) {
+        Ok(old) => old,
+        Err(fault) => return run_unread(alloc, words, fault, script, report),
+    };
+    let mut sink = TextSink {
+        text: Vec::new(alloc),
+        is_failed: false,
+    };
+    let mut source = StdSource::new(old.as_slice());
+    let outcome = run_to(alloc, words, &mut source, script, &mut sink, report);
+    if sink.is_failed {
+        return Outcome::NoMemory;
+    }
+    if !is_printed(&outcome, words.keep_going) {
+        return outcome;
+    }
+    let Ok(text) = diff(alloc, &old, &sink.text, name) else {
+        return Outcome::NoMemory;
+    };
+    match put_out(out, &text) {
+        Ok(()) => outcome,
+        Err(_) => Outcome::Write,
+    }
+}

@@ -1,0 +1,35 @@
+"""Diffs, led over files by the programs that take them."""
+
+import subprocess
+
+from tests.lib.checks import SECONDS
+from tests.lib.rooms import Room
+
+# How each program makes the change of a diff that lies in the folder, and how it takes it back.
+PROGRAMS = {
+    "patch": (["patch", "-s", "-p1", "-i"], ["patch", "-s", "-R", "-p1", "-i"]),
+    "git": (["git", "apply"], ["git", "apply", "-R"]),
+}
+
+
+def led(room, words, diff, name, old, new):
+    """What is wrong with a file over which these words have led a diff."""
+    room.write(name, old)
+    room.write("diff", diff)
+    got = subprocess.run([*words, "diff"], cwd=room.folder, capture_output=True, timeout=SECONDS)
+    if got.returncode:
+        return [f"{words} fails: {(got.stdout + got.stderr).decode(errors='replace')}"]
+    return room.holds(name, new)
+
+
+def wrong_ways(diff, old, new, name="Makefile", programs=tuple(PROGRAMS)):
+    """What is wrong with a diff that has to lead from one text to another, and back."""
+    if (old == new) != (not diff):
+        yield f"the diff is {diff!r}"
+    if old == new:
+        return
+    for program in programs:
+        forwards, backwards = PROGRAMS[program]
+        for words, before, after in ((forwards, old, new), (backwards, new, old)):
+            with Room(None) as room:
+                yield from led(room, words, diff, name, before, after)

@@ -1,0 +1,123 @@
+"""Tests of `mkedit edit --diff`: patch and git apply take each diff, forwards and backwards."""
+
+import itertools
+import re
+import unittest
+
+from tests.lib.checks import Outcome, differences
+from tests.lib.diffs import wrong_ways
+from tests.lib.rooms import EDITED, NO_COMMAND, READ_FAULT, REFUSED, TEXT, TOO_DEEP, TOO_LONG, WRITE_FAULT
+from tests.lib.rooms import RoomCase, cannot_open, silent
+from tests.lib.tables import case_of, rows
+from tests.program.test_makefiles import EXAMPLES, applied, hunks
+
+# How many of the random runs are tried here; `make soak` tries a diff of each of its cases.
+RUNS = 150
+DIFF = b"--- a/Makefile\n+++ b/Makefile\n@@ -1 +1 @@\n-CC = gcc # c\n+CC = clang # c\n"
+
+
+class Diffs(RoomCase):
+    def assert_diff(self, wanted, text, *words):
+        """Runs with `--diff` where the run without it has this outcome: the diff leads to its text."""
+        got = self.room.run("edit", "--diff", *words, "script", "Makefile")
+        problems = differences(got._replace(stdout=b""), wanted._replace(stdout=b""))
+        is_printed = wanted.status == 0 or (wanted.status == 1 and "-k" in words)
+        new = wanted.stdout if is_printed else text
+        self.assert_well([*problems, *wrong_ways(got.stdout, text, new)])
+        return got.stdout
+
+    def test_the_text_does_not_change_and_its_diff_goes_out(self):
+        self.assert_run(Outcome(DIFF, b"", 0), "edit", "--diff", "script", "Makefile")
+        self.assert_run(Outcome(DIFF, b"", 0), "edit", "--diff", "-e", "set CC clang", "Makefile")
+
+    def test_where_nothing_changes_nothing_goes_out(self):
+        self.assert_run(silent(0), "edit", "--diff", "empty", "Makefile")
+        self.assert_run(silent(0), "edit", "--diff", "-e", "set CC clang", "-e", "undo", "Makefile")
+
+    def test_a_refused_command_is_reported_and_there_is_no_diff(self):
+        self.assert_run(REFUSED, "edit", "--diff", "undo", "Makefile")
+        self.room.write("both", b"set CC clang\nunset X\n")
+        told = Outcome(b"", b"2: refused 4 NoSuch\n", 1)
+        self.assert_run(told, "edit", "--diff", "both", "Makefile")
+        self.assert_run(told._replace(stdout=DIFF), "edit", "--diff", "-k", "both", "Makefile")
+
+    def test_the_diff_goes_to_the_output(self):
+        self.assert_run(silent(0), "edit", "--diff", "-o", "out", "script", "Makefile")
+        self.assert_holds("out", DIFF)
+        self.room.write("kept", b"kept")
+        self.assert_run(REFUSED, "edit", "--diff", "-o", "kept", "undo", "Makefile")
+
+    def test_in_place_beside_it_is_a_bad_command_line(self):
+        got = self.room.run("edit", "--diff", "-i", "script", "Makefile")
+        self.assertEqual((got.stdout, got.status), (b"", 2))
+        self.assertIn(b"--diff", got.stderr)
+        self.assertIn(b"--in-place", got.stderr)
+
+    def test_faults_are_those_of_a_run_without_it(self):
+        for wanted, words in (
+            (cannot_open("absent"), ("script", "absent")),
+            (cannot_open("absent"), ("absent", "Makefile")),
+            (NO_COMMAND, ("bad", "Makefile")),
+            (READ_FAULT, ("script", ".")),
+            (NO_COMMAND, ("bad", ".")),
+        ):
+            self.assert_run(wanted, "edit", *words)
+            self.assert_run(wanted, "edit", "--diff", *words)
+
+    def test_limits_are_those_of_a_run_without_it(self):
+        self.room.write("long", b"\n" * 16_777_217)
+        self.room.write("deep", b"ifdef A\n" * 257)
+        for wanted, name in ((TOO_LONG, "long"), (TOO_DEEP, "deep")):
+            self.assert_run(wanted, "edit", "--diff", "script", name)
+            self.assert_run(NO_COMMAND, "edit", "--diff", "bad", name)
+
+    def test_a_full_disk_is_a_write_fault(self):
+        with open("/dev/full", "wb") as full:
+            got = self.room.run("edit", "--diff", "script", "Makefile", stdout=full)
+        self.assert_well(differences(got._replace(stdout=b""), WRITE_FAULT))
+
+    def test_standard_input_is_called_by_its_sign(self):
+        got = self.room.run("edit", "--diff", "script", given=TEXT)
+        self.assertEqual(got.stdout, DIFF.replace(b"a/Makefile", b"a/-").replace(b"b/Makefile", b"b/-"))
+
+    def test_names_are_as_patch_and_git_read_them(self):
+        for name in ("a b", "a\tb", 'a"b', "a\\b", "a'b", "ä", "a  b c"):
+            self.room.write(name, TEXT)
+            got = self.room.run("edit", "--diff", "script", name)
+            with self.subTest(name):
+                self.assertEqual((got.stderr, got.status), (b"", 0))
+                self.assert_well(wrong_ways(got.stdout, TEXT, EDITED.stdout, name))
+
+    def test_a_name_has_no_path_to_the_top(self):
+        (self.room.folder / "below").mkdir()
+        self.room.write("below/Makefile", TEXT)
+        wanted = DIFF.replace(b"Makefile", b"below/Makefile")
+        self.assert_run(Outcome(wanted, b"", 0), "edit", "--diff", "script", "./below/Makefile")
+        got = self.room.run("edit", "--diff", "script", str(self.room.folder / "below/Makefile"))
+        self.assertTrue(got.stdout.startswith(b"--- a" + bytes(self.room.folder) + b"/below/Makefile\n"))
+
+    def test_the_examples(self):
+        for folder in sorted(it for it in EXAMPLES.iterdir() if it.is_dir()):
+            with self.subTest(folder.name):
+                text = (folder / "Makefile").read_bytes()
+                by_hand = (folder / "edits.diff").read_bytes()
+                self.room.write("Makefile", text)
+                self.room.write("script", (folder / "edits.mkedit").read_bytes())
+                diff = self.assert_diff(Outcome(applied(by_hand, text), b"", 0), text)
+                for sign in (b"-", b"+"):
+                    lines = [it for _, lines in hunks(by_hand) for it in lines[sign]]
+                    found = re.findall(rb"^\%b([^\n]*\n)" % sign, b"".join(diff.splitlines(True)[2:]), re.M)
+                    self.assertEqual(len(found), len(lines))
+
+    def test_random_runs(self):
+        for place, row in itertools.islice(rows("random-runs"), RUNS):
+            case = case_of(row["name"], row)
+            with self.subTest(place):
+                text = case.files["Makefile"]
+                for name, content in case.files.items():
+                    self.room.write(name, content)
+                self.assert_diff(case.wanted, text, *case.words[1:-2])
+
+
+if __name__ == "__main__":
+    unittest.main()
