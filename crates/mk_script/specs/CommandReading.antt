@@ -3,7 +3,7 @@
 use Rattle.std.specs.Prelude.{ℕ, true, false, if◌then◌else◌, List, Option, Some, None, option_map, codes}
 use Rattle.std.specs.Str.{bytes_eq}
 use Rattle.mk_class.specs.declared.assignment.Flavor.{Flavor}
-use Rattle.mk_edit_language.specs.Edits.{Place, Bottom, BeforeVar, AfterVar, BeforeRule, Edit, SetValue, AppendValue, AddWord, AddAssign, RemoveAssign, AddRule, RemoveRule, AddPrereq, RemovePrereq, AddRecipe, SetRecipe, RemoveRecipe, InsertRecipe, SetRecipeByText, RemoveRecipeByText, RenameTarget}
+use Rattle.mk_edit_language.specs.Edits.{Place, Bottom, BeforeVar, AfterVar, BeforeRule, Edit, SetValue, AppendValue, AddWord, RemoveWord, AddAssign, RemoveAssign, AddRule, RemoveRule, AddPrereq, RemovePrereq, AddRecipe, SetRecipe, RemoveRecipe, InsertRecipe, SetRecipeByText, RemoveRecipeByText, RenameTarget}
 use Rattle.mk_edit_language.specs.declared.edit.RuleSeparator.{RuleSeparator}
 use Rattle.mk_history.specs.Machine.{Command, Apply}
 use Rattle.mk_script.specs.Lines.{Saying, Plain, Try, Or}
@@ -107,6 +107,7 @@ edit_by_word nth None rest = None
 edit_by_word nth (Some word.Set) rest = of_two (SetValue nth) rest
 edit_by_word nth (Some word.Append) rest = of_two (AppendValue nth) rest
 edit_by_word nth (Some word.Add) rest = of_two (AddWord nth) rest
+edit_by_word nth (Some word.Drop) rest = of_two (RemoveWord nth) rest
 edit_by_word nth (Some word.Unset) rest = of_one (RemoveAssign nth) rest
 edit_by_word nth (Some word.Assign) rest = add_assign_after (place_at_front nth rest)
 edit_by_word nth (Some word.Rule) rest = add_rule_after (place_at_front nth rest)

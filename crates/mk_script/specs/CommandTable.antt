@@ -2,7 +2,7 @@
 -- Told in docs/EDITS.md, "The script".
 use Rattle.std.specs.Prelude.{◌≡◌, ℕ, Bool, true, false, List, [], ◌∷◌, ◌++◌, Option, Some, None, codes}
 use Rattle.mk_class.specs.OperatorTexts.{operator_text}
-use Rattle.mk_edit_language.specs.Edits.{Place, Bottom, BeforeVar, AfterVar, BeforeRule, Edit, SetValue, AppendValue, AddWord, AddAssign, RemoveAssign, AddRule, RemoveRule, AddPrereq, RemovePrereq, AddRecipe, SetRecipe, RemoveRecipe, InsertRecipe, SetRecipeByText, RemoveRecipeByText, RenameTarget}
+use Rattle.mk_edit_language.specs.Edits.{Place, Bottom, BeforeVar, AfterVar, BeforeRule, Edit, SetValue, AppendValue, AddWord, RemoveWord, AddAssign, RemoveAssign, AddRule, RemoveRule, AddPrereq, RemovePrereq, AddRecipe, SetRecipe, RemoveRecipe, InsertRecipe, SetRecipeByText, RemoveRecipeByText, RenameTarget}
 use Rattle.mk_edit_language.specs.NewLines.{rule_separator_text}
 use Rattle.mk_history.specs.Machine.{Command, Apply, Undo, Redo, Begin, End, Cancel}
 use Rattle.mk_script.specs.Numbers.{IsNumber}
@@ -44,6 +44,8 @@ IsCommand fields (Apply (AppendValue nth name value)) =
     IsAfterNth nth fields (codes "append" ∷ name ∷ value ∷ [])
 IsCommand fields (Apply (AddWord nth name word)) =
     IsAfterNth nth fields (codes "add" ∷ name ∷ word ∷ [])
+IsCommand fields (Apply (RemoveWord nth name word)) =
+    IsAfterNth nth fields (codes "drop" ∷ name ∷ word ∷ [])
 IsCommand fields (Apply (AddAssign place name flavor value)) =
     IsAfterNth (nth_of_place place) fields
     (codes "assign" ∷ (place_words place ++ name ∷ operator_text flavor ∷ value ∷ []))

@@ -1,7 +1,7 @@
 -- Laws of lines and of scripts. Each law is the contract of a public function.
 -- Told in docs/PROOFS.md, "Scripts (mk_script)".
 use Rattle.std.specs.Prelude.{◌≡◌, ◌⊎◌, ℕ, ◌≤◌, List, [], ◌∷◌, ◌++◌, map, Option, Some, None}
-use Rattle.mk_edit_language.specs.Edits.{Edit, SetValue, AppendValue, AddWord, AddAssign, RemoveAssign, AddRule, RemoveRule, AddPrereq, RemovePrereq, AddRecipe, SetRecipe, RemoveRecipe, InsertRecipe, SetRecipeByText, RemoveRecipeByText, RenameTarget}
+use Rattle.mk_edit_language.specs.Edits.{Edit, SetValue, AppendValue, AddWord, RemoveWord, AddAssign, RemoveAssign, AddRule, RemoveRule, AddPrereq, RemovePrereq, AddRecipe, SetRecipe, RemoveRecipe, InsertRecipe, SetRecipeByText, RemoveRecipeByText, RenameTarget}
 use Rattle.mk_history.specs.Machine.{Command, Apply}
 use Rattle.mk_script.specs.Fields.{quoted, HasFields}
 use Rattle.mk_script.specs.CommandTable.{nth_of_place}
@@ -43,6 +43,7 @@ abbrev pub HasNumbersOfScripts : Edit → Type 0
 HasNumbersOfScripts (SetValue nth name value) = CanBeWritten nth
 HasNumbersOfScripts (AppendValue nth name value) = CanBeWritten nth
 HasNumbersOfScripts (AddWord nth name word) = CanBeWritten nth
+HasNumbersOfScripts (RemoveWord nth name word) = CanBeWritten nth
 HasNumbersOfScripts (AddAssign place name flavor value) = CanBeWritten (nth_of_place place)
 HasNumbersOfScripts (RemoveAssign nth name) = CanBeWritten nth
 HasNumbersOfScripts (AddRule place targets separator prereqs) = CanBeWritten (nth_of_place place)

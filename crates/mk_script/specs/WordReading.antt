@@ -30,7 +30,7 @@ calls =
 abbrev pub edit_words : List (EditWord × List ℕ)
 edit_words =
     (word.Set, codes "set") ∷ (word.Append, codes "append") ∷ (word.Add, codes "add")
-    ∷ (word.Unset, codes "unset")
+    ∷ (word.Drop, codes "drop") ∷ (word.Unset, codes "unset")
     ∷ (word.Assign, codes "assign") ∷ (word.Rule, codes "rule") ∷ (word.Unrule, codes "unrule")
     ∷ (word.Depend, codes "depend") ∷ (word.DependOrder, codes "depend-order")
     ∷ (word.Undepend, codes "undepend") ∷ (word.Recipe, codes "recipe")

@@ -96,6 +96,7 @@ pub(crate) fn read_edit<A: Allocator + Copy>(
         EditWord::Set => read_set(alloc, nth, rest),
         EditWord::Append => read_append(alloc, nth, rest),
         EditWord::Add => read_add(alloc, nth, rest),
+        EditWord::Drop => read_drop(alloc, nth, rest),
         EditWord::Unset => read_unset(alloc, nth, rest),
         EditWord::Assign => read_assign(alloc, nth, rest),
         EditWord::Rule => read_rule(alloc, nth, rest),
@@ -153,6 +154,20 @@ fn read_add<A: Allocator + Copy>(
     let name = name.to_vec(alloc)?;
     let word = word.to_vec(alloc)?;
     Ok(Edit::AddWord { nth, name, word })
+}
+
+// `drop NAME WORD`.
+fn read_drop<A: Allocator + Copy>(
+    alloc: A,
+    nth: Option<u32>,
+    rest: &[u8],
+) -> Result<Edit<A>, LineFault>
+    ensures { IsRead edit_of (of_two (edits.RemoveWord nth) rest.now) result }
+{
+    let (name, word) = two_fields(rest)?;
+    let name = name.to_vec(alloc)?;
+    let word = word.to_vec(alloc)?;
+    Ok(Edit::RemoveWord { nth, name, word })
 }
 
 // `unset NAME`.

@@ -20,6 +20,8 @@ pub(crate) enum EditWord {
     Append,
     /// `add`.
     Add,
+    /// `drop`.
+    Drop,
     /// `unset`.
     Unset,
     /// `assign`.
@@ -73,6 +75,8 @@ pub(crate) fn edit_word(word: Field<'_>) -> Option<EditWord>
         Some(EditWord::Append)
     } else if word.is(b"add") {
         Some(EditWord::Add)
+    } else if word.is(b"drop") {
+        Some(EditWord::Drop)
     } else if word.is(b"unset") {
         Some(EditWord::Unset)
     } else if word.is(b"assign") {

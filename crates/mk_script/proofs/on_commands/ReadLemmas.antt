@@ -5,7 +5,7 @@ use Rattle.std.specs.Str.{bytes_eq}
 use Rattle.mk_class.specs.declared.assignment.Flavor.{Flavor}
 use Rattle.mk_class.specs.OperatorTexts.{operator_text}
 use Rattle.mk_edit_language.specs.declared.edit.RuleSeparator.{RuleSeparator}
-use Rattle.mk_edit_language.specs.Edits.{Place, Bottom, BeforeVar, AfterVar, BeforeRule, Edit, SetValue, AppendValue, AddWord, AddAssign, RemoveAssign, AddRule, RemoveRule, AddPrereq, RemovePrereq, AddRecipe, SetRecipe, RemoveRecipe, InsertRecipe, SetRecipeByText, RemoveRecipeByText, RenameTarget}
+use Rattle.mk_edit_language.specs.Edits.{Place, Bottom, BeforeVar, AfterVar, BeforeRule, Edit, SetValue, AppendValue, AddWord, RemoveWord, AddAssign, RemoveAssign, AddRule, RemoveRule, AddPrereq, RemovePrereq, AddRecipe, SetRecipe, RemoveRecipe, InsertRecipe, SetRecipeByText, RemoveRecipeByText, RenameTarget}
 use Rattle.mk_edit_language.specs.NewLines.{rule_separator_text}
 use Rattle.mk_history.specs.Machine.{Command, Apply, Undo, Redo, Begin, End, Cancel}
 use Rattle.mk_script.specs.Fields.{HasFields}
@@ -115,6 +115,8 @@ edit-read line fields (AppendValue nth name value) h is =
     addressed-read nth line (codes "append") (name ∷ value ∷ []) fields _ (edit_word (codes "append") refl refl) h is (of_two-read (AppendValue nth) name value)
 edit-read line fields (AddWord nth name word) h is =
     addressed-read nth line (codes "add") (name ∷ word ∷ []) fields _ (edit_word (codes "add") refl refl) h is (of_two-read (AddWord nth) name word)
+edit-read line fields (RemoveWord nth name word) h is =
+    addressed-read nth line (codes "drop") (name ∷ word ∷ []) fields _ (edit_word (codes "drop") refl refl) h is (of_two-read (RemoveWord nth) name word)
 edit-read line fields (AddAssign place name flavor value) h is =
     addressed-read (nth_of_place place) line (codes "assign") (place_words place ++ name ∷ operator_text flavor ∷ value ∷ []) fields _
     (edit_word (codes "assign") refl refl) h is (λ rest. add_assign-read place name value rest flavor)

@@ -40,6 +40,7 @@ abbrev pub word_text : EditWord → List ℕ
 word_text word.Set = codes "set"
 word_text word.Append = codes "append"
 word_text word.Add = codes "add"
+word_text word.Drop = codes "drop"
 word_text word.Unset = codes "unset"
 word_text word.Assign = codes "assign"
 word_text word.Rule = codes "rule"
@@ -63,7 +64,7 @@ place_text place.BeforeRule = codes "before-rule"
 
 pub named-word : (text : List ℕ) (k : EditWord) → named edit_words text ≡ Some k → text ≡ word_text k
 named-word text k h =
-    named-entry (λ w t. t ≡ word_text w) edit_words (refl, (refl, (refl, (refl, (refl, (refl, (refl, (refl, (refl, (refl, (refl, (refl, (refl, (refl, (refl, (refl, (refl, tt))))))))))))))))) text k h
+    named-entry (λ w t. t ≡ word_text w) edit_words (refl, (refl, (refl, (refl, (refl, (refl, (refl, (refl, (refl, (refl, (refl, (refl, (refl, (refl, (refl, (refl, (refl, (refl, tt)))))))))))))))))) text k h
 
 pub named-place : (text : List ℕ) (k : PlaceWord) → named places text ≡ Some k → text ≡ place_text k
 named-place text k h = named-entry (λ w t. t ≡ place_text w) places (refl, (refl, (refl, (refl, tt)))) text k h

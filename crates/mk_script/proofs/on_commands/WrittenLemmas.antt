@@ -6,7 +6,7 @@ use Rattle.std.proofs.lemmas.Slice.Eq.{bytes_eq-Decides}
 use Rattle.mk_class.specs.declared.assignment.Flavor.{Flavor}
 use Rattle.mk_class.specs.OperatorTexts.{operator_text}
 use Rattle.mk_edit_language.specs.declared.edit.RuleSeparator.{RuleSeparator}
-use Rattle.mk_edit_language.specs.Edits.{Place, Bottom, BeforeVar, AfterVar, BeforeRule, Edit, SetValue, AppendValue, AddWord, AddAssign, RemoveAssign, AddRule, RemoveRule, AddPrereq, RemovePrereq, AddRecipe, SetRecipe, RemoveRecipe, InsertRecipe, SetRecipeByText, RemoveRecipeByText, RenameTarget}
+use Rattle.mk_edit_language.specs.Edits.{Place, Bottom, BeforeVar, AfterVar, BeforeRule, Edit, SetValue, AppendValue, AddWord, RemoveWord, AddAssign, RemoveAssign, AddRule, RemoveRule, AddPrereq, RemovePrereq, AddRecipe, SetRecipe, RemoveRecipe, InsertRecipe, SetRecipeByText, RemoveRecipeByText, RenameTarget}
 use Rattle.mk_edit_language.specs.NewLines.{rule_separator_text}
 use Rattle.mk_history.specs.Machine.{Command, Apply}
 use Rattle.mk_script.specs.Numbers.{IsNumber}
@@ -240,6 +240,7 @@ by_word-written : (nth : Option ℕ) (k : EditWord) (rest : List ℕ) (e : Edit)
 by_word-written nth word.Set rest e h = two-written nth (codes "set") rest e (SetValue nth) h (λ a b fields k. k)
 by_word-written nth word.Append rest e h = two-written nth (codes "append") rest e (AppendValue nth) h (λ a b fields k. k)
 by_word-written nth word.Add rest e h = two-written nth (codes "add") rest e (AddWord nth) h (λ a b fields k. k)
+by_word-written nth word.Drop rest e h = two-written nth (codes "drop") rest e (RemoveWord nth) h (λ a b fields k. k)
 by_word-written nth word.Unset rest e h = one-written nth (codes "unset") rest e (RemoveAssign nth) h (λ a fields k. k)
 by_word-written nth word.Assign rest e h = add_assign-written nth rest e h
 by_word-written nth word.Rule rest e h = add_rule-written nth rest e h

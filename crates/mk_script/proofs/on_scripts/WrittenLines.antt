@@ -7,7 +7,7 @@ use Rattle.std.proofs.lemmas.Fmt.{decimal_is_IsNumeral, length-decimal-le}
 use Rattle.mk_lines.specs.Lists.{Each}
 use Rattle.mk_lines.specs.Bytes.{is_blank_byte}
 use Rattle.mk_class.specs.OperatorTexts.{operator_text}
-use Rattle.mk_edit_language.specs.Edits.{Edit, SetValue, AppendValue, AddWord, AddAssign, RemoveAssign, AddRule, RemoveRule, AddPrereq, RemovePrereq, AddRecipe, SetRecipe, RemoveRecipe, InsertRecipe, SetRecipeByText, RemoveRecipeByText, RenameTarget}
+use Rattle.mk_edit_language.specs.Edits.{Edit, SetValue, AppendValue, AddWord, RemoveWord, AddAssign, RemoveAssign, AddRule, RemoveRule, AddPrereq, RemovePrereq, AddRecipe, SetRecipe, RemoveRecipe, InsertRecipe, SetRecipeByText, RemoveRecipeByText, RenameTarget}
 use Rattle.mk_edit_language.specs.NewLines.{rule_separator_text}
 use Rattle.mk_history.specs.Machine.{Command, Apply, Undo, Redo, Begin, End, Cancel}
 use Rattle.mk_script.specs.Fields.{quoted, HasFields}
@@ -84,6 +84,7 @@ edit-line : (e : Edit) → HasNumbersOfScripts e → (line : List ℕ) × HasCom
 edit-line (SetValue nth name value) h = fields-command nth (codes "set" ∷ name ∷ value ∷ []) (Apply (SetValue nth name value)) h (λ fields k. k)
 edit-line (AppendValue nth name value) h = fields-command nth (codes "append" ∷ name ∷ value ∷ []) (Apply (AppendValue nth name value)) h (λ fields k. k)
 edit-line (AddWord nth name word) h = fields-command nth (codes "add" ∷ name ∷ word ∷ []) (Apply (AddWord nth name word)) h (λ fields k. k)
+edit-line (RemoveWord nth name word) h = fields-command nth (codes "drop" ∷ name ∷ word ∷ []) (Apply (RemoveWord nth name word)) h (λ fields k. k)
 edit-line (AddAssign place name flavor value) h =
     fields-command (nth_of_place place) (codes "assign" ∷ (place_words place ++ name ∷ operator_text flavor ∷ value ∷ [])) (Apply (AddAssign place name flavor value)) h (λ fields k. k)
 edit-line (RemoveAssign nth name) h = fields-command nth (codes "unset" ∷ name ∷ []) (Apply (RemoveAssign nth name)) h (λ fields k. k)
