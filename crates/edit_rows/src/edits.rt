@@ -59,7 +59,7 @@ fn read_number(field: &str) -> Result<u32> {
 /// The edit of a command's word, number and other fields.
 fn read_edit(alloc: Global, word: &str, nth: Option<u32>, fields: &[&str]) -> Result<Edit> {
     match word {
-        "set" | "append" | "add" | "unset" => read_variable_edit(alloc, word, nth, fields),
+        "set" | "append" | "add" | "drop" | "unset" => read_variable_edit(alloc, word, nth, fields),
         "assign" | "rule" => read_addition(alloc, word, nth, fields),
         "unrule" | "depend" | "depend-order" | "undepend" => read_rule_edit(
             alloc, word, nth, fields,
@@ -87,6 +87,10 @@ fn read_variable_edit(
         ("add", [name, word]) => {
             let (name, word) = unescape_both(alloc, name, word)?;
             Ok(Edit::AddWord { nth, name, word })
+        }
+        ("drop", [name, word]) => {
+            let (name, word) = unescape_both(alloc, name, word)?;
+            Ok(Edit::RemoveWord { nth, name, word })
         }
         ("unset", [name]) => Ok(Edit::RemoveAssign {
             nth,
