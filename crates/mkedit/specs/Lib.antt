@@ -1,6 +1,8 @@
 -- # Vocabulary of private contracts
 -- What the program prints.
 pub mod QueryTexts
+pub mod Destinations
 pub mod Explanations
 pub mod Notes
+pub mod NamedLines
 pub mod Settled
