@@ -20,9 +20,9 @@ _mkedit_commands() {
 _mkedit_edit() {
     local -a files
     if (( $words[(I)(-e*|--expression*)] )); then
-        files=('1:makefile:_files')
+        files=('*:makefile:_files')
     else
-        files=('1:script:_files' '2:makefile:_files')
+        files=('1:script:_files' '*:makefile:_files')
     fi
     _arguments -s \
         '(-k --keep-going)'{-k,--keep-going}'[go on after a refused command]' \
@@ -41,7 +41,7 @@ _mkedit_query() {
     _arguments -s \
         '--notes[say below a message why a file could not be opened, read or written]' \
         '(-h --help)'{-h,--help}'[print help]' \
-        '1:makefile:_files'
+        '*:makefile:_files'
 }
 
 _mkedit_explain() {

@@ -69,7 +69,6 @@ class CommandLine(RoomCase):
             ["edit", "-e", "undo", "script", "Makefile"],
             ["edit", "script", "-e", "undo", "Makefile"],
             ["edit", "--keep-going=yes", "script", "Makefile"],
-            ["vars", "Makefile", "more"],
             ["vars", "-k", "Makefile"],
             ["rules", "-o", "out", "Makefile"],
             ["check", "--depth", "5", "Makefile"],

@@ -1,4 +1,5 @@
 -- Lemmas on commands, and on what clap finds
 mod CommandLemmas
 mod FoundLemmas
+mod InputLemmas
 mod WordLemmas

@@ -32,9 +32,9 @@ command_named word = find (λ command. bytes_eq word (word_of command)) commands
 
 -- ---- the arguments; a number is the code of a letter
 
--- FILE
+-- FILE, any number of times
 abbrev pub file_rule : Rule
-file_rule = new_rule (codes "FILE")
+file_rule = record (new_rule (codes "FILE")) { action = Some Append }
 
 -- SCRIPT, which is required where there is no -e
 abbrev pub script_rule : Rule

@@ -1,6 +1,6 @@
 -- What the words of the command line ask for, by what clap finds in them.
 -- Told in docs/mkedit.1.
-use Rattle.std.specs.Prelude.{◌≡◌, ℕ, Bool, true, false, List, Option, Some, None, Result, Ok, codes, if◌then◌else◌, not, ◌&&◌, ◌==◌, option_and_then, option_map, string_bytes, ⊤}
+use Rattle.std.specs.Prelude.{◌≡◌, ℕ, Bool, true, false, List, Option, Some, None, Result, Ok, codes, if◌then◌else◌, not, ◌&&◌, ◌==◌, is_some, map, [], ◌∷◌, option_map, string_bytes, ⊤}
 use Rattle.std.specs.List.{join_by, list_all}
 use Rattle.std.specs.Str.{bytes_eq}
 use Rattle.std.specs.Str.Parse.{digits_value}
@@ -33,13 +33,32 @@ file_of (input.File name) = Some name.now
 abbrev pub file_named : Text → Option Text
 file_named word = if bytes_eq word (codes "-") then None else Some word
 
--- the input is the makefile that a word names; standard input if there is no word
-abbrev pub IsMakefile : Option Text → Input → Type 0
-IsMakefile word input = file_of input ≡ option_and_then file_named word
+-- the values of an argument that may be left out
+abbrev words_of : Option (List Text) → List Text
+words_of None = []
+words_of (Some words) = words
 
--- script and makefile are not both standard input
-abbrev pub AreApart : Script → Input → Type 0
-AreApart (script.From input.Standard) input.Standard = ⊥
+-- the value of an argument that may be left out, and the values of another behind it
+abbrev pub words_from : Option Text → Option (List Text) → List Text
+words_from None more = words_of more
+words_from (Some first) more = first ∷ words_of more
+
+-- the files that some words name; standard input if there is no word
+abbrev files_named : List Text → List (Option Text)
+files_named [] = None ∷ []
+files_named (word ∷ words) = map file_named (word ∷ words)
+
+-- the inputs are the makefiles that some words name, in their order
+abbrev pub AreMakefiles : List Text → List Input → Type 0
+AreMakefiles words inputs = map file_of inputs ≡ files_named words
+
+-- whether an input is the file of a name
+abbrev pub is_named : Input → Bool
+is_named input = is_some (file_of input)
+
+-- script and makefiles are not both standard input
+abbrev pub AreApart : Script → List Input → Type 0
+AreApart (script.From input.Standard) files = list_all is_named files ≡ true
 AreApart _ _ = ⊤
 
 -- ---- the words of `edit`; clap has a row for each argument, with its values
@@ -56,14 +75,15 @@ IsDepth (Some word) depth =
     (list_all is_ascii_digit word ≡ true) × (depth ≡ digits_value 10 word)
 IsDepth None depth = ⊥
 
--- the lines of -e, and the one or two words that are no option: the script and the makefile.
--- After -e the one word is the makefile.
-abbrev pub ReadsFrom : Option (List Text) → Option Text → Option Text
-    → Script → Input → Type 0
-ReadsFrom (Some lines) first None (script.Lines text) file =
-    (string_bytes text ≡ join_by (λ line. line) (codes "\n") lines) × IsMakefile first file
-ReadsFrom None (Some first) second (script.From from) file =
-    (file_of from ≡ file_named first) × IsMakefile second file
+-- the lines of -e, and the words that are no option: the script and the makefiles. After -e each of
+-- them is a makefile.
+abbrev pub ReadsFrom : Option (List Text) → Option Text → Option (List Text)
+    → Script → List Input → Type 0
+ReadsFrom (Some lines) first more (script.Lines text) files =
+    (string_bytes text ≡ join_by (λ line. line) (codes "\n") lines)
+    × AreMakefiles (words_from first more) files
+ReadsFrom None (Some first) more (script.From from) files =
+    (file_of from ≡ file_named first) × AreMakefiles (words_of more) files
 ReadsFrom _ _ _ _ _ = ⊥
 
 -- whether a text may be put at the end of a file's name: it is not empty, and has no `/`
@@ -75,13 +95,20 @@ abbrev pub IsBackup : Option Text → Type 0
 IsBackup None = ⊤
 IsBackup (Some suffix) = is_suffix suffix ≡ true
 
--- the values of -o and --backup, and the makefile; with -i the text goes to the makefile. Without it
--- there is no --backup.
-abbrev pub GoesTo : Bool → (out backup : Option Text) → Input → Output → Type 0
-GoesTo false None None file output.Standard = ⊤
-GoesTo false (Some out) None file (output.File name) = name.now ≡ out
-GoesTo true out backup (input.File file) (output.InPlace place) =
-    (place.name ≡ file) × (option_map (λ suffix. suffix.now) place.backup ≡ backup)
+-- at most one
+abbrev pub is_alone : List Input → Bool
+is_alone [] = true
+is_alone (_ ∷ []) = true
+is_alone (_ ∷ _ ∷ _) = false
+
+-- The values of -o and --backup, and the makefiles. With -i the text of each makefile goes to it, and
+-- each is a file. Without it there is one makefile, and no --backup.
+abbrev pub GoesTo : Bool → (out backup : Option Text) → List Input → Output → Type 0
+GoesTo false None None files output.Standard = is_alone files ≡ true
+GoesTo false (Some out) None files (output.File name) =
+    (name.now ≡ out) × (is_alone files ≡ true)
+GoesTo true out backup files (output.InPlace kept) =
+    (list_all is_named files ≡ true) × (option_map (λ suffix. suffix.now) kept.0 ≡ backup)
     × IsBackup backup
 GoesTo _ _ _ _ _ = ⊥
 
@@ -90,19 +117,19 @@ pub record AsksEdit (rows : List Row) (words : EditWords) : Type 0 where
   pub depth : IsDepth (first_of (codes "depth") rows) words.depth
   pub notes : IsFlag (codes "notes") rows words.notes
   pub from : ReadsFrom (all_of (codes "expression") rows) (first_of (codes "SCRIPT") rows)
-      (first_of (codes "FILE") rows) words.script words.file
-  pub apart : AreApart words.script words.file
+      (all_of (codes "FILE") rows) words.script words.files.items
+  pub apart : AreApart words.script words.files.items
   pub diff : IsFlag (codes "diff") rows words.is_diff
   pub to : (in_place : Bool) × IsFlag (codes "in-place") rows in_place
       × GoesTo in_place (first_of (codes "output") rows) (first_of (codes "backup") rows)
-      words.file words.output
+      words.files.items words.output
 
 -- ---- the words of a query
 
 pub record AsksQuery (query : query.Query) (rows : List Row) (words : QueryWords) : Type 0 where
   pub query_is : words.query ≡ query
   pub notes : IsFlag (codes "notes") rows words.notes
-  pub file : IsMakefile (first_of (codes "FILE") rows) words.file
+  pub files : AreMakefiles (words_of (all_of (codes "FILE") rows)) words.files.items
 
 -- ---- all words
 

@@ -35,12 +35,14 @@ pub(crate) const NOTES: &str = "notes";
 
 pub(crate) const REFUSAL: &str = "REFUSAL";
 
-/// The makefile.
+/// The makefiles.
 pub(crate) fn file<'a>(alloc: Global) -> Arg<'a>
     ensures rule { rule_of result ≡ file_rule }
     ensures local { result.global ≡ false }
 {
-    Arg::new(alloc, FILE).help("The makefile; standard input where it is - or left out")
+    Arg::new(alloc, FILE).action(ArgAction::Append).help(
+        "The makefiles; standard input where one is -, or where there is none",
+    )
 }
 
 /// The script.

@@ -1,5 +1,5 @@
 //! From the words of the command line to what they ask for.
-ghost use Rattle.std.specs.Prelude.{◌≡◌, ◌==◌, not, Bool, IfErr, IfOk, IfSome, List, codes, false, map, option_map, string_bytes, true, ℕ};
+ghost use Rattle.std.specs.Prelude.{◌≡◌, ◌==◌, ◌++◌, not, None, Bool, IfErr, IfOk, IfSome, List, codes, false, map, option_map, string_bytes, true, ℕ};
 ghost use Rattle.std.specs.Char.{is_ascii_digit};
 ghost use Rattle.std.specs.List.{list_all};
 ghost use Rattle.clap.specs.Words.{all_of, app_of, first_of, found_of, kind_of, rows_of};
@@ -7,15 +7,15 @@ ghost use Rattle.clap.specs.Words.{subcommand_of, subcommand_rows_of, takes};
 ghost use Rattle.clap.specs.declared.error.kind.ErrorKind.TheVariants.{OutOfMemory};
 ghost use Rattle.mk_command_line.specs.Commands.{program_for};
 ghost use Rattle.mk_command_line.specs.Requests.{AreApart, Asks, AsksEdit, AsksQuery, GoesTo, IsDepth, IsFlag};
-ghost use Rattle.mk_command_line.specs.Requests.{IsMakefile, ReadsFrom, file_named, file_of};
-ghost use Rattle.mk_command_line.specs.Requests.{IsBackup, is_query, is_suffix};
+ghost use Rattle.mk_command_line.specs.Requests.{AreMakefiles, ReadsFrom, file_named, file_of, words_from};
+ghost use Rattle.mk_command_line.specs.Requests.{IsBackup, is_alone, is_named, is_query, is_suffix};
 
 use crate::arguments::{
     BACKUP, DEPTH, DIFF, EXPRESSION, FILE, IN_PLACE, KEEP_GOING, NOTES, OUTPUT, REFUSAL, SCRIPT,
 };
 use crate::command_name::{CommandName, command_named};
 use crate::commands::program_for;
-use crate::request::{EditWords, InPlace, Input, Output, Query, QueryWords, Request, Script};
+use crate::request::{Backup, EditWords, Input, Output, Query, QueryWords, Request, Script};
 use clap::error::ErrorKind;
 use clap::{ArgMatches, Command};
 use std::alloc::{AllocError, Global};
@@ -28,11 +28,12 @@ const BAD_DEPTH: &str = "invalid value for '--depth <DEPTH>': only decimal digit
 
 const NO_COMMAND: &str = "a command is required";
 
-const TWO_FILES: &str =
-    "with '--expression <COMMAND>' there is no SCRIPT, so at most one word may stand there, FILE";
+const SEVERAL_FILES: &str = "several FILEs may stand beside '--in-place' alone";
 
 const NO_FILE: &str =
     "with '--in-place' FILE has to be the name of a file, and neither '-' nor left out";
+
+const NO_SCRIPT: &str = "a SCRIPT is required, or '--expression <COMMAND>'";
 
 const BOTH_STANDARD: &str =
     "SCRIPT and FILE cannot both be standard input, which FILE is where it is '-' or left out";
@@ -100,46 +101,88 @@ fn input<'a>(word: &'a str) -> Input<'a>
     }
 }
 
-// The makefile that a word names, if there is one.
-fn makefile<'a>(word: Option<&'a str>) -> Input<'a>
-    ensures { IsMakefile (option_map (λ word. word.now) word.entry) result }
+// Puts the inputs that some words name behind others.
+fn push_inputs<'a>(files: &mut Vec<Input<'a>>, words: &[&'a str]) -> Result<(), AllocError>
+    ensures { IfOk result (λ _. map file_of files.new.items
+        ≡ map file_of files.old.items ++ map file_named (map (λ word. word.now) words.now)) }
 {
-    match word {
-        Some(word) => input(word),
-        None => Input::Standard,
+    for word in words {
+        files.push(input(word))?;
+    }
+    Ok(())
+}
+
+// The makefiles that some words name: the first, if there is one, and the others.
+fn makefiles<'a>(
+    alloc: Global,
+    first: Option<&'a str>,
+    more: Option<&[&'a str]>,
+) -> Result<Vec<Input<'a>>, AllocError>
+    ensures { IfOk result (λ files. AreMakefiles
+        (words_from (option_map (λ word. word.now) first.entry)
+        (option_map (λ words. map (λ word. word.now) words.now) more.entry)) files.items) }
+{
+    let mut files = Vec::new(alloc);
+    if let Some(word) = first {
+        files.push(input(word))?;
+    }
+    push_inputs(&mut files, more.unwrap_or(&[]))?;
+    if files.is_empty() {
+        files.push(Input::Standard)?;
+    }
+    Ok(files)
+}
+
+// Whether an input is the file of a name.
+fn is_named(file: &Input<'_>) -> bool
+    ensures { result ≡ is_named file.now }
+{
+    match file {
+        Input::File(_) => true,
+        Input::Standard => false,
     }
 }
 
-// Whether script and makefile are both standard input.
-fn are_both_standard(script: &Script<'_>, file: Input<'_>) -> bool
-    ensures { result ≡ false → AreApart script.now file.entry }
+// Whether each input is the file of a name.
+fn are_named(files: &[Input<'_>]) -> bool
+    ensures { result ≡ list_all is_named files.now }
 {
-    matches!(
-        (script, file),
-        (Script::From(Input::Standard), Input::Standard)
-    )
+    files.iter().all(is_named)
 }
 
-// The script and the makefile; None where two files stand beside -e. After -e there is no word for
-// a script, so that the first word is the makefile.
-fn script_and_file<'a>(
+// Whether the script is standard input, and a makefile is too.
+fn are_both_standard(script: &Script<'_>, files: &[Input<'_>]) -> bool
+    ensures { result ≡ false → AreApart script.now files.now }
+{
+    match script {
+        Script::From(Input::Standard) => !are_named(files),
+        Script::From(Input::File(_)) | Script::Lines(_) => false,
+    }
+}
+
+// The script and the makefiles; None where there is no script. After -e there is no word for a script,
+// so that each word is a makefile.
+fn script_and_files<'a>(
     alloc: Global,
     matches: &ArgMatches<'a>,
-) -> Result<Option<(Script<'a>, Input<'a>)>, AllocError>
+) -> Result<Option<(Script<'a>, Vec<Input<'a>>)>, AllocError>
     ensures { IfOk result (λ found. IfSome found (λ both. ReadsFrom
         (all_of (codes "expression") (rows_of (found_of matches.now)))
         (first_of (codes "SCRIPT") (rows_of (found_of matches.now)))
-        (first_of (codes "FILE") (rows_of (found_of matches.now))) both.0 both.1)) }
+        (all_of (codes "FILE") (rows_of (found_of matches.now))) both.0 both.1.items)) }
 {
     let first = value(matches, SCRIPT);
-    let second = value(matches, FILE);
-    match (values(matches, EXPRESSION), first, second) {
-        (Some(commands), file, None) => {
+    let more = values(matches, FILE);
+    match (values(matches, EXPRESSION), first) {
+        (Some(commands), first) => {
             let lines = commands.join(alloc, "\n")?;
-            Ok(Some((Script::Lines(lines), makefile(file))))
+            Ok(Some((Script::Lines(lines), makefiles(alloc, first, more)?)))
         }
-        (None, Some(script), file) => Ok(Some((Script::From(input(script)), makefile(file)))),
-        _ => Ok(None),
+        (None, Some(script)) => {
+            let files = makefiles(alloc, None, more)?;
+            Ok(Some((Script::From(input(script)), files)))
+        }
+        (None, None) => Ok(None),
     }
 }
 
@@ -155,6 +198,13 @@ fn is_suffix(word: &str) -> bool
     ensures { result ≡ is_suffix word.now }
 {
     !word.is_empty() && has_no_slash(word)
+}
+
+// Whether there is one makefile at most.
+fn is_alone(files: &[Input<'_>]) -> bool
+    ensures { result ≡ is_alone files.now }
+{
+    matches!(files, [] | [_])
 }
 
 // The suffix of the name under which the old makefile is kept, if it is; or what is wrong with it.
@@ -174,21 +224,33 @@ fn backup_of<'a>(matches: &ArgMatches<'a>) -> Result<Option<&'a str>, &'static s
 }
 
 // Where the text goes; or why it cannot go there.
-fn output_of<'a>(matches: &ArgMatches<'a>, file: Input<'a>) -> Result<Output<'a>, &'static str>
+fn output_of<'a>(matches: &ArgMatches<'a>, files: &[Input<'a>]) -> Result<Output<'a>, &'static str>
     ensures { IfOk result (λ output. (in_place : Bool)
         × IsFlag (codes "in-place") (rows_of (found_of matches.now)) in_place
         × GoesTo in_place (first_of (codes "output") (rows_of (found_of matches.now)))
-        (first_of (codes "backup") (rows_of (found_of matches.now))) file.entry output) }
+        (first_of (codes "backup") (rows_of (found_of matches.now))) files.now output) }
 {
     let backup = backup_of(matches)?;
-    match (is_set(matches, IN_PLACE), backup, file) {
-        (true, backup, Input::File(name)) => Ok(Output::InPlace(InPlace { name, backup })),
-        (true, _, Input::Standard) => Err(NO_FILE),
-        (false, Some(_), _) => Err(BACKUP_ALONE),
-        (false, None, _) => match value(matches, OUTPUT) {
-            Some(name) => Ok(Output::File(name)),
-            None => Ok(Output::Standard),
-        },
+    let is_named = are_named(files);
+    match (is_set(matches, IN_PLACE), backup) {
+        (true, backup) if is_named => Ok(Output::InPlace(Backup(backup))),
+        (true, _) => Err(NO_FILE),
+        (false, Some(_)) => Err(BACKUP_ALONE),
+        (false, None) => one_output(matches, files),
+    }
+}
+
+// Where the text of one makefile goes.
+fn one_output<'a>(matches: &ArgMatches<'a>, files: &[Input<'a>]) -> Result<Output<'a>, &'static str>
+    ensures { IfOk result (λ output. GoesTo false
+        (first_of (codes "output") (rows_of (found_of matches.now))) None files.now output) }
+{
+    if !is_alone(files) {
+        return Err(SEVERAL_FILES);
+    }
+    match value(matches, OUTPUT) {
+        Some(name) => Ok(Output::File(name)),
+        None => Ok(Output::Standard),
     }
 }
 
@@ -203,13 +265,13 @@ fn edit_words<'a>(
     let Some(depth) = depth_of(matches) else {
         return Err(command.error(ErrorKind::ValueValidation, BAD_DEPTH)?);
     };
-    let Some((script, file)) = script_and_file(alloc, matches)? else {
-        return Err(command.error(ErrorKind::TooManyValues, TWO_FILES)?);
+    let Some((script, files)) = script_and_files(alloc, matches)? else {
+        return Err(command.error(ErrorKind::MissingRequiredArgument, NO_SCRIPT)?);
     };
-    if are_both_standard(&script, file) {
+    if are_both_standard(&script, files.as_slice()) {
         return Err(command.error(ErrorKind::ArgumentConflict, BOTH_STANDARD)?);
     }
-    let output = match output_of(matches, file) {
+    let output = match output_of(matches, files.as_slice()) {
         Ok(output) => output,
         Err(fault) => return Err(command.error(ErrorKind::ArgumentConflict, fault)?),
     };
@@ -220,20 +282,25 @@ fn edit_words<'a>(
         output,
         is_diff: is_set(matches, DIFF),
         script,
-        file,
+        files,
     })
 }
 
 // What the words of a query ask for.
-fn query_words<'a>(query: Query, matches: &ArgMatches<'a>) -> QueryWords<'a>
-    ensures { AsksQuery query (rows_of (found_of matches.now)) result }
+fn query_words<'a>(
+    alloc: Global,
+    query: Query,
+    matches: &ArgMatches<'a>,
+) -> Result<QueryWords<'a>, AllocError>
+    ensures { IfOk result (AsksQuery query (rows_of (found_of matches.now))) }
 {
     let notes = is_set(matches, NOTES);
-    QueryWords {
+    let files = makefiles(alloc, None, values(matches, FILE))?;
+    Ok(QueryWords {
         query,
         notes,
-        file: makefile(value(matches, FILE)),
-    }
+        files,
+    })
 }
 
 // The refusal that the word of `explain` calls.
@@ -264,13 +331,16 @@ fn request_of<'a, R: FromStr + Drop>(
 where
     R::Err: Drop,
     ensures asks { IfOk result (Asks R.from_str_gives (subcommand_rows_of matches.now)) }
-    ensures query { IfErr result (λ _. is_query (subcommand_rows_of matches.now) ≡ false) }
+    ensures query { IfErr result (λ error. is_query (subcommand_rows_of matches.now) ≡ true
+        → kind_of error ≡ OutOfMemory) }
 {
     let Some((name, matches)) = matches.subcommand() else {
         return Err(command.error(ErrorKind::MissingSubcommand, NO_COMMAND)?);
     };
     match command_named(name) {
-        Some(CommandName::Query(query)) => Ok(Request::Query(query_words(query, matches))),
+        Some(CommandName::Query(query)) => {
+            Ok(Request::Query(query_words(alloc, query, matches)?))
+        }
         Some(CommandName::Explain) => Ok(Request::Explain(explained(command, matches)?)),
         Some(CommandName::Edit) => Ok(Request::Edit(edit_words(alloc, command, matches)?)),
         None => Err(command.error(ErrorKind::MissingSubcommand, NO_COMMAND)?),
@@ -283,9 +353,10 @@ where
 /// # Errors
 ///
 /// What `clap` finds wrong with them, which has its text, and help or the version where one is
-/// asked for; a depth that is not written in decimal digits alone, or is not from 1 to 10,000; two
-/// files beside a command that `-e` gives; a script and a makefile that are both standard input; a
-/// word that calls no refusal; `-i` beside `-o` or without the name of a file; a suffix that is empty or has a `/`, or that
+/// asked for; a depth that is not written in decimal digits alone, or is not from 1 to 10,000;
+/// a script and a makefile that are both standard input; a
+/// word that calls no refusal; several makefiles without `-i`; `-i` beside `-o` or without the name of
+/// a file; a suffix that is empty or has a `/`, or that
 /// stands without `-i`. A query that `clap` takes fails for want of memory alone.
 pub fn read_request<'a, R: FromStr + Drop>(
     alloc: Global,

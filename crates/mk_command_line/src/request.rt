@@ -43,19 +43,14 @@ pub enum Output<'a> {
     Standard,
     /// To the file of this name, which is written in place of what it has.
     File(&'a str),
-    /// To the makefile, which is the old file or the new one at every moment.
-    InPlace(InPlace<'a>),
+    /// To the makefile itself, which is the old file or the new one at every moment.
+    InPlace(Backup<'a>),
 }
 
-/// A makefile that is edited in place.
+/// Whether an old makefile is kept: what its second name has at its end, if it is. That is not empty,
+/// and has no `/`.
 #[derive(Clone, Copy)]
-pub struct InPlace<'a> {
-    /// Its name.
-    pub name: &'a str,
-    /// What the name under which the old file is kept has at its end, if it is kept. It is not
-    /// empty, and has no `/`.
-    pub backup: Option<&'a str>,
-}
+pub struct Backup<'a>(pub Option<&'a str>);
 
 /// What the words of `mkedit edit` say.
 #[derive(Drop)]
@@ -66,33 +61,34 @@ pub struct EditWords<'a> {
     pub depth: u32,
     /// Whether a message has notes below it.
     pub notes: bool,
-    /// Where the text goes.
+    /// Where the text of each makefile goes.
     pub output: Output<'a>,
     /// Whether the diff of the makefile and the text goes there, in place of the text.
     pub is_diff: bool,
     /// Where the commands come from.
     pub script: Script<'a>,
-    /// The makefile. It is not standard input where the script is.
-    pub file: Input<'a>,
+    /// The makefiles, one or more. Several stand only beside an output in place, beside which each is
+    /// the name of a file. None is standard input where the script is.
+    pub files: Vec<Input<'a>>,
 }
 
 /// What the words of a query say.
-#[derive(Clone, Copy)]
+#[derive(Drop)]
 pub struct QueryWords<'a> {
     /// What is asked.
     pub query: Query,
     /// Whether a message has notes below it.
     pub notes: bool,
-    /// The makefile.
-    pub file: Input<'a>,
+    /// The makefiles, one or more.
+    pub files: Vec<Input<'a>>,
 }
 
 /// What the command line asks for. `R` is what a refusal is for the caller.
 #[derive(Drop)]
 pub enum Request<'a, R> {
-    /// A script over a makefile.
+    /// A script over makefiles.
     Edit(EditWords<'a>),
-    /// A query of a makefile.
+    /// A query of makefiles.
     Query(QueryWords<'a>),
     /// What is said of a refusal.
     Explain(R),

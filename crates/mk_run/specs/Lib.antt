@@ -7,8 +7,6 @@ pub mod ObeyedCommands
 pub mod ObeyedSteps
 pub mod Runs
 pub mod RunEnds
+pub mod RunSteps
 -- Laws
 pub mod RunLaws
--- # Vocabulary of private contracts
--- Runs
-pub mod RunSteps

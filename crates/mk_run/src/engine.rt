@@ -17,8 +17,13 @@ use mk_script::{ScriptFault, Step, parse_script};
 use mk_session::{Command, Edit, Refusal, Session};
 use std::alloc::Allocator;
 
-// The steps of a script. The script is read to its end.
-fn read_script<A: Allocator + Copy, S: ByteSource>(
+/// The steps of a script, which is read to its end.
+///
+/// # Errors
+///
+/// The outcome of a run that ends here: [`Outcome::Read`] where a read answered that,
+/// [`Outcome::TooLong`], [`Outcome::NotACommand`] with the first such line, or [`Outcome::NoMemory`].
+pub fn read_script<A: Allocator + Copy, S: ByteSource>(
     alloc: A,
     script: &mut S,
 ) -> Result<Vec<Step<A>, A>, Outcome>
@@ -193,9 +198,9 @@ where
     }
 }
 
-// Runs steps over a makefile, which is read to its end first. The laws hold for each script that has
-// these steps.
-fn run_steps<A, R, W, P>(
+/// Runs steps over a makefile, as [`run`] does from the reading of the makefile on. The depth has to be
+/// from 1 to 10,000. The clause `over` holds for each script that has these steps.
+pub fn run_steps<A, R, W, P>(
     alloc: A,
     makefile: &mut R,
     steps: &[Step<A>],

@@ -1,8 +1,9 @@
 //! A script of edits over a makefile: every byte that no edit concerns stays.
 //!
 //! [`run`] reads a script and a makefile, obeys the script's commands, writes the text and a line on
-//! each refused command, and hands the session back. [`status`] and [`message`] say how the run
-//! ended.
+//! each refused command, and hands the session back. Where one script runs over several makefiles,
+//! [`read_script`] reads it once, and [`run_steps`] runs its steps over each of them. [`status`] and
+//! [`message`] say how a run ended.
 //!
 //! - `engine`: the run, in its steps.
 //! - [`laws`]: what holds for every run.
@@ -17,7 +18,7 @@ mod outcome;
 mod report;
 mod step;
 
-pub use engine::run;
-pub use mk_script::{ScriptFault, parse_script};
+pub use engine::{read_script, run, run_steps};
+pub use mk_script::{ScriptFault, Step, parse_script};
 pub use mk_session::Command;
 pub use outcome::{Outcome, message, status};

@@ -5,3 +5,5 @@ mod UntoldLemmas
 mod ComparisonLemmas
 -- Lemmas on texts that are written
 mod WritesLemmas
+-- Lemmas on lines with a name
+mod NamedLineLemmas

@@ -1,7 +1,9 @@
 -- # Vocabulary of private contracts
 -- What the program prints.
 pub mod QueryTexts
+pub mod Destinations
 pub mod Explanations
 pub mod Notes
+pub mod NamedLines
 pub mod Settled
 pub mod DiffRuns

@@ -2,19 +2,22 @@
 ghost use Rattle.std.specs.Prelude.{◌≡◌, ◌||◌, false};
 ghost use Rattle.mk_run.specs.RunEnds.{IsRunOver, TellsFaults, written};
 
+use crate::destination::{Destination, destination_of};
 use crate::diff::{diff_name, run_diff};
-use crate::ending::End;
+use crate::ending::{End, finished};
 use crate::files::{CannotOpen, open};
 use crate::in_place::InPlaceFile;
 use crate::noted::Noted;
 use crate::notes::{STANDARD_INPUT, STANDARD_OUTPUT};
 use crate::out_file::OutFile;
-use mk_command_line::{EditWords, Input, Output, Script};
+use crate::several::edit_each;
+use mk_command_line::{EditWords, Input, Script};
 use mk_lines::{ByteSink, ByteSource, StdSink, StdSource};
 use mk_run::{Outcome, run};
 use std::alloc::Allocator;
 use std::io::Read;
 use std::mem;
+use std::process::ExitCode;
 
 // The command line takes the depths that a history has.
 const _: () = prove!(mk_command_line::MAX_DEPTH == mk_history::history::MAX_DEPTH);
@@ -65,6 +68,7 @@ where
 fn print_to<R, S, W, P>(
     rt: &HostRuntime,
     words: &EditWords<'_>,
+    file: Input<'_>,
     makefile: &mut R,
     script: &mut S,
     out: &mut W,
@@ -81,7 +85,7 @@ where
     requires report_works { P.failed report.old ≡ false }
 {
     if words.is_diff {
-        let name = diff_name(words.file);
+        let name = diff_name(file);
         return run_diff(rt.alloc(), words, name, makefile, script, out, report);
     }
     run_to(rt.alloc(), words, makefile, script, out, report)
@@ -91,6 +95,7 @@ where
 fn run_over<'a, R: ByteSource, S: ByteSource>(
     rt: &'a HostRuntime,
     words: &EditWords<'a>,
+    file: Input<'a>,
     makefile: &mut R,
     script: &mut S,
 ) -> End<'a>
@@ -98,23 +103,23 @@ fn run_over<'a, R: ByteSource, S: ByteSource>(
     requires script_works { S.failed script.old ≡ false }
 {
     let mut report = StdSink::new(rt.stderr());
-    match words.output {
-        Output::File(name) => {
+    match destination_of(words.output, file) {
+        Destination::File(name) => {
             let mut out = OutFile::new(rt, name);
-            let outcome = print_to(rt, words, makefile, script, &mut out, &mut report);
+            let outcome = print_to(rt, words, file, makefile, script, &mut out, &mut report);
             End::of(outcome).with_fault(out.fault())
         }
-        Output::InPlace(place) => {
-            let mut out = InPlaceFile::new(rt, place.name, place.backup);
+        Destination::InPlace(name, backup) => {
+            let mut out = InPlaceFile::new(rt, name, backup);
             let outcome = run_to(rt.alloc(), words, makefile, script, &mut out, &mut report);
             let end = End::of(outcome).with_fault(out.fault());
             out.close();
             end
         }
-        Output::Standard => {
+        Destination::Standard => {
             let mut device = Noted::new(rt.stdout());
             let mut out = StdSink::new(&mut device);
-            let outcome = print_to(rt, words, makefile, script, &mut out, &mut report);
+            let outcome = print_to(rt, words, file, makefile, script, &mut out, &mut report);
             End::of(outcome).with_fault(device.fault(STANDARD_OUTPUT))
         }
     }
@@ -124,6 +129,7 @@ fn run_over<'a, R: ByteSource, S: ByteSource>(
 fn run_named<'a, R: Read + Drop, S: ByteSource>(
     rt: &'a HostRuntime,
     words: &EditWords<'a>,
+    file: Input<'a>,
     name: &'a str,
     makefile: R,
     script: &mut S,
@@ -131,7 +137,7 @@ fn run_named<'a, R: Read + Drop, S: ByteSource>(
     requires script_works { S.failed script.old ≡ false }
 {
     let mut makefile = Noted::new(makefile);
-    let end = run_over(rt, words, &mut StdSource::new(&mut makefile), script);
+    let end = run_over(rt, words, file, &mut StdSource::new(&mut makefile), script);
     end.with_fault(makefile.fault(name))
 }
 
@@ -139,13 +145,14 @@ fn run_named<'a, R: Read + Drop, S: ByteSource>(
 fn run_by<'a, S: ByteSource>(
     rt: &'a HostRuntime,
     words: &EditWords<'a>,
+    file: Input<'a>,
     script: &mut S,
 ) -> Result<End<'a>, CannotOpen<'a>>
     requires script_works { S.failed script.old ≡ false }
 {
-    match words.file {
-        Input::File(name) => Ok(run_named(rt, words, name, open(rt, name)?, script)),
-        Input::Standard => Ok(run_named(rt, words, STANDARD_INPUT, rt.stdin(), script)),
+    match file {
+        Input::File(name) => Ok(run_named(rt, words, file, name, open(rt, name)?, script)),
+        Input::Standard => Ok(run_named(rt, words, file, STANDARD_INPUT, rt.stdin(), script)),
     }
 }
 
@@ -153,23 +160,33 @@ fn run_by<'a, S: ByteSource>(
 fn run_script<'a, S: Read + Drop>(
     rt: &'a HostRuntime,
     words: &EditWords<'a>,
+    file: Input<'a>,
     name: &'a str,
     script: S,
 ) -> Result<End<'a>, CannotOpen<'a>> {
     let mut script = Noted::new(script);
-    let end = run_by(rt, words, &mut StdSource::new(&mut script))?;
+    let end = run_by(rt, words, file, &mut StdSource::new(&mut script))?;
     Ok(end.with_fault(script.fault(name)))
 }
 
-/// Opens the script, then the makefile, and runs the one over the other.
-///
-/// # Errors
-///
-/// [`CannotOpen`] where one of the two cannot be opened. Nothing is read then.
-pub fn edit<'a>(rt: &'a HostRuntime, words: &EditWords<'a>) -> Result<End<'a>, CannotOpen<'a>> {
+// Opens the script, then the makefile, and runs the one over the other. Where one of the two cannot be
+// opened, nothing is read.
+fn edit_one<'a>(
+    rt: &'a HostRuntime,
+    words: &EditWords<'a>,
+    file: Input<'a>,
+) -> Result<End<'a>, CannotOpen<'a>> {
     match &words.script {
-        Script::From(Input::File(name)) => run_script(rt, words, name, open(rt, name)?),
-        Script::From(Input::Standard) => run_script(rt, words, STANDARD_INPUT, rt.stdin()),
-        Script::Lines(lines) => run_by(rt, words, &mut StdSource::new(lines.as_bytes())),
+        Script::From(Input::File(name)) => run_script(rt, words, file, name, open(rt, name)?),
+        Script::From(Input::Standard) => run_script(rt, words, file, STANDARD_INPUT, rt.stdin()),
+        Script::Lines(lines) => { run_by(rt, words, file, &mut StdSource::new(lines.as_bytes())) }
+    }
+}
+
+/// Runs the script over the makefiles, and answers the status.
+pub fn edit<'a>(rt: &'a HostRuntime, words: &EditWords<'a>) -> ExitCode {
+    match words.files.as_slice() {
+        [file] => finished(rt, edit_one(rt, words, *file), words.notes),
+        files => edit_each(rt, words, files),
     }
 }

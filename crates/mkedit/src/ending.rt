@@ -1,5 +1,5 @@
 //! How the program ends: a message on standard error, and the status.
-ghost use Rattle.std.specs.Prelude.{◌≡◌, ◌≢◌, ◌++◌, None, false, if◌then◌else◌};
+ghost use Rattle.std.specs.Prelude.{◌≡◌, ◌≢◌, ◌++◌, None, false, max, if◌then◌else◌};
 ghost use Rattle.std.specs.Option.{option_or};
 ghost use Rattle.std.specs.Io.KnownBytes.{Appends};
 ghost use Rattle.std.specs.Process.{exit_status};
@@ -57,8 +57,8 @@ impl<'a> End<'a> {
         }
     }
 
-    // The fault that is told: none without notes.
-    fn told_fault(&self, notes: bool) -> Option<SystemFault<'a>>
+    /// The fault that is told: none without notes.
+    pub fn told_fault(&self, notes: bool) -> Option<SystemFault<'a>>
         ensures { result ≡ (if notes then self.now.fault else None) }
     {
         if notes { self.fault } else { None }
@@ -103,16 +103,60 @@ pub fn ended(rt: &HostRuntime, end: &End<'_>, notes: bool) -> ExitCode
     told(&end.outcome, end.told_fault(notes), &mut errors)
 }
 
-/// Says that a file cannot be opened, and why where there are notes, and answers the status of that.
-pub fn not_opened(rt: &HostRuntime, file: &CannotOpen<'_>, notes: bool) -> ExitCode
-    ensures { exit_status result ≡ CANNOT_OPEN }
-{
+/// Says that a file cannot be opened, and why where there are notes.
+pub fn tell_not_opened(rt: &HostRuntime, file: &CannotOpen<'_>, notes: bool) {
     let name = file.0.name;
     let _ = eprintln!(rt; "mkedit: cannot open {name}");
     if notes {
         let _ = put_notes(Some(file.0), &mut StdSink::new(rt.stderr()));
     }
+}
+
+/// Says that a file cannot be opened, and why where there are notes, and answers the status of that.
+pub fn not_opened(rt: &HostRuntime, file: &CannotOpen<'_>, notes: bool) -> ExitCode
+    ensures { exit_status result ≡ CANNOT_OPEN }
+{
+    tell_not_opened(rt, file, notes);
     ExitCode::from(CANNOT_OPEN)
+}
+
+/// Says how a run or a query ended, and answers its status.
+pub fn finished(rt: &HostRuntime, end: Result<End<'_>, CannotOpen<'_>>, notes: bool) -> ExitCode {
+    match end {
+        Ok(end) => ended(rt, &end, notes),
+        Err(file) => not_opened(rt, &file, notes),
+    }
+}
+
+/// The greatest of some statuses.
+#[derive(Clone, Copy)]
+pub struct Statuses {
+    greatest: u8,
+}
+
+impl Statuses {
+    /// None yet, which is as good as 0.
+    pub fn new() -> Statuses
+        ensures { result.greatest ≡ 0 }
+    {
+        Statuses { greatest: 0 }
+    }
+
+    /// With one more.
+    pub fn add(&mut self, status: u8)
+        ensures { self.new.greatest ≡ max self.old.greatest status }
+    {
+        if self.greatest < status {
+            self.greatest = status;
+        }
+    }
+
+    /// The greatest as the status of the program.
+    pub fn code(self) -> ExitCode
+        ensures { exit_status result ≡ self.greatest }
+    {
+        ExitCode::from(self.greatest)
+    }
 }
 
 /// Puts the text of what clap answered out, and answers its status. Help or the version, which was

@@ -3,15 +3,19 @@
 //!
 //! - `edit`: a script over a makefile, by [`mk_run::run`].
 //! - `diff`: the diff of a makefile and its text, in place of that text, by [`mk_diff`].
+//! - `several`: a script over several makefiles, by [`mk_run::run_steps`].
+//! - `destination`: where the text of a makefile goes.
 //! - `query`: what a makefile has, by [`mk_queries`].
 //! - `explain`: why a command is refused; `explanations` has the texts.
 //! - `files`: files beside the standard streams.
 //! - `noted`: readers and writers that remember why they failed.
+//! - `named`: lines that begin with the name of a file.
 //! - `notes`: what is said of that below a message.
 //! - `out_file`: the file that a text goes to; `in_place`: the makefile itself.
 //! - `ending`: the message and the status.
 #![tactic(auto)]
 
+mod destination;
 mod diff;
 mod edit;
 mod ending;
@@ -19,14 +23,15 @@ mod explain;
 mod explanations;
 mod files;
 mod in_place;
+mod named;
 mod noted;
 mod notes;
 mod out_file;
 mod query;
+mod several;
 
-use ending::{BAD_COMMAND_LINE, End, answered, ended, not_opened};
+use ending::{BAD_COMMAND_LINE, End, answered, ended};
 use explain::CalledRefusal;
-use files::CannotOpen;
 use mk_command_line::{Request, read_request};
 use mk_run::Outcome;
 use std::io::ErrorKind;
@@ -51,19 +56,11 @@ fn words(rt: &HostRuntime) -> Result<Vec<String>, ExitCode> {
     }
 }
 
-// Says how a run or a query ended, and answers its status.
-fn finished(rt: &HostRuntime, end: Result<End<'_>, CannotOpen<'_>>, notes: bool) -> ExitCode {
-    match end {
-        Ok(end) => ended(rt, &end, notes),
-        Err(file) => not_opened(rt, &file, notes),
-    }
-}
-
 // Does what the command line asks for.
 fn done(rt: &HostRuntime, words: &[String]) -> ExitCode {
     match read_request(rt.alloc(), words) {
-        Ok(Request::Edit(words)) => finished(rt, edit::edit(rt, &words), words.notes),
-        Ok(Request::Query(words)) => finished(rt, query::ask(rt, words), words.notes),
+        Ok(Request::Edit(words)) => edit::edit(rt, &words),
+        Ok(Request::Query(words)) => query::ask(rt, &words),
         Ok(Request::Explain(CalledRefusal(refusal))) => {
             ended(rt, &End::of(explain::explain(rt, &refusal)), false)
         }

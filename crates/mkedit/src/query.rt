@@ -9,10 +9,12 @@ ghost use Rattle.mk_tree.specs.Documents.{IsFaithful, IsTooDeep};
 ghost use Rattle.mk_run.specs.RunEnds.{PutsOut, PutsOutIf, ReadsOnce};
 ghost use Rattle.mkedit.specs.QueryTexts.{query_outcome, query_text};
 
-use crate::ending::End;
+use crate::destination::name_of;
+use crate::ending::{CANNOT_OPEN, End, Statuses, finished, tell_not_opened};
 use crate::files::{CannotOpen, open};
 use crate::noted::Noted;
 use crate::notes::{STANDARD_INPUT, STANDARD_OUTPUT};
+use crate::several::{kept_outcome, put_named, tell_named};
 use mk_command_line::{Input, Query, QueryWords};
 use mk_lines::source::{BUFFER, MAX_TEXT, read_all};
 use mk_lines::{ByteSink, ByteSource, Fault, StdSink, StdSource};
@@ -20,9 +22,10 @@ use mk_queries::{caveats, check, recipes, rules, vars};
 use mk_run::Outcome;
 use mk_session::Session;
 use mk_tree::Doc;
-use std::alloc::Allocator;
+use std::alloc::{Allocator, Global};
 use std::io::{ErrorKind, Read};
 use std::mem;
+use std::process::ExitCode;
 
 // A session that is only looked at: the least depth there is.
 const DEPTH: u32 = 1;
@@ -110,6 +113,43 @@ where
     }
 }
 
+// Puts an answer out with a name before each of its lines, and flushes it once.
+fn put_answer<W: ByteSink>(
+    alloc: Global,
+    name: &str,
+    answer: &[u8],
+    out: &mut W,
+) -> Result<(), Fault>
+    requires { W.failed out.old ≡ false }
+{
+    put_named(alloc, name, answer, None, out)?;
+    ByteSink::flush(out)
+}
+
+// Answers on a sink, with a name before each line of the answer, and says how that ended. The answer is
+// gathered in memory first.
+fn print_named<R: ByteSource, W: ByteSink>(
+    alloc: Global,
+    query: Query,
+    name: &str,
+    makefile: &mut R,
+    out: &mut W,
+) -> Outcome
+    requires makefile_works { R.failed makefile.old ≡ false }
+    requires out_works { W.failed out.old ≡ false }
+{
+    let mut text = Vec::new(alloc);
+    let mut kept = StdSink::new(&mut text);
+    let outcome = print(alloc, query, makefile, &mut kept);
+    match kept_outcome(outcome, kept.failed()) {
+        Outcome::Done => match put_answer(alloc, name, text.as_slice(), out) {
+            Ok(()) => Outcome::Done,
+            Err(fault) => Outcome::from(fault),
+        },
+        outcome => outcome,
+    }
+}
+
 // How a query ends whose print ended so. Where nobody reads the output any more, the query is done.
 fn query_outcome(outcome: Outcome, is_left: bool) -> Outcome
     ensures { result ≡ query_outcome outcome is_left }
@@ -120,36 +160,89 @@ fn query_outcome(outcome: Outcome, is_left: bool) -> Outcome
     }
 }
 
-// Answers on standard output, and says how that ended. The makefile is called by this name.
+// How a query of one makefile ended, and whether nobody reads the output any more.
+#[derive(Clone, Copy)]
+struct Asked<'a> {
+    end: End<'a>,
+    is_left: bool,
+}
+
+// How a query ended with this outcome, of a makefile that is called by this name.
+fn end_of_query<'a, R, W>(
+    outcome: Outcome,
+    name: &'a str,
+    makefile: &Noted<R>,
+    out: &Noted<W>,
+) -> Asked<'a> {
+    let is_left = matches!(out.error(), Some(ErrorKind::BrokenPipe));
+    let end = End::of(query_outcome(outcome, is_left))
+        .with_fault(makefile.fault(name))
+        .with_fault(out.fault(STANDARD_OUTPUT));
+    Asked { end, is_left }
+}
+
+// Answers on standard output. The makefile is called by this name in notes; where there is a prefix,
+// each line gets that name.
 fn print_out<'a, R: Read + Drop>(
     rt: &HostRuntime,
     query: Query,
+    prefix: Option<&str>,
     name: &'a str,
     makefile: R,
-) -> End<'a> {
+) -> Asked<'a> {
     let mut makefile = Noted::new(makefile);
     let mut out = Noted::new(rt.stdout());
-    let outcome = print(
-        rt.alloc(),
-        query,
-        &mut StdSource::new(&mut makefile),
-        &mut StdSink::new(&mut out),
-    );
-    let is_left = matches!(out.error(), Some(ErrorKind::BrokenPipe));
-    End::of(query_outcome(outcome, is_left))
-        .with_fault(makefile.fault(name))
-        .with_fault(out.fault(STANDARD_OUTPUT))
+    let mut source = StdSource::new(&mut makefile);
+    let mut sink = StdSink::new(&mut out);
+    let outcome = match prefix {
+        Some(prefix) => print_named(rt.alloc(), query, prefix, &mut source, &mut sink),
+        None => print(rt.alloc(), query, &mut source, &mut sink),
+    };
+    end_of_query(outcome, name, &makefile, &out)
 }
 
-/// Answers what the makefile is asked for, on standard output. Where nobody reads that to its end, it
-/// ends as where all was read.
-///
-/// # Errors
-///
-/// [`CannotOpen`] where it cannot be opened.
-pub fn ask<'a>(rt: &HostRuntime, words: QueryWords<'a>) -> Result<End<'a>, CannotOpen<'a>> {
-    match words.file {
-        Input::File(name) => Ok(print_out(rt, words.query, name, open(rt, name)?)),
-        Input::Standard => Ok(print_out(rt, words.query, STANDARD_INPUT, rt.stdin())),
+// Opens a makefile, and answers what it is asked for.
+fn ask_one<'a>(
+    rt: &HostRuntime,
+    query: Query,
+    prefix: Option<&str>,
+    file: Input<'a>,
+) -> Result<Asked<'a>, CannotOpen<'a>> {
+    match file {
+        Input::File(name) => Ok(print_out(rt, query, prefix, name, open(rt, name)?)),
+        Input::Standard => Ok(print_out(rt, query, prefix, STANDARD_INPUT, rt.stdin())),
+    }
+}
+
+// Answers what several makefiles are asked for, in turn, until nobody reads the output any more.
+fn ask_each(rt: &HostRuntime, words: &QueryWords<'_>, files: &[Input<'_>]) -> ExitCode {
+    let mut statuses = Statuses::new();
+    for file in files {
+        match ask_one(rt, words.query, Some(name_of(*file)), *file) {
+            Ok(asked) => {
+                let mut none = Vec::new(rt.alloc());
+                statuses.add(tell_named(rt, *file, &mut none, &asked.end, words.notes));
+                if asked.is_left {
+                    break;
+                }
+            }
+            Err(cannot) => {
+                tell_not_opened(rt, &cannot, words.notes);
+                statuses.add(CANNOT_OPEN);
+            }
+        }
+    }
+    statuses.code()
+}
+
+/// Answers what the makefiles are asked for, on standard output, and answers the status. Where nobody
+/// reads that to its end, it ends as where all was read.
+pub fn ask(rt: &HostRuntime, words: &QueryWords<'_>) -> ExitCode {
+    match words.files.as_slice() {
+        [file] => {
+            let asked = ask_one(rt, words.query, None, *file);
+            finished(rt, asked.map(|asked| asked.end), words.notes)
+        }
+        files => ask_each(rt, words, files),
     }
 }

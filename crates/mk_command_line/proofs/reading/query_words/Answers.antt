@@ -5,5 +5,5 @@ pub returns : goal.returns
 returns c = record {
   query_is = refl;
   notes = c.is_set-notes.ensures;
-  file = rw (← c.value.ensures) c.makefile.ensures;
+  files = rw (← c.values.ensures) c.in_ok-files.ensures;
 }

@@ -1,4 +1,4 @@
-use Rattle.std.proofs.Common.{◌≡◌, ◌∙◌, List, Option, map, string_bytes, true, false, ap, subst, sym}
+use Rattle.std.proofs.Common.{◌≡◌, ◌∙◌, List, Option, map, string_bytes, true, ap, subst}
 use Rattle.std.proofs.lemmas.Result.{IfErr-weaker}
 use Rattle.std.specs.Prelude.{IfOk}
 use Rattle.clap.specs.Words.{App, Row, Text, app_of, is_simple, subcommand_of, subcommand_rows_of, takes}
@@ -29,6 +29,4 @@ returns-in-Ok-clause-query g c =
     let found : subcommand_rows_of c.in-Ok.matches ≡ subcommand_of (program_for texts) texts =
     (c.in-Ok.ensures.ok.2 simple).1 ∙ ap (λ (a : App). subcommand_of a texts) c.in_ok-command.ensures in
     IfErr-weaker c.request_of.result _ _
-    (λ error none _ query.
-    let clash : true ≡ false = sym query ∙ ap is_query (sym found) ∙ none in
-    cc) c.request_of.ensures.query
+    (λ error short _ query. short (ap is_query found ∙ query)) c.request_of.ensures.query

@@ -1,0 +1,19 @@
+-- Where the text of each makefile goes, and what a makefile is called.
+-- Told in docs/EDITS.md, "Running a script".
+use Rattle.std.specs.Prelude.{ℕ, List, codes}
+use Rattle.mk_command_line.specs.declared.request.Input.{Input}
+use Rattle.mk_command_line.specs.declared.request.Input.TheVariants as input
+use Rattle.mk_command_line.specs.declared.request.Output.{Output}
+use Rattle.mk_command_line.specs.declared.request.Output.TheVariants as output
+use Rattle.mkedit.specs.declared.destination.Destination.{Destination}
+use Rattle.mkedit.specs.declared.destination.Destination.TheVariants.{Standard, File, InPlace}
+
+abbrev pub destination_of : Output → Input → Destination
+destination_of output.Standard file = Standard
+destination_of (output.File name) file = File name
+destination_of (output.InPlace backup) (input.File name) = InPlace name backup.0
+destination_of (output.InPlace backup) input.Standard = Standard
+
+abbrev pub name_of : Input → List ℕ
+name_of (input.File name) = name.now
+name_of input.Standard = codes "-"

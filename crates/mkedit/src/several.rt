@@ -1,0 +1,302 @@
+//! `mkedit edit` over several makefiles: the script is read once, and each makefile is a run by itself.
+//!
+//! What is said of a makefile is gathered in memory, so that each line can get the makefile's name.
+ghost use Rattle.std.specs.Prelude.{◌≡◌, ◌++◌, ◌||◌, ℕ, List, Option, OnOk, false, if◌then◌else◌, map};
+ghost use Rattle.std.specs.Io.KnownBytes.{Appends};
+ghost use Rattle.mk_lines.specs.Device.{AppendsPrefix};
+ghost use Rattle.mk_session.specs.Sessions.{IsBadDepth};
+ghost use Rattle.mk_script.specs.Scripts.{step_of};
+ghost use Rattle.mk_run.specs.RunEnds.{IsRunOver, TellsFaults, written};
+ghost use Rattle.mk_run.specs.RunSteps.{GivesSteps};
+ghost use Rattle.mkedit.specs.NamedLines.{named_lines};
+ghost use Rattle.mkedit.specs.Notes.{notes_of};
+
+use crate::destination::{Destination, destination_of, name_of};
+use crate::ending::{CANNOT_OPEN, End, Statuses, ended, not_opened, tell_not_opened};
+use crate::files::{CannotOpen, open};
+use crate::in_place::InPlaceFile;
+use crate::named::named_lines;
+use crate::noted::Noted;
+use crate::notes::{STANDARD_INPUT, STANDARD_OUTPUT, SystemFault, put_notes};
+use crate::out_file::OutFile;
+use mk_command_line::{EditWords, Input, Script};
+use mk_history::history::is_bad_depth;
+use mk_lines::sink::write_all;
+use mk_lines::{ByteSink, ByteSource, Fault, StdSink, StdSource};
+use mk_run::{Outcome, Step, message, read_script, run_steps, status};
+use std::alloc::{Allocator, Global};
+use std::io::Read;
+use std::mem;
+use std::process::ExitCode;
+
+// Runs steps over a makefile, with the depth and the keep-going of the words. The session is not given
+// up: the program ends soon.
+fn run_steps_to<A, R, W, P>(
+    alloc: A,
+    words: &EditWords<'_>,
+    steps: &[Step<A>],
+    makefile: &mut R,
+    out: &mut W,
+    report: &mut P,
+) -> Outcome
+where
+    A: Allocator + Copy,
+    R: ByteSource,
+    W: ByteSink,
+    P: ByteSink,
+    requires makefile_works { R.failed makefile.old ≡ false }
+    requires out_works { W.failed out.old ≡ false }
+    requires report_works { P.failed report.old ≡ false }
+    requires depth { IsBadDepth words.now.depth → ⊥ }
+    ensures law { (script : Option (List ℕ)) → GivesSteps script (map step_of steps.now)
+        → IsRunOver (R.remaining makefile.old) script words.now.depth words.now.keep_going
+        result (P.failed report.new) (written (P.contents report.old) (P.contents report.new))
+        (written (W.contents out.old) (W.contents out.new)) }
+    ensures faults { TellsFaults result words.now.depth (R.failed makefile.new)
+        (W.failed out.new || P.failed report.new) }
+{
+    let mut kept = None;
+    let outcome = run_steps(
+        alloc,
+        makefile,
+        steps,
+        words.depth,
+        words.keep_going,
+        out,
+        report,
+        &mut kept,
+    );
+    mem::forget(kept);
+    outcome
+}
+
+/// The outcome of what was written into memory: a sink of memory fails for want of memory alone.
+pub fn kept_outcome(outcome: Outcome, is_failed: bool) -> Outcome
+    ensures { result ≡ (if is_failed then Outcome.NoMemory else outcome) }
+{
+    if is_failed {
+        Outcome::NoMemory
+    } else {
+        outcome
+    }
+}
+
+/// Writes what is said of a makefile: some lines, each with the makefile's name before it, and below
+/// them the note on a fault.
+///
+/// # Errors
+///
+/// [`Fault::NoMemory`], and nothing is out; or [`Fault::Write`], and a prefix is out.
+pub fn put_named<A, W>(
+    alloc: A,
+    name: &str,
+    lines: &[u8],
+    fault: Option<SystemFault<'_>>,
+    out: &mut W,
+) -> Result<(), Fault>
+where
+    A: Allocator,
+    W: ByteSink,
+    requires { W.failed out.old ≡ false }
+    ensures whole { OnOk result (Appends (W.contents out.old) (W.contents out.new)
+        (named_lines name.now lines.now ++ notes_of fault.entry)) }
+    ensures prefix { AppendsPrefix (W.contents out.old) (W.contents out.new)
+        (named_lines name.now lines.now ++ notes_of fault.entry) }
+    ensures works { OnOk result (W.failed out.new ≡ false) }
+{
+    let named = named_lines(alloc, name.as_bytes(), lines)?;
+    write_all(out, named.as_slice())?;
+    put_notes(fault, out)
+}
+
+// Runs steps over a makefile, with the report into memory.
+fn run_kept<R: ByteSource, W: ByteSink>(
+    alloc: Global,
+    words: &EditWords<'_>,
+    steps: &[Step<Global>],
+    makefile: &mut R,
+    out: &mut W,
+    report: &mut Vec<u8>,
+) -> Outcome
+    requires makefile_works { R.failed makefile.old ≡ false }
+    requires out_works { W.failed out.old ≡ false }
+    requires depth { IsBadDepth words.now.depth → ⊥ }
+{
+    let mut lines = StdSink::new(report);
+    let outcome = run_steps_to(alloc, words, steps, makefile, out, &mut lines);
+    kept_outcome(outcome, lines.failed())
+}
+
+// Puts the message on an outcome behind a report.
+fn keep_message(outcome: Outcome, report: &mut Vec<u8>) -> Outcome {
+    let mut lines = StdSink::new(report);
+    let _ = message(&outcome, &mut lines);
+    kept_outcome(outcome, lines.failed())
+}
+
+// Runs steps over a makefile, with the text to where the words say, and the report into memory.
+fn run_over<'a, R: ByteSource>(
+    rt: &'a HostRuntime,
+    words: &EditWords<'a>,
+    steps: &[Step<Global>],
+    file: Input<'a>,
+    makefile: &mut R,
+    report: &mut Vec<u8>,
+) -> End<'a>
+    requires makefile_works { R.failed makefile.old ≡ false }
+    requires depth { IsBadDepth words.now.depth → ⊥ }
+{
+    match destination_of(words.output, file) {
+        Destination::File(name) => {
+            let mut out = OutFile::new(rt, name);
+            let outcome = run_kept(rt.alloc(), words, steps, makefile, &mut out, report);
+            End::of(outcome).with_fault(out.fault())
+        }
+        Destination::InPlace(name, backup) => {
+            let mut out = InPlaceFile::new(rt, name, backup);
+            let outcome = run_kept(rt.alloc(), words, steps, makefile, &mut out, report);
+            let end = End::of(outcome).with_fault(out.fault());
+            out.close();
+            end
+        }
+        Destination::Standard => {
+            let mut device = Noted::new(rt.stdout());
+            let mut out = StdSink::new(&mut device);
+            let outcome = run_kept(rt.alloc(), words, steps, makefile, &mut out, report);
+            End::of(outcome).with_fault(device.fault(STANDARD_OUTPUT))
+        }
+    }
+}
+
+// Runs steps over a makefile that is called by this name in notes.
+fn run_noted<'a, R: Read + Drop>(
+    rt: &'a HostRuntime,
+    words: &EditWords<'a>,
+    steps: &[Step<Global>],
+    file: Input<'a>,
+    name: &'a str,
+    makefile: R,
+    report: &mut Vec<u8>,
+) -> End<'a>
+    requires { IsBadDepth words.now.depth → ⊥ }
+{
+    let mut makefile = Noted::new(makefile);
+    let end = run_over(
+        rt,
+        words,
+        steps,
+        file,
+        &mut StdSource::new(&mut makefile),
+        report,
+    );
+    end.with_fault(makefile.fault(name))
+}
+
+// Opens a makefile, and runs steps over it.
+fn run_by<'a>(
+    rt: &'a HostRuntime,
+    words: &EditWords<'a>,
+    steps: &[Step<Global>],
+    file: Input<'a>,
+    report: &mut Vec<u8>,
+) -> Result<End<'a>, CannotOpen<'a>>
+    requires { IsBadDepth words.now.depth → ⊥ }
+{
+    match file {
+        Input::File(name) => {
+            let makefile = open(rt, name)?;
+            Ok(run_noted(rt, words, steps, file, name, makefile, report))
+        }
+        Input::Standard => {
+            let name = STANDARD_INPUT;
+            Ok(run_noted(rt, words, steps, file, name, rt.stdin(), report))
+        }
+    }
+}
+
+/// Says on standard error how a run over one of several makefiles, or a query of it, ended, and answers
+/// its status. Where that cannot be said, the status is that of the fault.
+pub fn tell_named(
+    rt: &HostRuntime,
+    file: Input<'_>,
+    report: &mut Vec<u8>,
+    end: &End<'_>,
+    notes: bool,
+) -> u8 {
+    let outcome = keep_message(end.outcome, report);
+    let fault = end.told_fault(notes);
+    let mut errors = StdSink::new(rt.stderr());
+    match put_named(
+        rt.alloc(),
+        name_of(file),
+        report.as_slice(),
+        fault,
+        &mut errors,
+    ) {
+        Ok(()) => status(&outcome),
+        Err(fault) => status(&Outcome::from(fault)),
+    }
+}
+
+// Runs steps over one of several makefiles, and answers the status.
+fn edit_one<'a>(
+    rt: &'a HostRuntime,
+    words: &EditWords<'a>,
+    steps: &[Step<Global>],
+    file: Input<'a>,
+) -> u8
+    requires { IsBadDepth words.now.depth → ⊥ }
+{
+    let mut report = Vec::new(rt.alloc());
+    match run_by(rt, words, steps, file, &mut report) {
+        Ok(end) => tell_named(rt, file, &mut report, &end, words.notes),
+        Err(file) => {
+            tell_not_opened(rt, &file, words.notes);
+            CANNOT_OPEN
+        }
+    }
+}
+
+// The steps of a script that is called by this name in notes; or how the run ends before them.
+fn read_steps<'a, S: Read + Drop>(
+    rt: &HostRuntime,
+    name: &'a str,
+    script: S,
+) -> Result<Vec<Step<Global>>, End<'a>> {
+    let mut script = Noted::new(script);
+    match read_script(rt.alloc(), &mut StdSource::new(&mut script)) {
+        Ok(steps) => Ok(steps),
+        Err(outcome) => Err(End::of(outcome).with_fault(script.fault(name))),
+    }
+}
+
+// Opens the script, and reads its steps; or says how the run ends before them.
+fn steps_of<'a>(
+    rt: &HostRuntime,
+    words: &EditWords<'a>,
+) -> Result<Result<Vec<Step<Global>>, End<'a>>, CannotOpen<'a>> {
+    match &words.script {
+        Script::From(Input::File(name)) => Ok(read_steps(rt, name, open(rt, name)?)),
+        Script::From(Input::Standard) => Ok(read_steps(rt, STANDARD_INPUT, rt.stdin())),
+        Script::Lines(lines) => Ok(read_steps(rt, "", lines.as_bytes())),
+    }
+}
+
+/// Reads the script once, and runs it over each of several makefiles in turn. Each makefile is a run by
+/// itself: where one ends early, the others go on. Answers the greatest of their statuses. Where the
+/// script is none, no makefile is opened.
+pub fn edit_each<'a>(rt: &'a HostRuntime, words: &EditWords<'a>, files: &[Input<'a>]) -> ExitCode {
+    if is_bad_depth(words.depth) {
+        return ended(rt, &End::of(Outcome::BadDepth), words.notes);
+    }
+    let steps = match steps_of(rt, words) {
+        Ok(Ok(steps)) => steps,
+        Ok(Err(end)) => return ended(rt, &end, words.notes),
+        Err(file) => return not_opened(rt, &file, words.notes),
+    };
+    let mut statuses = Statuses::new();
+    for file in files {
+        statuses.add(edit_one(rt, words, steps.as_slice(), *file));
+    }
+    statuses.code()
+}
