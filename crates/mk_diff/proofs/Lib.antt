@@ -5,7 +5,7 @@ mod FinderLemmas
 mod HunkTextLemmas
 mod LeadsLemmas
 mod MatchLemmas
-mod PhysicalLineLemmas
+pub mod PhysicalLineLemmas
 mod PlaceLemmas
 mod ShownLemmas
 -- Definitions computed
