@@ -15,11 +15,12 @@ import sys
 from pathlib import Path
 
 MIXTURE = "mixture"
-# A variable and its rule, with the header file that the rule needs.
-PAIR = re.compile(r"(?m)^([A-Z]+\d+) .*\n([a-z]+\d+\.o): \S+ (?:\\\n )?(\S+\.h) ")
+# A variable with the first word of its value, and its rule with the header file that it needs.
+PAIR = re.compile(r"(?m)^([A-Z]+\d+) \S+ (\S+).*\n([a-z]+\d+\.o): \S+ (?:\\\n )?(\S+\.h) ")
 COMMANDS = {
     "set": "set {variable} value",
     "append": "append {variable} -DNEW={number}",
+    "drop": "drop {variable} {flag}",
     "unset": "unset {variable}",
     "assign bottom": "assign bottom NEW_{number} = value",
     "assign after-var": "assign after-var {variable} NEW_{number} := value",
@@ -53,8 +54,9 @@ class Script:
             sys.exit(f"make_many.py: the makefile has only {len(found)} pairs")
         chosen = [found[(it + 1) * len(found) // count - 1] for it in range(count)]
         chosen.sort(key=lambda _: self.draw())
-        for number, (variable, target, header) in enumerate(chosen):
-            yield {"number": number, "variable": variable, "target": target, "header": header}
+        names = ("variable", "flag", "target", "header")
+        for number, parts in enumerate(chosen):
+            yield {"number": number, **dict(zip(names, parts))}
 
     def edits(self, makefile, kind, count):
         """So many commands of a kind, or of kinds that are drawn."""

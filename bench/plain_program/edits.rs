@@ -1,7 +1,7 @@
 //! The edits, one after the other over the document. None means that one is refused.
 
 use crate::document::Document;
-use crate::parts::{Class, class_of, value_of, with_gap, words, words_of_rule};
+use crate::parts::{Class, after_blanks, class_of, value_of, with_gap, words, words_of_rule};
 use crate::script::Command;
 use std::ops::Range;
 
@@ -15,6 +15,7 @@ pub fn obey(document: &mut Document, command: &Command<'_>) -> Option<()> {
     match fields[..] {
         [b"set", name, value] => give(document, name, value, false)?,
         [b"append", name, value] => give(document, name, value, true)?,
+        [b"drop", name, word] => drop_word(document, name, word)?,
         [b"unset", name] => document.take_out(variable(document, name)?),
         [b"assign", ref place @ .., name, operator, value] => {
             let gap: &[u8] = if value.is_empty() { b"" } else { b" " };
@@ -105,6 +106,24 @@ fn give(document: &mut Document, name: &[u8], value: &[u8], is_more: bool) -> Op
     let start = if is_more { old.end } else { old.start };
     let gap: &[u8] = if is_more && !old.is_empty() { b" " } else { b"" };
     document.exchange(number, &[&line[..start], gap, value, &line[old.end..]]);
+    Some(())
+}
+
+/// Takes a word out of a value; at the front of the value it goes with the blanks after it.
+fn drop_word(document: &mut Document, name: &[u8], word: &[u8]) -> Option<()> {
+    let number = variable(document, name)?;
+    let line = document.line(number).to_vec();
+    let Class::Assign { operator_end, .. } = class_of(&line) else {
+        return None;
+    };
+    let value = value_of(&line, operator_end);
+    let all: Vec<_> = words(&line[..value.end], value.start).collect();
+    let goes = |it: &&Range<usize>| line[(*it).clone()] == *word;
+    let front = all.iter().take_while(goes).count();
+    let next = all.iter().skip(1).map(|it| it.start).chain([after_blanks(&line, value.end)]);
+    let at_front = all.iter().zip(next).take(front).map(|(it, next)| it.start..next);
+    let behind = all[front..].iter().filter(goes).map(|it| with_gap(&line, it.clone()));
+    document.exchange(number, &replaced(&line, at_front.chain(behind), b"")?);
     Some(())
 }
 

@@ -24,7 +24,7 @@ fn is_fold(line: &[u8], at: usize) -> bool {
 }
 
 /// The offset of the next byte that is no blank and no fold.
-fn after_blanks(line: &[u8], mut at: usize) -> usize {
+pub fn after_blanks(line: &[u8], mut at: usize) -> usize {
     while at < line.len() {
         match line[at] {
             b' ' | b'\t' => at += 1,

@@ -45,6 +45,19 @@ pub fn add_word<'a>(
     })
 }
 
+/// Takes a word out of the value of a variable.
+pub fn remove_word<'a>(
+    heap: Heap<'a>,
+    name: &[u8],
+    word: &[u8],
+) -> Result<Edit<Heap<'a>>, AllocError> {
+    Ok(Edit::RemoveWord {
+        nth: None,
+        name: Vec::from_slice(heap, name)?,
+        word: Vec::from_slice(heap, word)?,
+    })
+}
+
 /// Puts the line of an assignment at the end.
 pub fn add_assign<'a>(
     heap: Heap<'a>,

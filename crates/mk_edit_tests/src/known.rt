@@ -5,8 +5,8 @@ ghost use Rattle.mk_tree.specs.Documents.{IsFaithful};
 use crate::checks::{Heap, check};
 use crate::edits::{
     add_assign, add_prereq, add_recipe, add_rule, add_word, append_value, insert_recipe,
-    remove_assign, remove_prereq, remove_recipe, remove_rule, rename_target, set_recipe,
-    set_recipe_by_text, set_value,
+    remove_assign, remove_prereq, remove_recipe, remove_rule, remove_word, rename_target,
+    set_recipe, set_recipe_by_text, set_value,
 };
 use mk_class::{Context, Flavor, Meter};
 use mk_edit::{Edit, RuleSeparator, plan_with};
@@ -230,6 +230,7 @@ fn what_is_known_after_each_edit_of_a_line_is_what_a_walk_finds(
     check_after(&heap, &mut indexed, set_value(&heap, b"C", b"2"))?;
     check_after(&heap, &mut indexed, append_value(&heap, b"M", b"2"))?;
     check_after(&heap, &mut indexed, add_word(&heap, b"M", b"3"))?;
+    check_after(&heap, &mut indexed, remove_word(&heap, b"M", b"2"))?;
     check_after(&heap, &mut indexed, add_prereq(&heap, true, b"mid", b"new"))?;
     check_after(&heap, &mut indexed, remove_prereq(&heap, b"all", b"x"))?;
     check_after(&heap, &mut indexed, set_recipe(&heap, b"tail", 1, b"other"))?;

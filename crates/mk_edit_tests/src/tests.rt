@@ -7,8 +7,8 @@ use crate::checks::{
 };
 use crate::edits::{
     add_assign, add_prereq, add_recipe, add_rule, add_word, append_value, insert_recipe,
-    remove_assign, remove_prereq, remove_recipe, remove_recipe_by_text, remove_rule, rename_target,
-    set_recipe, set_recipe_by_text, set_value,
+    remove_assign, remove_prereq, remove_recipe, remove_recipe_by_text, remove_rule, remove_word,
+    rename_target, set_recipe, set_recipe_by_text, set_value,
 };
 use mk_class::{Flavor, Meter};
 use mk_edit::{Edit, Field, Refusal, RuleSeparator, plan};
@@ -42,6 +42,18 @@ fn a_word_is_put_after_a_value(rt: HostRuntime) -> Result<(), Fail> {
     check_accepted(&heap, b"F = -O2 # c\n", edit, b"F = -O2 -g # c\n")?;
     let edit = add_word(&heap, b"F", b"-g");
     check_accepted(&heap, b"F =\n", edit, b"F =-g\n")
+}
+
+#[test]
+fn a_word_is_taken_out_of_a_value(rt: HostRuntime) -> Result<(), Fail> {
+    let heap = Watched::new(rt.alloc());
+    let edit = remove_word(&heap, b"F", b"-g");
+    check_accepted(&heap, b"F = -g -O2 -g # c\n", edit, b"F = -O2 # c\n")?;
+    let edit = remove_word(&heap, b"F", b"-Werror");
+    let makefile = b"F = -O2 \\\n    -Werror \\\n    -g\n";
+    check_accepted(&heap, makefile, edit, b"F = -O2 \\\n    -g\n")?;
+    let edit = remove_word(&heap, b"F", b"-g");
+    check_accepted(&heap, b"F = -g # c\n", edit, b"F = # c\n")
 }
 
 #[test]
@@ -271,7 +283,11 @@ fn words_of_values_are_refused(rt: HostRuntime) -> Result<(), Fail> {
     let edit = add_word(&heap, b"F", b"a b");
     check_refused(&heap, b"F = x\n", edit, Refusal::BadArgument(Field::Word))?;
     let edit = add_word(&heap, b"F", b"-g");
-    check_refused(&heap, b"F = -O2 -g\n", edit, Refusal::Already)
+    check_refused(&heap, b"F = -O2 -g\n", edit, Refusal::Already)?;
+    let edit = remove_word(&heap, b"F", b"a b");
+    check_refused(&heap, b"F = a b\n", edit, Refusal::BadArgument(Field::Word))?;
+    let edit = remove_word(&heap, b"F", b"-g");
+    check_refused(&heap, b"F = -O2\n", edit, Refusal::Absent)
 }
 
 #[test]
@@ -279,6 +295,8 @@ fn open_ends_are_refused(rt: HostRuntime) -> Result<(), Fail> {
     let heap = Watched::new(rt.alloc());
     let edit = add_word(&heap, b"F", b"b");
     check_refused(&heap, b"F = a$\\\n\n", edit, Refusal::OpenValue)?;
+    let edit = remove_word(&heap, b"F", b"z");
+    check_refused(&heap, b"F = a\\\\ z# c\n", edit, Refusal::OpenValue)?;
     let edit = append_value(&heap, b"X", b"${)#}");
     check_refused(&heap, b"X = $(foo\n", edit, Refusal::OpenValue)?;
     let edit = add_assign(&heap, b"Y", Flavor::Recursive, b"1");

@@ -73,7 +73,7 @@ fn variable_edit(rt: &HostRuntime, numbers: &mut Numbers) -> Result<Edit, AllocE
     let nth = nth(numbers);
     let name = numbers.one_of(rt, &NAMES)?;
     let value = numbers.one_of(rt, &VALUES)?;
-    Ok(match numbers.below(5) {
+    Ok(match numbers.below(6) {
         0 => Edit::SetValue { nth, name, value },
         1 => Edit::AppendValue { nth, name, value },
         2 => Edit::AddWord {
@@ -81,7 +81,12 @@ fn variable_edit(rt: &HostRuntime, numbers: &mut Numbers) -> Result<Edit, AllocE
             name,
             word: value,
         },
-        3 => Edit::AddAssign {
+        3 => Edit::RemoveWord {
+            nth,
+            name,
+            word: value,
+        },
+        4 => Edit::AddAssign {
             place: place(rt, numbers)?,
             name,
             flavor: flavor(numbers),

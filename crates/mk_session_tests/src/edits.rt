@@ -50,6 +50,21 @@ pub fn add_word<A: Allocator + Copy>(
     })
 }
 
+/// Takes a word out of the value of a variable.
+pub fn remove_word<A: Allocator + Copy>(
+    alloc: A,
+    name: &[u8],
+    word: &[u8],
+) -> Result<Edit<A>, AllocError> {
+    let name = Vec::from_slice(alloc, name)?;
+    let word = Vec::from_slice(alloc, word)?;
+    Ok(Edit::RemoveWord {
+        nth: None,
+        name,
+        word,
+    })
+}
+
 /// Puts `NAME := VALUE` at the end.
 pub fn add_assign<A: Allocator + Copy>(
     alloc: A,

@@ -38,6 +38,7 @@ const CALLS: &[Step] = &[
     Step::SetValue(b"C", b"2"),
     Step::AppendValue(b"M", b"3"),
     Step::AddWord(b"M", b"4"),
+    Step::RemoveWord(b"M", b"2"),
     Step::AddAssign(b"D", b"5"),
     Step::AddRule(b"new", b"mid"),
     Step::AddOrderPrereq(b"mid", b"new"),
@@ -66,12 +67,13 @@ const CALLS: &[Step] = &[
 ];
 
 // Edits of each kind. Some of them are refused after some of the calls.
-const EDITS: [Step; 20] = [
+const EDITS: [Step; 21] = [
     Step::SetValue(b"A", b"7"),
     Step::SetValue(b"B", b"7"),
     Step::SetValue(b"C", b"7"),
     Step::AppendValue(b"M", b"7"),
     Step::AddWord(b"M", b"4"),
+    Step::RemoveWord(b"M", b"3"),
     Step::AddAssign(b"E", b"7"),
     Step::RemoveAssign(b"D"),
     Step::AddRule(b"last", b"a"),
@@ -227,10 +229,11 @@ fn refused_in_turn<'a>(
 }
 
 // An edit of each kind, each of which is accepted.
-const ACCEPTED: [Step; 14] = [
+const ACCEPTED: [Step; 15] = [
     Step::SetValue(b"C", b"2"),
     Step::AppendValue(b"M", b"3"),
     Step::AddWord(b"M", b"4"),
+    Step::RemoveWord(b"M", b"2"),
     Step::AddAssign(b"D", b"5"),
     Step::RemoveAssign(b"A"),
     Step::AddRule(b"new", b"mid"),

@@ -264,7 +264,7 @@ fn each_refused_growth_of_a_begin_changes_nothing(rt: HostRuntime) -> Result<(),
 type Refused = (&'static [u8], Step, Refusal);
 
 // One of each kind at least.
-const REFUSED_EDITS: [Refused; 17] = [
+const REFUSED_EDITS: [Refused; 19] = [
     (
         b"ifdef A\nCC=x\nelse\nCC=y\nendif\n",
         Step::SetValue(b"CC", b"z"),
@@ -280,6 +280,12 @@ const REFUSED_EDITS: [Refused; 17] = [
         Step::AddWord(b"F", b"b"),
         Refusal::OpenValue,
     ),
+    (
+        b"F = a\\\\ z# c\n",
+        Step::RemoveWord(b"F", b"z"),
+        Refusal::OpenValue,
+    ),
+    (b"F = -O2\n", Step::RemoveWord(b"F", b"-g"), Refusal::Absent),
     (b"X = a\\", Step::AddAssign(b"Y", b"1"), Refusal::OpenLine),
     (
         b"foo:\nX = 1\n\tY = 2\n",

@@ -1,8 +1,8 @@
 //! Calls of a session as constants, each with its answer, and sessions that are asked for them.
 use crate::edits::{
     add_assign, add_order_prereq, add_recipe, add_rule, add_word, append_value, insert_recipe,
-    remove_assign, remove_prereq, remove_recipe, remove_recipe_by_text, remove_rule, rename_target,
-    set_recipe, set_recipe_by_text, set_value,
+    remove_assign, remove_prereq, remove_recipe, remove_recipe_by_text, remove_rule, remove_word,
+    rename_target, set_recipe, set_recipe_by_text, set_value,
 };
 use crate::texts::is_as_parsed;
 use mk_lines::Fault;
@@ -19,6 +19,8 @@ pub enum Step {
     AppendValue(&'static [u8], &'static [u8]),
     /// Name and word.
     AddWord(&'static [u8], &'static [u8]),
+    /// Name and word.
+    RemoveWord(&'static [u8], &'static [u8]),
     /// Name and value.
     AddAssign(&'static [u8], &'static [u8]),
     /// Name.
@@ -62,6 +64,7 @@ impl Step {
             Step::SetValue(name, value) => set_value(alloc, name, value),
             Step::AppendValue(name, value) => append_value(alloc, name, value),
             Step::AddWord(name, word) => add_word(alloc, name, word),
+            Step::RemoveWord(name, word) => remove_word(alloc, name, word),
             Step::AddAssign(name, value) => add_assign(alloc, name, value),
             Step::RemoveAssign(name) => remove_assign(alloc, name),
             Step::AddRule(targets, prereqs) => add_rule(alloc, targets, prereqs),

@@ -26,10 +26,11 @@ const FRONT: &[u8] = b"A=1\nall: a b\n\tx\n\ty\n";
 
 // An edit of each kind, by its command in a script, with the number of lines that it changes in such
 // a document.
-const EDITS: [(&str, Step, usize); 16] = [
+const EDITS: [(&str, Step, usize); 17] = [
     ("set", Step::SetValue(b"A", b"2"), 1),
     ("append", Step::AppendValue(b"A", b"2"), 1),
     ("add", Step::AddWord(b"A", b"2"), 1),
+    ("drop", Step::RemoveWord(b"A", b"1"), 1),
     ("assign", Step::AddAssign(b"C", b"2"), 1),
     ("unset", Step::RemoveAssign(b"A"), 1),
     ("rule", Step::AddRule(b"c", b"d"), 1),

@@ -12,7 +12,7 @@ pub struct Script {
 }
 
 /// Each command, each place, operator and separator, numbers, quotes and line ends.
-pub static SCRIPTS: [Script; 21] = [
+pub static SCRIPTS: [Script; 22] = [
     Script {
         text: b"",
         steps: b"",
@@ -36,6 +36,11 @@ pub static SCRIPTS: [Script; 21] = [
     Script {
         text: b"add F -g\nnth 2 \"add\" F \"-O2\"",
         steps: b"1 AddWord -|F|-g\n2 AddWord 2|F|-O2\n",
+        growths: 5,
+    },
+    Script {
+        text: b"drop F -g\nnth 2 \"drop\" F \"-O2\"",
+        steps: b"1 RemoveWord -|F|-g\n2 RemoveWord 2|F|-O2\n",
         growths: 5,
     },
     Script {

@@ -131,6 +131,9 @@ fn put_edit<A: Allocator>(
         Edit::AddWord { nth, name, word } => {
             put_named(alloc, out, b"AddWord", *nth, &[name, word])
         }
+        Edit::RemoveWord { nth, name, word } => {
+            put_named(alloc, out, b"RemoveWord", *nth, &[name, word])
+        }
         Edit::AddAssign {
             place,
             name,
