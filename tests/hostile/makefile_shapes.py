@@ -181,7 +181,11 @@ def recipe_lines(size):
         ("unrule", b"unrule many", []),
         ("rename", b"rename many new", [(b"new:\n", 1), (line, count)]),
     )
-    said = {"rules": [(b"1:0: many: [%d]\n" % count, 1)]}
+
+    def recipe(at):
+        return b"%d:0: many [%d] echo 123456789\n" % (at + 2, at + 1)
+
+    said = {"rules": [(b"1:0: many: [%d]\n" % count, 1)], "recipes": [(recipe, count)]}
     return Shape("recipe lines", part, said, edits)
 
 
@@ -193,7 +197,8 @@ def one_recipe_line(size):
         ("recipe-del", b"recipe-del many 1", [(b"many:\n", 1)]),
         ("unrule", b"unrule many", []),
     )
-    return Shape("one recipe line", part, {"rules": [(b"1:0: many: [1]\n", 1)]}, edits)
+    said = {"rules": [(b"1:0: many: [1]\n", 1)], "recipes": [(b"2:0: many [1] ", 1), (b"a ", size // 4), (b"b\n", 1)]}
+    return Shape("one recipe line", part, said, edits)
 
 
 def inline_recipe(size):

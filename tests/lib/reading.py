@@ -41,12 +41,13 @@ class Context(NamedTuple):
 
 
 class Line(NamedTuple):
-    """A line as it was read: the number of its first physical line, its context, class and parts."""
+    """A line as it was read: the number of its first physical line, its context, class, parts and bytes."""
 
     number: int
     context: Context
     kind: str
     parts: tuple
+    raw: bytes
 
 
 def line_end(raw):
@@ -366,7 +367,7 @@ def read(text):
             parts = (body[1:],)
         elif kind not in ("Assign", "TargetAssign", "Header"):
             parts = (body,)
-        lines.append(Line(number, context, kind, parts))
+        lines.append(Line(number, context, kind, parts, raw))
         context = context_after(context, raw, kind, parts)
     return lines, context
 
@@ -437,7 +438,8 @@ def recipes_text(text):
                 break
             if below.kind == "Recipe":
                 number += 1
-                out += place(below) + b" ".join(line.parts[0]) + b" [%d] " % number + joined(below.parts[0])[0] + b"\n"
+                command = joined(below.raw)[0][1:]
+                out += place(below) + b" ".join(line.parts[0]) + b" [%d] " % number + command + b"\n"
     return out
 
 
