@@ -10,12 +10,13 @@ use Rattle.mk_class.specs.Classes.Class.{Header}
 use Rattle.mk_class.specs.ClassedLines.{ClassedLine}
 use Rattle.mk_tree.specs.Documents.{text_of}
 use Rattle.mk_tree.specs.LineTexts.{StandingLine}
-use Rattle.mk_edit_language.specs.Edits.{Edit, SetValue, AppendValue, AddWord, RemoveWord, AddAssign, RemoveAssign, AddRule, RemoveRule, AddPrereq, RemovePrereq, AddRecipe, SetRecipe, RemoveRecipe, InsertRecipe, SetRecipeByText, RemoveRecipeByText, RenameTarget}
+use Rattle.mk_edit_language.specs.Edits.{Edit, SetValue, AppendValue, AddWord, RemoveWord, ChangeValues, AddAssign, RemoveAssign, AddRule, RemoveRule, AddPrereq, RemovePrereq, AddRecipe, SetRecipe, RemoveRecipe, InsertRecipe, SetRecipeByText, RemoveRecipeByText, RenameTarget}
 use Rattle.mk_edit_language.specs.Addresses.{Variable, Rule, found}
 use Rattle.mk_edit_language.specs.Stretches.{Stretch, insertion, removal, recipe_found, text_number}
 use Rattle.mk_edit_language.specs.NewLines.{new_line_span}
 use Rattle.mk_edit_language.specs.ValueSpans.{value_span, value_spans, set_value_span, append_value_span}
 use Rattle.mk_edit_language.specs.ValueWords.{remove_word_spans}
+use Rattle.mk_edit_language.specs.ValueChanges.{changed_spans}
 use Rattle.mk_edit_language.specs.WordPieces.{add_pieces, remove_pieces, renamed_pieces}
 
 -- the span of whole lines with their line ends
@@ -61,6 +62,7 @@ spans_of t ls (AddWord nth n w) =
     where_found (value_span (append_value_span w)) (found ls (Variable nth n))
 spans_of t ls (RemoveWord nth n w) =
     where_found (value_spans (remove_word_spans w)) (found ls (Variable nth n))
+spans_of t ls (ChangeValues n c) = changed_spans n c 0 ls
 spans_of t ls (AddAssign p n f v) =
     where_found (new_line_span t (AddAssign p n f v)) (insertion ls (AddAssign p n f v))
 spans_of t ls (RemoveAssign nth n) = where_found removed_span (removal ls (RemoveAssign nth n))
