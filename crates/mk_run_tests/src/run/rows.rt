@@ -142,9 +142,9 @@ pub static CASES: [Case; 51] = [
         b"F = -g\nF += -g\nt: F = 1\n",
     ),
     Case::Refused(
-        b"F = a\nF += $(b\n",
-        b"all set G 1\nor all append F c\n",
-        b"2: refused 11 OpenValue\n",
+        b"F = a\nF += b\n",
+        b"all set G 1\nor all add F \"c d\"\n",
+        b"2: refused 1 BadArgument word\n",
     ),
     Case::KeptGoing(
         1,
