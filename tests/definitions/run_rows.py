@@ -40,7 +40,7 @@ IMPORTS = [
     ("Rattle.mk_history.specs.Machine", ["Apply", *CALLS.values()]),
     ("Rattle.mk_history.specs.Shown", ["shown_opened"]),
     ("Rattle.mk_script.specs.Scripts", ["Step", "Chain"]),
-    ("Rattle.mk_script.proofs.on_scripts.ReaderLemmas", ["on_line", "edit_on", "tried_on"]),
+    ("Rattle.mk_run_rows.proofs.scripts.ScriptReader", ["on_line", "edit_on", "tried_on"]),
     ("Rattle.mk_run.specs.ObeyedSteps", ["obeyed_steps"]),
     ("Rattle.mk_run.specs.Runs", ["RunResult", "result_after"]),
     ("Rattle.mk_run.specs.declared.outcome.Outcome", ["Outcome"]),

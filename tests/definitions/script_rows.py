@@ -2,7 +2,7 @@
 """Scripts as equations that the checker computes.
 
 Turns tables of scripts into a file of equations, by which the checker computes the reading of scripts
-in `crates/mk_script`, which is proved to be what the definitions say. What a script means is read here
+in `crates/mk_run_rows`, which is proved to be what the definitions say. What a script means is read here
 by other means: its lines and fields by regular expressions, its commands by the table below. Where a
 table has the column `meaning`, which was written by hand, the answer is the table's, and this reading
 has to agree with it.
@@ -295,7 +295,7 @@ IMPORTS = [
     ("Rattle.mk_edit_language.specs.Edits", "edits"),
     ("Rattle.mk_history.specs.Machine", ["Apply", *CALLS.values()]),
     ("Rattle.mk_script.specs.Scripts", ["Chain"]),
-    ("Rattle.mk_script.proofs.on_scripts.ReaderLemmas", ["on_line", "edit_on", "tried_on", "read_script"]),
+    ("Rattle.mk_run_rows.proofs.scripts.ScriptReader", ["on_line", "edit_on", "tried_on", "read_script"]),
 ]
 
 

@@ -6,6 +6,7 @@ which sources it refuses.
 """
 
 import contextlib
+import io
 import os
 import re
 import shutil
@@ -18,7 +19,7 @@ from pathlib import Path
 
 from tests import TOP
 
-from . import believed, bodies, documents, maps, meters, repeats
+from . import believed, bodies, documents, maps, meters, refuse, repeats
 from .beside import GIVES_WAY, Tasks, in_lanes
 from .listed import listed, with_below
 from .part import copy_part
@@ -450,6 +451,33 @@ class Toolchain(unittest.TestCase):
     def test_a_proof_that_names_what_is_gone_is_no_fault(self):
         error = "./proofs/a/f/Answers.antt:3:1: error: `loop-x` is not in scope\nfn low::a::f: not proved\nonly=1 proved=0\n"
         self.assertIsNone(Said("low", error).fault_of("a::f"))
+
+
+class Refuse(InRoom):
+    """What is told of wrong bodies that are tried by hand."""
+
+    def seed(self, said, is_built=False):
+        """The seed of a function of a crate whose check says this."""
+        crate = types.SimpleNamespace(name="low", folder=str(self.room), is_program=False, is_built=lambda: is_built)
+        script = types.SimpleNamespace(checked=lambda *_: types.SimpleNamespace(stdout=said), linked=linked)
+        return refuse.seed_of(script, crate, {"a::f"}, self.room)
+
+    def test_a_function_that_is_not_proved_as_it_stands_is_told(self):
+        for said, word in (("fn low::a::f: no proof\nonly=1 proved=0\n", "a::f"), ("error: no module\n", "no module")):
+            with self.assertRaisesRegex(refuse.NotTried, word):
+                self.seed(said)
+            shutil.rmtree(self.room / "seed")
+        self.assertTrue(os.path.isdir(self.seed("fn low::a::f: proved\nonly=1 proved=1\n")))
+
+    def test_a_seed_is_what_the_crate_has_kept(self):
+        (self.room / "out/incremental").mkdir(parents=True)
+        (self.room / "out/incremental/a").write_text("proved")
+        self.assertEqual(os.listdir(self.seed("", is_built=True)), ["a"])
+
+    def test_each_wrong_body_has_a_line_and_is_counted(self):
+        with contextlib.redirect_stdout(io.StringIO()) as told:
+            self.assertFalse(refuse.tell("low", {"b": (False, "proved"), "a": (True, "a goal")}))
+        self.assertEqual(told.getvalue(), "low/a: refused: a goal\nlow/b: NOT REFUSED: proved\n1 passed, 1 failed\n")
 
 
 class Documents(unittest.TestCase):

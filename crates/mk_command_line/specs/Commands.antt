@@ -112,10 +112,15 @@ refusal_rule = record (new_rule (codes "REFUSAL")) { required = true }
 
 -- ---- the commands
 
+-- those of `edit`, in the order of its help: of the run, of where its text goes, and others
+abbrev pub run_options : List Rule
+run_options = keep_going_rule ∷ depth_rule ∷ output_rule ∷ []
+
+abbrev pub output_options : List Rule
+output_options = in_place_rule ∷ backup_rule ∷ diff_rule ∷ []
+
 abbrev pub edit_options : List Rule
-edit_options =
-    keep_going_rule ∷ depth_rule ∷ output_rule ∷ in_place_rule ∷ backup_rule ∷ diff_rule
-    ∷ expression_rule ∷ notes_rule ∷ []
+edit_options = run_options ++ output_options ++ expression_rule ∷ notes_rule ∷ []
 
 abbrev arguments_of : CommandName → List Rule
 arguments_of Edit = edit_options ++ script_rule ∷ file_rule ∷ []

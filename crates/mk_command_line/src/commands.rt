@@ -1,8 +1,8 @@
 //! The commands with their arguments, as `clap` has to read them.
-ghost use Rattle.std.specs.Prelude.{◌≡◌, IfOk, false, map, [], string_bytes};
+ghost use Rattle.std.specs.Prelude.{◌≡◌, ◌++◌, IfOk, false, map, [], string_bytes};
 ghost use Rattle.clap.specs.Words.{app_of, with_subcommand};
 ghost use Rattle.clap.specs.declared.builder.command.Command.TheViews.{out-Command as fields_of};
-ghost use Rattle.mk_command_line.specs.Commands.{command_app, commands, edit_options, leaf};
+ghost use Rattle.mk_command_line.specs.Commands.{command_app, commands, edit_options, leaf, output_options, run_options};
 ghost use Rattle.mk_command_line.specs.Commands.{first_command, program_for, program_with, shape_of_command, word_of};
 
 use crate::arguments::{
@@ -33,19 +33,34 @@ fn titled<'a>(alloc: Global, name: CommandName) -> Command<'a>
         .after_help(help::example(name))
 }
 
-// `edit` with its options.
-fn edit_options<'a>(alloc: Global) -> Result<Command<'a>, AllocError>
-    ensures app { IfOk result (λ edit. app_of edit ≡ leaf (word_of CommandName.Edit) edit_options) }
+// `edit` with the first of its options.
+fn run_options<'a>(alloc: Global) -> Result<Command<'a>, AllocError>
+    ensures app { IfOk result (λ edit. app_of edit ≡ leaf (word_of CommandName.Edit) run_options) }
     ensures local { IfOk result (λ edit. (fields_of edit).has_globals ≡ false) }
 {
     titled(alloc, CommandName::Edit)
         .override_usage(EDIT_USAGE)
         .arg(keep_going(alloc))?
         .arg(depth(alloc))?
-        .arg(output(alloc))?
-        .arg(in_place(alloc)?)?
-        .arg(backup(alloc))?
-        .arg(diff(alloc)?)?
+        .arg(output(alloc))
+}
+
+// `edit` with these, and with the options on where the text goes.
+fn output_options<'a>(alloc: Global) -> Result<Command<'a>, AllocError>
+    ensures app { IfOk result (λ edit. app_of edit
+        ≡ leaf (word_of CommandName.Edit) (run_options ++ output_options)) }
+    ensures local { IfOk result (λ edit. (fields_of edit).has_globals ≡ false) }
+{
+    let edit = run_options(alloc)?.arg(in_place(alloc)?)?;
+    edit.arg(backup(alloc))?.arg(diff(alloc)?)
+}
+
+// `edit` with all of its options.
+fn edit_options<'a>(alloc: Global) -> Result<Command<'a>, AllocError>
+    ensures app { IfOk result (λ edit. app_of edit ≡ leaf (word_of CommandName.Edit) edit_options) }
+    ensures local { IfOk result (λ edit. (fields_of edit).has_globals ≡ false) }
+{
+    output_options(alloc)?
         .arg(expression(alloc))?
         .arg(notes(alloc))
 }

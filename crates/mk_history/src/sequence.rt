@@ -60,6 +60,22 @@ fn make_all<C: SureChange + Drop, A: Allocator>(
     }
 }
 
+// Gives a ring this room, where it has less.
+fn widen<T, A: Allocator + Clone>(
+    ring: &mut HeapCircularBuffer<T, A>,
+    room: usize,
+) -> Result<(), AllocError>
+    requires { length ring.old.items ≤ ring.old.capacity }
+    ensures items { ring.new.items ≡ ring.old.items }
+    ensures room { OnOk result (room ≤ ring.new.capacity) }
+    ensures kept { ring.old.capacity ≤ ring.new.capacity }
+{
+    if ring.capacity() < room {
+        ring.resize(room)?;
+    }
+    Ok(())
+}
+
 impl<C: SureChange + Drop, A: Allocator> Sequence<C, A> {
     /// No change, with room for `room` changes.
     ///
@@ -123,13 +139,8 @@ impl<C: SureChange + Drop, A: Allocator> Sequence<C, A> {
             return Err(AllocError);
         };
         let room = wanted.max(self.room().saturating_mul(2));
-        if self.taken.capacity() < room {
-            self.taken.resize(room)?;
-        }
-        if self.waiting.capacity() < room {
-            self.waiting.resize(room)?;
-        }
-        Ok(())
+        widen(&mut self.taken, room)?;
+        widen(&mut self.waiting, room)
     }
 
     /// Puts a change before the others. There has to be room for it. Takes no memory.

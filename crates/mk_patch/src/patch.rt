@@ -1,5 +1,5 @@
 //! Several lines that are moved, as one change.
-ghost use Rattle.std.specs.Prelude.{◌≡◌, ◌≤◌, ◌+◌, [], ◌∷◌, None, IfSome, length, option_copied, option_map, slice_get};
+ghost use Rattle.std.specs.Prelude.{◌≡◌, ◌≤◌, ◌<◌, ◌+◌, [], ◌∷◌, None, IfSome, length, option_copied, option_map, slice_get};
 ghost use Rattle.mk_patch.specs.Moves.{FitMoves, after_moves, held_by, taken_by};
 ghost use Rattle.mk_patch.specs.StepMoves.{move_of, moves_of};
 
@@ -42,6 +42,15 @@ impl<A: Allocator> Model for Patch<A> {
         × (p.takes ≡ taken_by (moves_of p.waiting.items)) };
 }
 
+// Puts a value in front of others. There has to be room for it.
+fn put_front<T: Drop, A: Allocator>(ring: &mut HeapCircularBuffer<T, A>, value: T)
+    requires { length ring.old.items < ring.old.capacity }
+    ensures items { ring.new.items ≡ value ∷ ring.old.items }
+    ensures room { ring.new.capacity ≡ ring.old.capacity }
+{
+    ring.push_front(value);
+}
+
 // Makes each step that waits, and keeps the steps that take these back, with the last in front.
 fn make_all<A: Allocator>(
     waiting: &mut HeapCircularBuffer<Step<A>, A>,
@@ -62,7 +71,7 @@ fn make_all<A: Allocator>(
     ensures takes { taken_by (moves_of inverses.new.items) ≡ held_by (moves_of waiting.old.items) }
 {
     while let Some(step) = waiting.pop_front() {
-        inverses.push_front(step.make(doc));
+        put_front(inverses, step.make(doc));
     }
 }
 

@@ -4,5 +4,3 @@ pub mod on_fields
 pub mod on_commands
 -- Lines and scripts
 pub mod on_scripts
--- What the definitions say of scripts whose meaning is known from outside
-mod rows

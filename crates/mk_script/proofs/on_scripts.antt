@@ -4,6 +4,5 @@ pub mod GroupLemmas
 pub mod AddLemmas
 pub mod ScriptLemmas
 pub mod OneLemmas
-pub mod ReaderLemmas
 pub mod WrittenLines
 pub mod CommandLemmas

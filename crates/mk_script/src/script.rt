@@ -69,7 +69,7 @@ fn add_line<A: Allocator + Copy>(
     let (word, rest) = first_field(line)?;
     if word.is(b"try") {
         let edit = read_edit_line(alloc, rest)?;
-        push_step(steps, Step::Try(NumberedEdit { line: number, edit }))
+        push(steps, Step::Try(NumberedEdit { line: number, edit }))
     } else if word.is(b"or") {
         add_alternative(alloc, steps, number, rest)
     } else {
@@ -78,7 +78,7 @@ fn add_line<A: Allocator + Copy>(
             line: number,
             command,
         };
-        push_step(steps, Step::Alone(numbered))
+        push(steps, Step::Alone(numbered))
     }
 }
 
@@ -99,17 +99,15 @@ fn add_alternative<A: Allocator + Copy>(
         return Err(LineFault::NotACommand);
     };
     let edit = read_edit_line(alloc, rest)?;
-    match others.push(NumberedEdit { line: number, edit }) {
-        Ok(()) => push_step(steps, Step::Chain(Chain { first, others })),
-        Err(_) => Err(LineFault::NoMemory),
-    }
+    push(&mut others, NumberedEdit { line: number, edit })?;
+    push(steps, Step::Chain(Chain { first, others }))
 }
 
-// Puts a step behind the others.
-fn push_step<A: Allocator>(steps: &mut Vec<Step<A>, A>, step: Step<A>) -> Result<(), LineFault>
-    ensures { Pushes steps.old.items step steps.new.items result }
+// Puts a value behind others.
+fn push<T: Drop, A: Allocator>(values: &mut Vec<T, A>, value: T) -> Result<(), LineFault>
+    ensures { Pushes values.old.items value values.new.items result }
 {
-    match steps.push(step) {
+    match values.push(value) {
         Ok(()) => Ok(()),
         Err(_) => Err(LineFault::NoMemory),
     }

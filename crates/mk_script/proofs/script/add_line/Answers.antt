@@ -34,10 +34,10 @@ returns-in_ok-edit g c =
     let steps = map step_of c.args.steps.now.items in
     let n = c.args.number in
     let e = edit_of c.in_ok-edit.edit in
-    added step_of steps c.args.steps.now.items c.push_step.new.steps.items _ n _ (Try e) c.push_step.result
+    added step_of steps c.args.steps.now.items c.push.new.values.items _ n _ (Try e) c.push.result
     (said-try c.args.line.now (field_text c.in_ok-word.word) c.in_ok-word.rest.now c.in_ok-word.ensures (sym c.is.ensures ∙ c.if-is.true) ∙ ap (λ o. option_map Try o) c.in_ok-edit.ensures)
     (step-more steps (Tried (record { line = n; edit = e })) _ refl)
-    c.push_step.ensures
+    c.push.ensures
 
 pub returns-then-is-2 : goal.returns-then-is-2
 returns-then-is-2 g c =
@@ -51,8 +51,8 @@ returns-in_ok-command g c =
     let n = c.args.number in
     let word = field_text c.in_ok-word.word in
     let d = command_of c.in_ok-command.command in
-    added step_of steps c.args.steps.now.items c.push_step-else-is-2.new.steps.items _ n _ (Plain d) c.push_step-else-is-2.result
+    added step_of steps c.args.steps.now.items c.push-else-is-2.new.values.items _ n _ (Plain d) c.push-else-is-2.result
     (said-plain c.args.line.now word c.in_ok-word.rest.now c.in_ok-word.ensures (sym c.is.ensures ∙ c.if-is.false) (sym c.is-else-is.ensures ∙ c.if-is-2.false)
     ∙ ap (λ o. option_map Plain o) c.in_ok-command.ensures)
     (step-more steps (Alone (record { line = n; command = d })) _ refl)
-    c.push_step-else-is-2.ensures
+    c.push-else-is-2.ensures

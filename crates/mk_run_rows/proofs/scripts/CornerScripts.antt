@@ -9,7 +9,7 @@ use Rattle.mk_edit_language.specs.Edits.{SetValue, AppendValue, AddAssign, Remov
 use Rattle.mk_edit_language.specs.Edits as edits
 use Rattle.mk_history.specs.Machine.{Apply, Undo, Redo, Begin, End, Cancel}
 use Rattle.mk_script.specs.Scripts.{Chain}
-use Rattle.mk_script.proofs.on_scripts.ReaderLemmas.{on_line, edit_on, tried_on, read_script}
+use Rattle.mk_run_rows.proofs.scripts.ScriptReader.{on_line, edit_on, tried_on, read_script}
 
 row_a_quoted_blank : read_script (codes "set X \"a b\"") ≡ Ok (on_line 1 (Apply (SetValue None (codes "X") (codes "a b"))) ∷ [])
 unfolding line_len lines_from

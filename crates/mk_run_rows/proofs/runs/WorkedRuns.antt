@@ -10,7 +10,7 @@ use Rattle.mk_edit_language.specs.Edits as edits
 use Rattle.mk_history.specs.Machine.{Apply, Undo, Redo, Begin, End, Cancel}
 use Rattle.mk_history.specs.Shown.{shown_opened}
 use Rattle.mk_script.specs.Scripts.{Step}
-use Rattle.mk_script.proofs.on_scripts.ReaderLemmas.{on_line}
+use Rattle.mk_run_rows.proofs.scripts.ScriptReader.{on_line}
 use Rattle.mk_run.specs.ObeyedSteps.{obeyed_steps}
 use Rattle.mk_run.specs.Runs.{RunResult, result_after}
 use Rattle.mk_run.specs.declared.outcome.Outcome.{Outcome}

@@ -7,7 +7,7 @@ use Rattle.mk_edit_language.specs.declared.edit.RuleSeparator.TheVariants.{Singl
 use Rattle.mk_edit_language.specs.Edits.{Bottom, BeforeVar, AfterVar, BeforeRule}
 use Rattle.mk_edit_language.specs.Edits.{SetValue, AppendValue, AddAssign, RemoveAssign, AddRule, RemoveRule, AddPrereq, RemovePrereq, AddRecipe, SetRecipe, RemoveRecipe, RenameTarget}
 use Rattle.mk_history.specs.Machine.{Apply, Undo, Redo, Begin, End, Cancel}
-use Rattle.mk_script.proofs.on_scripts.ReaderLemmas.{on_line, read_script}
+use Rattle.mk_run_rows.proofs.scripts.ScriptReader.{on_line, read_script}
 
 row_random_001 : read_script (codes "\r\n") ≡ Ok []
 unfolding line_len lines_from

@@ -9,7 +9,7 @@ use Rattle.mk_edit_language.specs.Edits.{SetValue, AppendValue, AddWord, RemoveW
 use Rattle.mk_edit_language.specs.Edits as edits
 use Rattle.mk_history.specs.Machine.{Apply, Undo, Redo, Begin, End, Cancel}
 use Rattle.mk_script.specs.Scripts.{Chain}
-use Rattle.mk_script.proofs.on_scripts.ReaderLemmas.{on_line, edit_on, tried_on, read_script}
+use Rattle.mk_run_rows.proofs.scripts.ScriptReader.{on_line, edit_on, tried_on, read_script}
 
 row_an_alternative_where_the_name_is_missing : read_script (codes "set CC clang\nor assign bottom CC = clang\n") ≡ Ok (Chain (edit_on 1 (SetValue None (codes "CC") (codes "clang"))) (edit_on 2 (AddAssign Bottom (codes "CC") Recursive (codes "clang"))) [] ∷ [])
 unfolding line_len lines_from

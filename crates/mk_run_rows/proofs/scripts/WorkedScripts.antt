@@ -8,7 +8,7 @@ use Rattle.mk_edit_language.specs.Edits.{Bottom, BeforeVar, AfterVar, BeforeRule
 use Rattle.mk_edit_language.specs.Edits.{SetValue, AppendValue, AddWord, RemoveWord, AddAssign, RemoveAssign, AddRule, RemoveRule, AddPrereq, RemovePrereq, AddRecipe, SetRecipe, RemoveRecipe, InsertRecipe, SetRecipeByText, RemoveRecipeByText, RenameTarget, ChangeValues}
 use Rattle.mk_edit_language.specs.Edits as edits
 use Rattle.mk_history.specs.Machine.{Apply, Undo, Redo, Begin, End, Cancel}
-use Rattle.mk_script.proofs.on_scripts.ReaderLemmas.{on_line, read_script}
+use Rattle.mk_run_rows.proofs.scripts.ScriptReader.{on_line, read_script}
 
 row_empty_script_on_an_empty_file : read_script [] ≡ Ok []
 unfolding line_len lines_from

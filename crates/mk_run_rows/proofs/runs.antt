@@ -1,0 +1,3 @@
+-- What the definitions say of runs whose answers are known from outside
+mod WorkedRuns
+mod AlternativeRuns

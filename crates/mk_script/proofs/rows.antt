@@ -1,5 +1,0 @@
-mod WorkedScripts
-mod RowMeanings
-mod RandomScripts
-mod CornerScripts
-mod AlternativeScripts
