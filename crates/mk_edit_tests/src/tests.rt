@@ -6,8 +6,8 @@ use crate::checks::{
     Heap, check_accepted, check_refused, check_refused_rename, document, growths_of_plan,
 };
 use crate::edits::{
-    add_assign, add_prereq, add_recipe, add_rule, add_word, append_value, insert_recipe,
-    remove_assign, remove_prereq, remove_recipe, remove_recipe_by_text, remove_rule, remove_word,
+    Kind, add_assign, add_prereq, add_recipe, add_rule, add_word, append_value, change_values,
+    insert_recipe, remove_assign, remove_prereq, remove_recipe, remove_recipe_by_text, remove_rule, remove_word,
     rename_target, set_recipe, set_recipe_by_text, set_value,
 };
 use mk_class::{Flavor, Meter};
@@ -54,6 +54,53 @@ fn a_word_is_taken_out_of_a_value(rt: HostRuntime) -> Result<(), Fail> {
     check_accepted(&heap, makefile, edit, b"F = -O2 \\\n    -g\n")?;
     let edit = remove_word(&heap, b"F", b"-g");
     check_accepted(&heap, b"F = -g # c\n", edit, b"F = # c\n")
+}
+
+#[test]
+fn each_value_of_a_name_is_set(rt: HostRuntime) -> Result<(), Fail> {
+    let heap = Watched::new(rt.alloc());
+    let edit = change_values(&heap, b"CC", Kind::Set, b"clang");
+    let makefile = b"CC = gcc-very-long # c\nX = 1\nCC := clang\nCC ?= a\n";
+    let expected = b"CC = clang # c\nX = 1\nCC := clang\nCC ?= clang\n";
+    check_accepted(&heap, makefile, edit, expected)?;
+    let edit = change_values(&heap, b"CC", Kind::Set, b"");
+    check_accepted(&heap, makefile, edit, b"CC = # c\nX = 1\nCC := \nCC ?= \n")
+}
+
+#[test]
+fn a_text_is_appended_to_each_value_of_a_name(rt: HostRuntime) -> Result<(), Fail> {
+    let heap = Watched::new(rt.alloc());
+    let edit = change_values(&heap, b"X", Kind::Append, b"b");
+    check_accepted(
+        &heap,
+        b"X = a\nifdef Y\nX =\nendif\nX += c",
+        edit,
+        b"X = a b\nifdef Y\nX =b\nendif\nX += c b",
+    )
+}
+
+#[test]
+fn a_word_is_put_after_each_value_of_a_name_without_it(rt: HostRuntime) -> Result<(), Fail> {
+    let heap = Watched::new(rt.alloc());
+    let edit = change_values(&heap, b"F", Kind::Add, b"-g");
+    check_accepted(
+        &heap,
+        b"F = -O2 # c\nF += -g\nG = 1\nF += -W \\\n -V\n",
+        edit,
+        b"F = -O2 -g # c\nF += -g\nG = 1\nF += -W \\\n -V -g\n",
+    )
+}
+
+#[test]
+fn a_word_is_taken_out_of_each_value_of_a_name(rt: HostRuntime) -> Result<(), Fail> {
+    let heap = Watched::new(rt.alloc());
+    let edit = change_values(&heap, b"F", Kind::Remove, b"-g");
+    check_accepted(
+        &heap,
+        b"F = -g -O2 -g # c\nF += a$\nF += -O2 \\\n -g\nF += -g\n",
+        edit,
+        b"F = -O2 # c\nF += a$\nF += -O2\nF += \n",
+    )
 }
 
 #[test]
