@@ -10,7 +10,7 @@ use Rattle.mk_edit_language.specs.LinesInPlace.{IsInPlace, AreOthersKeptApart}
 
 -- the bytes of a line after the change: the line with the spans in it replaced
 abbrev pub changed_bytes : (name : List ℕ) → ValueChange → ClassedLine → List ℕ
-changed_bytes n c l = replaced 0 l.bytes (changed_line_spans n c 0 l)
+changed_bytes n c l = replaced 0 l.bytes (changed_line_spans n c 0 l.class)
 
 -- a line after the change, in the place of a line that stands in this context
 pub record IsLineChanged (n : List ℕ) (c : ValueChange) (context : Context)

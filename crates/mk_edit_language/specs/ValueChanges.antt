@@ -1,6 +1,6 @@
 -- A change of every value of a name: the lines that it changes, and its spans in them.
 -- Told in docs/EDITS.md, "Variables".
-use Rattle.std.specs.Prelude.{ℕ, ◌+◌, ◌&&◌, if◌then◌else◌, Bool, true, false, not, List, [], ◌∷◌, ◌++◌, length}
+use Rattle.std.specs.Prelude.{ℕ, ◌&&◌, if◌then◌else◌, Bool, true, false, not, List, [], ◌∷◌}
 use Rattle.mk_lines.specs.Cells.{Cell}
 use Rattle.mk_lines.specs.Pieces.{Replacement}
 use Rattle.mk_class.specs.Assignments.{Assignment}
@@ -21,7 +21,7 @@ has_effect (Add w) a = not (has_value_word w a)
 has_effect (Remove w) a = has_value_word w a
 
 -- whether a line of this class is changed: it assigns the name, and the change does something to its
--- value
+-- value; and whether a line is
 abbrev pub is_class_changed : (name : List ℕ) → ValueChange → Class Cell → Bool
 is_class_changed n c (Assign a p) = assigns n (Assign a p) && has_effect c a
 is_class_changed n c k = false
@@ -36,15 +36,8 @@ change_spans (Append v) at a = append_value_span v at a ∷ []
 change_spans (Add w) at a = append_value_span w at a ∷ []
 change_spans (Remove w) at a = remove_word_spans w at a
 
--- the spans in a line; the line begins at this offset
-abbrev pub changed_line_spans : (name : List ℕ) → ValueChange → (line_start : ℕ) → ClassedLine
+-- the spans in a line of this class; the line begins at this offset
+abbrev pub changed_line_spans : (name : List ℕ) → ValueChange → (line_start : ℕ) → Class Cell
     → List Replacement
-changed_line_spans n c at l =
-    if is_changed n c l then assignment_spans (change_spans c) at l.class else []
-
--- the spans in lines; the first line begins at this offset
-abbrev pub changed_spans : (name : List ℕ) → ValueChange → (start : ℕ) → List ClassedLine
-    → List Replacement
-changed_spans n c at [] = []
-changed_spans n c at (l ∷ ls) =
-    changed_line_spans n c at l ++ changed_spans n c (at + length l.bytes) ls
+changed_line_spans n c at k =
+    if is_class_changed n c k then assignment_spans (change_spans c) at k else []
