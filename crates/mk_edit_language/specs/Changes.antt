@@ -89,15 +89,18 @@ value_changed t (Append v) at a = value_appended v a
 value_changed t (Add w) at a = value_appended w a
 value_changed t (Remove w) at a = value_without t w at a
 
+-- the item of a line that begins at this offset: with its value changed, if the line is changed
+abbrev pub changed_items : (text name : List ℕ) → ValueChange → (line_start : ℕ) → ClassedLine
+    → List Item
+changed_items t n c at l =
+    if is_changed n c l then value_item (value_changed t c) at l.class else items_of_line l.class l.bytes
+
 -- the items of lines, with each value of the name changed; the first line begins at this offset
 abbrev pub with_values : (text name : List ℕ) → ValueChange → (start : ℕ) → List ClassedLine
     → List Item
 with_values t n c at [] = []
 with_values t n c at (l ∷ ls) =
-    (if is_changed n c l
-    then value_item (value_changed t c) at l.class
-    else items_of_line l.class l.bytes)
-    ++ with_values t n c (at + length l.bytes) ls
+    changed_items t n c at l ++ with_values t n c (at + length l.bytes) ls
 
 -- ---- prerequisites and targets
 

@@ -25,8 +25,9 @@ use Rattle.mk_edit_language.specs.Addresses.{Variable, found}
 use Rattle.mk_edit_language.specs.Stretches.{Stretch, insertion, removal}
 use Rattle.mk_tree.specs.Documents.{context_of}
 use Rattle.mk_tree.specs.Leaning.{leans}
+use Rattle.mk_edit_language.specs.ValueWords.{assignment_passes}
 use Rattle.mk_edit_language.specs.ValueChanges.{is_changed}
-use Rattle.mk_edit_language.specs.RuleCauses.{class_found, assignment_passes}
+use Rattle.mk_edit_language.specs.RuleCauses.{class_found}
 use Rattle.mk_edit_language.specs.Causes.{where_holds}
 use Rattle.mk_edit_language.specs.declared.refusal.Refusal.{Refusal}
 use Rattle.mk_edit_language.specs.declared.refusal.Refusal.TheVariants.{OpenValue, OpenLine, OpenDefine, Leans, TooLong}

@@ -5,17 +5,16 @@ use Rattle.std.specs.Prelude.{ℕ, Bool, true, false, not, ◌||◌, nat_lt, Lis
 use Rattle.std.specs.List.{list_any}
 use Rattle.mk_lines.specs.Cells.{Cell, joined_byte}
 use Rattle.mk_class.specs.Texts.{is_one_of, word_texts}
-use Rattle.mk_class.specs.Assignments.{Assignment}
 use Rattle.mk_class.specs.Headers
 use Rattle.mk_class.specs.Classes.{Class, is_conditional}
-use Rattle.mk_class.specs.Classes.Class.{Assign, Header}
+use Rattle.mk_class.specs.Classes.Class.{Header}
 use Rattle.mk_class.specs.ClassedLines.{ClassedLine}
 use Rattle.mk_tree.specs.RecipeLines.{recipe_run}
 use Rattle.mk_tree.specs.LineTexts.{StandingLine}
 use Rattle.mk_edit_language.specs.Edits.{Edit, Add, Remove, AddWord, RemoveWord, ChangeValues, AddPrereq, RemovePrereq, RemoveRule, AddRecipe, SetRecipe, RemoveRecipe, InsertRecipe, SetRecipeByText, RemoveRecipeByText, RenameTarget}
 use Rattle.mk_edit_language.specs.Addresses.{Variable, Rule, found, targets_of, is_a_target}
 use Rattle.mk_edit_language.specs.Stretches.{recipe_found, recipes_of_text, recipe_gap}
-use Rattle.mk_edit_language.specs.ValueWords.{has_value_word}
+use Rattle.mk_edit_language.specs.ValueWords.{assignment_passes, has_value_word}
 use Rattle.mk_edit_language.specs.ValueChanges.{is_changed}
 use Rattle.mk_edit_language.specs.Causes.{where_holds}
 use Rattle.mk_edit_language.specs.declared.refusal.Refusal.{Refusal}
@@ -35,11 +34,6 @@ rule_class_found ls nth t = class_found (found ls (Rule nth t))
 abbrev pub header_passes : (Headers.Header Cell → Bool) → Option (Class Cell) → Bool
 header_passes p (Some (Header h)) = p h
 header_passes p k = false
-
--- whether an assignment is found and passes the test
-abbrev pub assignment_passes : (Assignment Cell → Bool) → Option (Class Cell) → Bool
-assignment_passes p (Some (Assign a s)) = p a
-assignment_passes p k = false
 
 -- ---- Absent: the word is no word of the value, or of any value of the name, or no prerequisite; there is no recipe line of this number or of this text,
 -- ---- or no place of this number for a new one

@@ -1,30 +1,28 @@
 -- A change of every value of a name: the lines that it changes, and its spans in them.
 -- Told in docs/EDITS.md, "Variables".
-use Rattle.std.specs.Prelude.{ℕ, ◌&&◌, if◌then◌else◌, Bool, true, false, not, List, [], ◌∷◌}
+use Rattle.std.specs.Prelude.{ℕ, ◌&&◌, if◌then◌else◌, Bool, true, not, List, [], ◌∷◌, Some}
 use Rattle.mk_lines.specs.Cells.{Cell}
 use Rattle.mk_lines.specs.Pieces.{Replacement}
 use Rattle.mk_class.specs.Assignments.{Assignment}
 use Rattle.mk_class.specs.Classes.{Class}
-use Rattle.mk_class.specs.Classes.Class.{Assign}
 use Rattle.mk_class.specs.ClassedLines.{ClassedLine}
 use Rattle.mk_edit_language.specs.Edits.{ValueChange, Set, Append, Add, Remove}
 use Rattle.mk_edit_language.specs.Addresses.{assigns}
 use Rattle.mk_edit_language.specs.ValueSpans.{set_value_span, append_value_span, assignment_spans}
-use Rattle.mk_edit_language.specs.ValueWords.{has_value_word, remove_word_spans}
+use Rattle.mk_edit_language.specs.ValueWords.{assignment_passes, has_value_word, remove_word_spans}
 
--- whether the change does something to the value of an assignment: a word is added where it is no
--- word of the value, and removed where it is one
-abbrev pub has_effect : ValueChange → Assignment Cell → Bool
-has_effect (Set v) a = true
-has_effect (Append v) a = true
-has_effect (Add w) a = not (has_value_word w a)
-has_effect (Remove w) a = has_value_word w a
+-- whether the change does something to the value of an assignment's line: a word is added where it
+-- is no word of the value, and removed where it is one
+abbrev pub has_effect : ValueChange → Class Cell → Bool
+has_effect (Set v) k = true
+has_effect (Append v) k = true
+has_effect (Add w) k = not (assignment_passes (has_value_word w) (Some k))
+has_effect (Remove w) k = assignment_passes (has_value_word w) (Some k)
 
 -- whether a line of this class is changed: it assigns the name, and the change does something to its
 -- value; and whether a line is
 abbrev pub is_class_changed : (name : List ℕ) → ValueChange → Class Cell → Bool
-is_class_changed n c (Assign a p) = assigns n (Assign a p) && has_effect c a
-is_class_changed n c k = false
+is_class_changed n c k = assigns n k && has_effect c k
 
 abbrev pub is_changed : (name : List ℕ) → ValueChange → ClassedLine → Bool
 is_changed n c l = is_class_changed n c l.class

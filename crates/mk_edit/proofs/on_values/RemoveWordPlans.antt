@@ -35,9 +35,9 @@ use Rattle.mk_edit_language.specs.Lengths.{bytes_put}
 use Rattle.mk_edit_language.specs.Stretches.{this_line}
 use Rattle.mk_edit_language.specs.EditSpans.{spans_of, where_found}
 use Rattle.mk_edit_language.specs.ValueSpans.{value_start, set_value_span, value_spans, assignment_spans}
-use Rattle.mk_edit_language.specs.ValueWords.{has_value_word, LedWord, led_words, staying, from_first_word, first_gaps, pieces_after, remove_word_pieces, remove_word_spans}
+use Rattle.mk_edit_language.specs.ValueWords.{assignment_passes, has_value_word, LedWord, led_words, staying, from_first_word, first_gaps, pieces_after, remove_word_pieces, remove_word_spans}
 use Rattle.mk_edit_language.specs.WordPieces.{is_word_of}
-use Rattle.mk_edit_language.specs.RuleCauses.{class_found, assignment_passes, absent}
+use Rattle.mk_edit_language.specs.RuleCauses.{class_found, absent}
 use Rattle.mk_edit_language.specs.LineCauses.{has_open_value, bares_end, bares_end_among, open_value, too_long}
 use Rattle.mk_edit_language.specs.Causes.{where_holds}
 use Rattle.mk_edit_language.specs.Refusals.{spans}
