@@ -1,10 +1,10 @@
 -- What a change of all values of a name finds among the lines of a document, which of them it changes,
 -- and the first cause of refusal that this decides.
 -- Told in docs/ARCHITECTURE.md, "An edit's way, from Edit to moved lines".
-use Rattle.std.specs.Prelude.{◌≡◌, ℕ, ◌+◌, ◌*◌, ◌==◌, ◌&&◌, ◌||◌, not, nat_lt, if◌then◌else◌, Bool, false, List, [], ◌∷◌, ◌++◌, drop, map, Option, Some, None, IfSome}
+use Rattle.std.specs.Prelude.{◌≡◌, ℕ, ◌+◌, ◌*◌, ◌≤◌, ◌==◌, ◌&&◌, ◌||◌, not, nat_lt, if◌then◌else◌, Bool, false, List, [], ◌∷◌, ◌++◌, drop, length, map, Option, Some, None, IfSome}
 use Rattle.mk_lines.specs.Limits.{max_text}
 use Rattle.mk_class.specs.Contexts.{Context, start, context_after_located}
-use Rattle.mk_tree.specs.LocatedLines.{LocatedLine}
+use Rattle.mk_tree.specs.LocatedLines.{LocatedLine, size_of}
 use Rattle.mk_tree.specs.Trees.{line_view}
 use Rattle.mk_edit_language.specs.Causes.{where_holds}
 use Rattle.mk_edit_language.specs.Edits.{ValueChange, Set, Append, Add, Remove}
@@ -82,11 +82,15 @@ meant_places n c ls = meant_places_from n c 0 start ls
 -- ---- a walk over a document
 
 -- A walk over a document has come to a place. What it has found, with what it finds among the lines
--- from the place on, is what is found among all lines; and so are its notes, if it has any.
+-- from the place on, is what is found among all lines; and so are its notes, if it has any. There is
+-- room for the numbers of what it finds.
 pub record IsSurveyedTo {A : _} {X : Type 0} (name : List ℕ) (c : ValueChange)
     (document : List LocatedLine) (place : Found) (findings : Findings)
     (items : X → List (Meant A)) (notes : Option X)
     : Type 0 where
+  pub few : findings.lines ≤ place.at
+  pub room : findings.spared
+      + (size_of (drop place.at document) + length (drop place.at document)) ≤ 2 * max_text
   pub findings_are : found_with name c findings (drop place.at document)
       ≡ findings_on name c document
   pub places_are : IfSome notes (λ p. map meant_view (items p)
