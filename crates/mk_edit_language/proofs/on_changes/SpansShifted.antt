@@ -32,11 +32,13 @@ replacements-shifted d a (Replace cs v ∷ ps) =
     let e : d + a + length (raw_text cs) ≡ d + (a + length (raw_text cs)) = omega arith in
     same_replacement (d + a) (d + a + length (raw_text cs)) (d + a) (d + (a + length (raw_text cs))) v _ _ refl e (ap (λ z. replacements z ps) e ∙ replacements-shifted d (a + length (raw_text cs)) ps)
 
+abbrev one_span : (start end : ℕ) → (new : List ℕ) → List Replacement
+one_span s e v = record { start = s; end = e; new = v } ∷ []
+
 set-shifted : (d at : ℕ) (a : Assignment Cell) (v : List ℕ) → set_value_span v (d + at) a ∷ [] ≡ shifted d (set_value_span v at a ∷ [])
 set-shifted d at a v = go (is_empty v)
   where
-    go : (b : Bool) → record { start = value_start (d + at) a; end = cond b (blanks_end (d + at) a) (value_end (d + at) a); new = v } ∷ []
-        ≡ record { start = d + value_start at a; end = d + cond b (blanks_end at a) (value_end at a); new = v } ∷ []
+    go : (b : Bool) → one_span (value_start (d + at) a) (cond b (blanks_end (d + at) a) (value_end (d + at) a)) v ≡ one_span (d + value_start at a) (d + cond b (blanks_end at a) (value_end at a)) v
     go true = same_replacement _ _ _ _ v [] [] (omega arith) (omega arith) refl
     go false = same_replacement _ _ _ _ v [] [] (omega arith) (omega arith) refl
 
