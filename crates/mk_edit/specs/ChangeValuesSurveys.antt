@@ -1,7 +1,7 @@
 -- What a change of all values of a name finds among the lines of a document, which of them it changes,
 -- and the first cause of refusal that this decides.
 -- Told in docs/ARCHITECTURE.md, "An edit's way, from Edit to moved lines".
-use Rattle.std.specs.Prelude.{◌≡◌, ℕ, ◌+◌, ◌*◌, ◌≤◌, ◌==◌, ◌&&◌, ◌||◌, not, nat_lt, if◌then◌else◌, Bool, false, List, [], ◌∷◌, ◌++◌, drop, length, map, Option, Some, None, IfSome}
+use Rattle.std.specs.Prelude.{◌≡◌, ℕ, ◌+◌, ◌*◌, ◌≤◌, ◌==◌, ◌||◌, not, nat_lt, if◌then◌else◌, Bool, false, List, [], ◌∷◌, ◌++◌, drop, length, map, Option, None, IfSome}
 use Rattle.mk_lines.specs.Limits.{max_text}
 use Rattle.mk_class.specs.Contexts.{Context, start, context_after_located}
 use Rattle.mk_tree.specs.LocatedLines.{LocatedLine, size_of}
@@ -20,7 +20,7 @@ use Rattle.mk_edit.specs.declared.change_values_survey.Findings.{Findings}
 -- ---- what is found
 
 -- what is found with one line more, by what is asked of the line
-abbrev pub found_so : (unread there changed open : Bool) → (spared : ℕ) → Findings → Findings
+abbrev pub found_so : (unread there changed opened : Bool) → (spared : ℕ) → Findings → Findings
 found_so u t k o s f = record {
   has_unread_prefix = f.has_unread_prefix || u;
   is_there = f.is_there || t;

@@ -1,7 +1,6 @@
 -- What a change of values does to the line of one assignment, as a document shows the line.
 -- Told in docs/ARCHITECTURE.md, "An edit's way, from Edit to moved lines".
-use Rattle.std.specs.Prelude.{◌≡◌, ℕ, ◌+◌, ◌-◌, ◌==◌, ◌&&◌, ◌||◌, not, nat_lt, if◌then◌else◌, Bool, true, false, List, length, None}
-use Rattle.mk_lines.specs.Lists.{concat}
+use Rattle.std.specs.Prelude.{◌≡◌, ℕ, ◌+◌, ◌-◌, ◌==◌, ◌&&◌, ◌||◌, not, nat_lt, if◌then◌else◌, Bool, true, false, List, ◌++◌, take, drop, length, None}
 use Rattle.mk_lines.specs.Cells.{joined_byte}
 use Rattle.mk_lines.specs.Pieces.{replaced}
 use Rattle.mk_lines.specs.Units.{is_closed}
@@ -20,7 +19,7 @@ use Rattle.mk_edit_language.specs.ValueChanges.{change_spans}
 use Rattle.mk_edit_language.specs.ValueSpans.{assignment_spans}
 use Rattle.mk_edit_parts.specs.LineRanges.{ends_in_fold_located, value_range_located}
 use Rattle.mk_edit_parts.specs.LocatedParts.{assigns_located}
-use Rattle.mk_edit.specs.ValueEdits.{value_text_located}
+use Rattle.mk_edit.specs.ValueEdits.{space_after, value_text_located}
 
 -- whether the change does something to the value of an assignment's line
 abbrev pub has_effect_located : ValueChange → LocatedLine → Bool
@@ -80,3 +79,10 @@ pub record IsOwnLine (c : ValueChange) (context : Context) (l : LocatedLine) : T
 abbrev pub bytes_changed : ValueChange → Context → LocatedLine → List ℕ
 bytes_changed c x l =
     replaced 0 l.bytes (assignment_spans (change_spans c) 0 (class_of x l.bytes))
+
+-- the bytes of an assignment's line with a text after its value, and a space before it unless the
+-- value is empty
+abbrev pub bytes_put : (text : List ℕ) → LocatedLine → List ℕ
+bytes_put v l =
+    take (value_range_located false l).end l.bytes
+    ++ ((space_after (value_text_located l) ++ v) ++ drop (value_range_located false l).end l.bytes)

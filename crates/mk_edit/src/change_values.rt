@@ -37,8 +37,8 @@ pub(crate) fn plan_change_values<A: Allocator + Copy>(
 {
     // The contract of `size` says that the text is within its limit.
     let _size = doc.size();
-    let survey = accepted_change(alloc, doc, edit, windows, name, change)?;
-    let Some(places) = survey.places else {
+    let places = accepted_change(alloc, doc, edit, windows, name, change)?;
+    let Some(places) = places else {
         return Err(Refusal::NoMemory);
     };
     change_values_patch(alloc, &places, change, meter)

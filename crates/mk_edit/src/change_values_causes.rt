@@ -10,7 +10,8 @@ ghost use Rattle.mk_edit_language.specs.EditViews.{edit_of, value_change_of};
 ghost use Rattle.mk_edit_parts.specs.Windows.{AreWindows, concerns_name, first_place};
 ghost use Rattle.mk_edit.specs.ChangeValuesSurveys.{first_of_findings, idle, meant_places, meant_view};
 
-use crate::change_values_survey::{Findings, Survey, change_values_survey};
+use crate::change_values_places::Meant;
+use crate::change_values_survey::{Findings, change_values_survey};
 use crate::value_change::put_by;
 use mk_edit_language::{Edit, Refusal, ValueChange};
 use mk_edit_parts::argument::{bad_field, is_reserved};
@@ -19,8 +20,8 @@ use mk_lines::source::MAX_TEXT;
 use mk_tree::Doc;
 use std::alloc::Allocator;
 
-/// What a change of all values of a name finds among the lines of a document, and which of them it
-/// changes, if no cause of refusal holds. The call decides, in this order, whether a field fails its
+/// The places of the lines of a document that a change of all values of a name changes, if no cause
+/// of refusal holds; `None` if a growth was refused. The call decides, in this order, whether a field fails its
 /// test, or the name is reserved; whether the recipe prefix is set in a way that is not read; whether
 /// no line assigns the name; whether no line would be changed; whether the value of a line that would
 /// be changed is open; and whether the text would be too long. It walks once over the lines of the
@@ -37,11 +38,11 @@ pub(crate) fn accepted_change<'a, A: Allocator + Copy>(
     windows: &[Window],
     name: &[u8],
     change: &ValueChange<A>,
-) -> Result<Survey<'a, A>, Refusal>
+) -> Result<Option<Vec<Meant<'a, A>, A>>, Refusal>
     requires faithful { IsFaithful doc.now }
     requires kind { edit_of edit.now ≡ ChangeValues name.now (value_change_of change.now) }
     requires windows { AreWindows (concerns_name name.now) first_place doc.now windows.now }
-    ensures places { IfOk result (λ survey. IfSome survey.places (λ places.
+    ensures places { IfOk result (λ noted. IfSome noted (λ places.
         map meant_view places.items
         ≡ meant_places name.now (value_change_of change.now) doc.now)) }
     ensures accepted { IfOk result (λ _. first_cause (causes (located_text doc.now)
@@ -58,7 +59,7 @@ pub(crate) fn accepted_change<'a, A: Allocator + Copy>(
     let survey = change_values_survey(alloc, doc, windows, name, change);
     match first_of_findings(survey.findings, change, doc.size()) {
         Some(refusal) => Err(refusal),
-        None => Ok(survey),
+        None => Ok(survey.places),
     }
 }
 

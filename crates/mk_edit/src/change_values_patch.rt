@@ -89,15 +89,14 @@ fn changed_in_turn<A: Allocator + Copy>(
         (if is_of_turn turn (value_change_of change.now) (meant_view meant.now) then 1 else 0)
         meter.old meter.new result }
 {
-    let place = meant.place;
     let line = meant.line;
     if !is_exchanged(change, line, turn) {
         return Ok(None);
     }
-    let Ok(bytes) = bytes_changed(alloc, change, place, line) else {
+    let Ok(bytes) = bytes_changed(alloc, change, meant.place, line) else {
         return Err(Refusal::NoMemory);
     };
-    let changed = read_line(alloc, bytes, place.context, meter)?;
+    let changed = read_line(alloc, bytes, meant.place.context, meter)?;
     Ok(Some(changed))
 }
 

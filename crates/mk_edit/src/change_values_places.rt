@@ -30,6 +30,8 @@ pub(crate) fn with_meant<'a, A: Allocator>(
     // another. So the note is taken apart, and made anew where it is moved.
     let Meant { place, line } = meant;
     let mut places = places?;
-    places.push(Meant { place, line }).ok()?;
-    Some(places)
+    match places.push(Meant { place, line }) {
+        Ok(()) => Some(places),
+        Err(_) => None,
+    }
 }

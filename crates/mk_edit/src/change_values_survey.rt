@@ -97,6 +97,8 @@ fn surveyed<'a, A: Allocator>(
         (below_all window.place (lines_between window.place.at window.count doc.now))
         result.findings (λ p. p.items) result.places }
 {
+    // The contract of `size` bounds the number of lines.
+    let _size = doc.size();
     let Survey {
         mut findings,
         mut places,
@@ -109,7 +111,7 @@ fn surveyed<'a, A: Allocator>(
             break;
         }
         let class = line.class();
-        let is_changed = is_changed(line, &class, name, change);
+        let is_changed = changes_line(line, &class, name, change);
         findings = found(findings, line, &class, name, change, is_changed);
         if is_changed {
             let place = Found { at, context };
@@ -136,7 +138,7 @@ fn nothing_found() -> Findings
 
 // Whether a change changes a line: the line assigns the name, and the change does something to its
 // value.
-fn is_changed<A: Allocator>(
+fn changes_line<A: Allocator>(
     line: &Line<A>,
     class: &Class,
     name: &[u8],

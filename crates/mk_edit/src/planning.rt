@@ -147,10 +147,11 @@ fn plan_values<A: Allocator + Copy>(
     requires known { IsKnown (edit_of edit.now) doc.now known.now }
     ensures { Plans (edit_of edit.now) doc.now meter.old meter.new result }
 {
-    let whole = [Window::whole(doc)];
-    let windows = match known {
-        Known::Windows(windows) => windows,
-        Known::Nothing | Known::Line(_) => &whole[..],
-    };
-    plan_change_values(alloc, doc, edit, windows, name, change, meter)
+    match known {
+        Known::Windows(known) => plan_change_values(alloc, doc, edit, known, name, change, meter),
+        Known::Nothing | Known::Line(_) => {
+            let all = [Window::whole(doc)];
+            plan_change_values(alloc, doc, edit, &all, name, change, meter)
+        }
+    }
 }

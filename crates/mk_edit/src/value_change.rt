@@ -1,9 +1,10 @@
 //! What a change of values does to the line of one assignment.
-ghost use Rattle.std.specs.Prelude.{◌≡◌, IfOk};
+ghost use Rattle.std.specs.Prelude.{◌≡◌, ◌≤◌, IfOk, false, length};
 ghost use Rattle.mk_tree.specs.Trees.{line_view};
 ghost use Rattle.mk_edit_language.specs.EditViews.{value_change_of};
+ghost use Rattle.mk_edit_parts.specs.LineRanges.{value_range_located};
 ghost use Rattle.mk_edit_parts.specs.LocatedParts.{IsClassed};
-ghost use Rattle.mk_edit.specs.ValueChangeLines.{IsOwnLine, bytes_changed, has_effect_located, is_longer, is_open_located, put_by, spared_by};
+ghost use Rattle.mk_edit.specs.ValueChangeLines.{IsOwnLine, bytes_changed, bytes_put, has_effect_located, is_longer, is_open_located, put_by, spared_by};
 
 use crate::add_word::takes_no_word;
 use crate::append_value::{space_after, value_text, with_put_in};
@@ -107,11 +108,24 @@ pub(crate) fn bytes_changed<A: Allocator + Copy>(
             let range = value_range(line, value.is_empty());
             with_replaced(alloc, line.bytes(), range, value)
         }
-        ValueChange::Append(text) | ValueChange::Add(text) => {
-            let range = value_range(line, false);
-            let space = space_after(value_text(line));
-            with_put_in(alloc, line.bytes(), range.end, space, text)
-        }
+        ValueChange::Append(text) => with_text_after(alloc, line, text),
+        ValueChange::Add(word) => with_text_after(alloc, line, word),
         ValueChange::Remove(word) => without_word(alloc, line, assignment_of(line), word),
     }
+}
+
+// The bytes of an assignment's line with a text after its value.
+fn with_text_after<A: Allocator>(
+    alloc: A,
+    line: &Line<A>,
+    text: &[u8],
+) -> Result<Vec<u8, A>, AllocError>
+    requires classed { IsClassed (line_view line.now) }
+    requires within { (value_range_located false (line_view line.now)).end
+        ≤ length (line_view line.now).bytes }
+    ensures { IfOk result (λ bytes. bytes.items ≡ bytes_put text.now (line_view line.now)) }
+{
+    let range = value_range(line, false);
+    let space = space_after(value_text(line));
+    with_put_in(alloc, line.bytes(), range.end, space, text)
 }

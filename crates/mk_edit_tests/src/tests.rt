@@ -3,7 +3,7 @@
 ghost use Rattle.mk_patch.specs.Moves.{FitMoves};
 
 use crate::checks::{
-    Heap, check_accepted, check_refused, check_refused_rename, document, growths_of_plan,
+    Heap, check_accepted, check_refused, check_refused_late, document, growths_of_plan,
 };
 use crate::edits::{
     Kind, add_assign, add_prereq, add_recipe, add_rule, add_word, append_value, change_values,
@@ -278,7 +278,7 @@ fn a_recipe_prefix_refuses_edits(rt: HostRuntime) -> Result<(), Fail> {
     check_refused(&heap, makefile, edit, Refusal::RecipePrefix)?;
     let edit = rename_target(&heap, b"all", b"tidy");
     let makefile = b".RECIPEPREFIX = t\nall: a\n".as_slice();
-    check_refused_rename(&heap, makefile, edit, Refusal::RecipePrefix)
+    check_refused_late(&heap, makefile, edit, Refusal::RecipePrefix)
 }
 
 #[test]
@@ -288,7 +288,7 @@ fn a_line_has_to_be_there_once(rt: HostRuntime) -> Result<(), Fail> {
     check_refused(&heap, b"a: b\nb:\n", edit, Refusal::NoSuch)?;
     // its word is only a prerequisite
     let edit = rename_target(&heap, b"c", b"d");
-    check_refused_rename(&heap, b"a: c\n", edit, Refusal::NoSuch)?;
+    check_refused_late(&heap, b"a: c\n", edit, Refusal::NoSuch)?;
     let edit = set_value(&heap, b"CC", b"z");
     let makefile = b"ifdef A\nCC=x\nelse\nCC=y\nendif\n".as_slice();
     check_refused(&heap, makefile, edit, Refusal::Ambiguous(2))
@@ -309,7 +309,7 @@ fn prerequisites_and_recipe_lines_are_absent_or_there_already(rt: HostRuntime) -
 fn a_taken_name_is_refused(rt: HostRuntime) -> Result<(), Fail> {
     let heap = Watched::new(rt.alloc());
     let edit = rename_target(&heap, b"a", b"b");
-    check_refused_rename(&heap, b"a: b\nb:\n", edit, Refusal::Taken)
+    check_refused_late(&heap, b"a: b\nb:\n", edit, Refusal::Taken)
 }
 
 #[test]
@@ -322,6 +322,40 @@ fn shared_and_split_rules_are_refused(rt: HostRuntime) -> Result<(), Fail> {
     check_refused(&heap, makefile, edit, Refusal::Straddles)?;
     let edit = add_recipe(&heap, b"foo", b"y");
     check_refused(&heap, makefile, edit, Refusal::Straddles)
+}
+
+#[test]
+fn changes_of_all_values_are_refused(rt: HostRuntime) -> Result<(), Fail> {
+    let heap = Watched::new(rt.alloc());
+    let edit = change_values(&heap, b"F", Kind::Append, b"");
+    check_refused(&heap, b"F = x\n", edit, Refusal::BadArgument(Field::Value))?;
+    let edit = change_values(&heap, b"F", Kind::Remove, b"a b");
+    check_refused(&heap, b"F = x\n", edit, Refusal::BadArgument(Field::Word))?;
+    let edit = change_values(&heap, b".RECIPEPREFIX", Kind::Set, b"x");
+    check_refused(&heap, b"F = x\n", edit, Refusal::Reserved)?;
+    let edit = change_values(&heap, b"G", Kind::Set, b"x");
+    check_refused(&heap, b"F = x\n", edit, Refusal::NoSuch)?;
+    let edit = change_values(&heap, b"F", Kind::Add, b"-g");
+    check_refused(&heap, b"F = -g\nF += -W -g\n", edit, Refusal::Already)?;
+    let edit = change_values(&heap, b"F", Kind::Remove, b"-g");
+    check_refused(&heap, b"F = -O2\nF += -W\n", edit, Refusal::Absent)
+}
+
+#[test]
+fn a_change_of_all_values_is_refused_for_one_that_it_changes(
+    rt: HostRuntime,
+) -> Result<(), Fail> {
+    let heap = Watched::new(rt.alloc());
+    // the walk has noted a line before it comes to the open value
+    let edit = change_values(&heap, b"F", Kind::Append, b"x");
+    let makefile = b"F = -g\nF += $(foo\n".as_slice();
+    check_refused_late(&heap, makefile, edit, Refusal::OpenValue)?;
+    let edit = change_values(&heap, b"F", Kind::Add, b"-g");
+    check_refused_late(&heap, b"F = a$\\\n\n", edit, Refusal::OpenValue)?;
+    // the prefix is told before the values
+    let edit = change_values(&heap, b"F", Kind::Append, b"x");
+    let makefile = b"F = $(foo\n.RECIPEPREFIX ?= >\n".as_slice();
+    check_refused_late(&heap, makefile, edit, Refusal::RecipePrefix)
 }
 
 #[test]

@@ -1,5 +1,5 @@
 -- The causes of refusal of a change of values, by what the code finds among the lines of a document.
-use Rattle.std.proofs.Common.{◌≡◌, refl, sym, ap, ◌∙◌, ℕ, ◌+◌, ◌*◌, ◌≤◌, Bool, not, List, [], ◌∷◌, length, filter, Option, Some, None}
+use Rattle.std.proofs.Common.{◌≡◌, refl, sym, ap, ◌∙◌, ℕ, ◌+◌, ◌*◌, ◌≤◌, arith, Bool, false, not, List, [], ◌∷◌, length, filter, Option, None}
 use Rattle.std.specs.Prelude.{nat_lt, ◌&&◌}
 use Rattle.std.specs.List.{list_any}
 use Rattle.mk_lines.specs.Limits.{max_text}
@@ -18,9 +18,9 @@ use Rattle.mk_edit_language.specs.Refusals.{causes, first_cause}
 use Rattle.mk_edit_language.specs.RuleCauses.{absent, already, shared_rule, straddles, taken}
 use Rattle.mk_edit_language.specs.ValueChanges.{is_changed}
 use Rattle.mk_edit_language.specs.declared.refusal.Refusal.{Refusal}
-use Rattle.mk_edit_language.specs.declared.refusal.Refusal.TheVariants.{Absent, Already, NoSuch, OpenValue, RecipePrefix, TooLong}
+use Rattle.mk_edit_language.specs.declared.refusal.Refusal.TheVariants.{Absent, Already, TooLong}
 use Rattle.mk_edit_language.proofs.on_values.SetValueLemmas.{not_prefix}
-use Rattle.mk_edit_parts.specs.LocatedParts.{assigns_located, is_unread_located}
+use Rattle.mk_edit_parts.specs.LocatedParts.{assigns_located}
 use Rattle.mk_edit_parts.proofs.CauseLemmas.{passed}
 use Rattle.mk_edit_parts.proofs.on_finding.PartLemmas.{assigns-located}
 use Rattle.mk_edit_parts.proofs.on_finding.SeekLemmas.{any-told, unread-told}
@@ -101,12 +101,12 @@ causes-told ls e n c f size is h bad res i k few =
     let p = not_prefix n r in
     let unread = list_any (λ l. is_unread_prefix l.class) ds in
     let there = list_any (λ l. assigns n l.class) ds in
-    let open = list_any (λ l. is_changed n c l && is_open_to c l.class) ds in
+    let opened = list_any (λ l. is_changed n c l && is_open_to c l.class) ds in
     let u : f.has_unread_prefix ≡ unread = ap (λ (z : Findings). z.has_unread_prefix) i ∙ (found-unread n c nothing_found ls ∙ unread-told ls h) in
     let a : f.is_there ≡ there = ap (λ (z : Findings). z.is_there) i ∙ (found-there n c nothing_found ls ∙ any-told (assigns_located n) (λ l. assigns n l.class) (assigns-located n) ls h) in
-    let o : f.is_open ≡ open = ap (λ (z : Findings). z.is_open) i ∙ (found-open n c nothing_found ls ∙ any-told (is_opened n c) (λ l. is_changed n c l && is_open_to c l.class) (opened-told n c p) ls h) in
-    let lines : f.lines ≡ length (filter (is_changed_located n c) ls) = ap (λ (z : Findings). z.lines) i ∙ found-lines n c nothing_found ls in
-    let spared : f.spared ≡ spared_in n c ls = ap (λ (z : Findings). z.spared) i ∙ found-spared n c nothing_found ls in
+    let o : f.is_open ≡ opened = ap (λ (z : Findings). z.is_open) i ∙ (found-open n c nothing_found ls ∙ any-told (is_opened n c) (λ l. is_changed n c l && is_open_to c l.class) (opened-told n c p) ls h) in
+    let lines : f.lines ≡ length (filter (is_changed_located n c) ls) = omega (arith, ap (λ (z : Findings). z.lines) i, found-lines n c nothing_found ls) in
+    let spared : f.spared ≡ spared_in n c ls = omega (arith, ap (λ (z : Findings). z.spared) i, found-spared n c nothing_found ls) in
     let g = is_long n c ls in
     let long : nat_lt (max_text + f.spared) (size + f.lines * put_by c) ≡ g =
     ap (λ z. nat_lt (max_text + z) (size + f.lines * put_by c)) spared
@@ -116,5 +116,5 @@ causes-told ls e n c f size is h bad res i k few =
     ∙ (ap (λ z. first_said unread z (idle c f.lines) f.is_open (nat_lt (max_text + f.spared) (size + f.lines * put_by c))) a
     ∙ (ap (λ z. first_said unread there z f.is_open (nat_lt (max_text + f.spared) (size + f.lines * put_by c))) idles
     ∙ (ap (λ z. first_said unread there (idle_cause ds n c) z (nat_lt (max_text + f.spared) (size + f.lines * put_by c))) o
-    ∙ (ap (first_said unread there (idle_cause ds n c) open) long
+    ∙ (ap (first_said unread there (idle_cause ds n c) opened) long
     ∙ (sym (causes-are t ds n c (idle_cause ds n c) g b r refl (change-long ls n c h few p)) ∙ ap (λ z. first_cause (causes t ds z)) (sym is))))))

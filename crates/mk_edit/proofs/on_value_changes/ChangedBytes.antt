@@ -1,6 +1,6 @@
 -- One line after a change of its value: its bytes, as the code puts them together, and its length.
-use Rattle.std.proofs.Common.{◌≡◌, refl, sym, ap, ◌∙◌, subst, arith, ℕ, ◌+◌, ◌-◌, ◌<◌, ◌≤◌, Bool, true, false, not, List, [], ◌∷◌, ◌++◌, take, drop, length, length-append, None}
-use Rattle.std.specs.Prelude.{nat_lt, ◌==◌}
+use Rattle.std.proofs.Common.{◌≡◌, refl, sym, ap, ◌∙◌, subst, arith, ℕ, ◌+◌, ◌-◌, ◌≤◌, Bool, true, false, List, [], ◌∷◌, ◌++◌, take, drop, length, length-append, None}
+use Rattle.std.specs.Prelude.{◌==◌, IfOk, Result, Ok, Err}
 use Rattle.std.proofs.lemmas.Bool.{ltb-true, ltb-false}
 use Rattle.std.proofs.lemmas.List.{length-drop, length-take-le}
 use Rattle.mk_lines.specs.Lists.{concat}
@@ -12,7 +12,6 @@ use Rattle.mk_lines.specs.declared.split.Span.{Span}
 use Rattle.mk_lines.proofs.on_lists.PieceLemmas.{replaced-pieces}
 use Rattle.mk_class.specs.ListTests.{is_empty}
 use Rattle.mk_class.specs.Assignments.{Assignment}
-use Rattle.mk_class.specs.Classes.{Class}
 use Rattle.mk_class.specs.Classes.Class.{Assign}
 use Rattle.mk_class.specs.ClassTable.{class_of}
 use Rattle.mk_class.specs.Contexts.{Context}
@@ -25,9 +24,9 @@ use Rattle.mk_edit_language.specs.LineCauses.{bares_end}
 use Rattle.mk_edit_language.specs.ValueChanges.{change_spans}
 use Rattle.mk_edit_language.specs.ValueSpans.{assignment_spans, append_value_span, set_value_span}
 use Rattle.mk_edit_parts.specs.LineRanges.{value_range_located}
-use Rattle.mk_edit_parts.specs.SeenAssignments.{IsAssignmentAt, IsAssignmentSeen}
+use Rattle.mk_edit_parts.specs.SeenAssignments.{HasAssignment, IsAssignmentAt, IsAssignmentSeen}
 use Rattle.mk_edit_parts.specs.ValuePieces.{line_without_pieces}
-use Rattle.mk_edit.specs.ValueChangeLines.{IsOwnLine, bytes_changed, is_longer, spared_by}
+use Rattle.mk_edit.specs.ValueChangeLines.{IsOwnLine, bytes_changed, bytes_put, is_longer, spared_by}
 use Rattle.mk_edit.specs.ValueEdits.{space_after, value_text_located}
 use Rattle.mk_edit.proofs.on_prerequisites.WordPlans.{nothing-put, pieces-length}
 use Rattle.mk_edit.proofs.on_values.AppendValuePlans.{append_value_span-range, appended-line}
@@ -35,6 +34,11 @@ use Rattle.mk_edit.proofs.on_values.OwnLines.{IsValueText, own_line, own_rest, o
 use Rattle.mk_edit.proofs.on_values.RemoveWordPlans.{closed-if, line-nothing, line-spans}
 use Rattle.mk_edit.proofs.on_values.SetValuePlans.{is_empty-length, set_value_span-range}
 use Rattle.mk_edit.proofs.on_values.ValuePlaces.{IsValueRange, value-range}
+
+-- what holds of an accepted result holds of it in other words
+pub mapped : {X Y : Type 0} (P Q : X → Type 0) (r : Result X Y) → ((x : X) → P x → Q x) → IfOk r P → IfOk r Q
+mapped P Q (Ok x) f h = f x h
+mapped P Q (Err y) f h = tt
 
 -- ---- one range replaced
 
@@ -93,8 +97,8 @@ set-changed x l v bytes m r O k b h = h ∙ (ap (λ z. take r.start z ++ (v ++ d
 abbrev PutsAfter : ValueChange → List ℕ → Type 0
 PutsAfter c v = (a : Assignment Cell) → change_spans c 0 a ≡ append_value_span v 0 a ∷ []
 
-put-bytes : (c : ValueChange) (x : Context) (l : LocatedLine) (v : List ℕ) → PutsAfter c v → IsOwnLine c x l
-    → bytes_changed c x l ≡ take (value_range_located false l).end l.bytes ++ ((space_after (value_text_located l) ++ v) ++ drop (value_range_located false l).end l.bytes)
+pub put-bytes : (c : ValueChange) (x : Context) (l : LocatedLine) (v : List ℕ) → PutsAfter c v → IsOwnLine c x l
+    → bytes_changed c x l ≡ bytes_put v l
 put-bytes c x l v p O =
     let r = value_range_located false l in
     let text = value_text_located l in
@@ -104,20 +108,17 @@ put-bytes c x l v p O =
     let s : append_value_span v 0 O.assigned ≡ record { start = 0 + r.end; end = 0 + r.end; new = new } = append_value_span-range l.bytes O.assigned v text 0 r R T in
     bytes-own c x l O ∙ (ap (replaced 0 l.bytes) (p O.assigned) ∙ (ap (λ (z : Replacement). replaced 0 l.bytes (z ∷ [])) s ∙ one-replaced l.bytes new (0 + r.end) (0 + r.end) r.end r.end (omega arith) (omega arith)))
 
-put-within : (c : ValueChange) (x : Context) (l : LocatedLine) → IsOwnLine c x l → (value_range_located false l).end ≤ length l.bytes
+pub put-within : (c : ValueChange) (x : Context) (l : LocatedLine) → IsOwnLine c x l → (value_range_located false l).end ≤ length l.bytes
 put-within c x l O = (line-range x l O.assigned false (value_range_located false l) O.here O.class_is refl).within
 
-pub put-ranged : (c : ValueChange) (x : Context) (l : LocatedLine) (r : Span) → IsOwnLine c x l → r ≡ value_range_located false l → r.end ≤ length l.bytes
-put-ranged c x l r O k = subst (λ (z : Span). z.end ≤ length l.bytes) (sym k) (put-within c x l O)
-
-pub put-changed : (c : ValueChange) (x : Context) (l : LocatedLine) (v bytes space text m : List ℕ) (r : Span) → PutsAfter c v → IsOwnLine c x l → r ≡ value_range_located false l → bytes ≡ l.bytes
-    → text ≡ value_text_located l → space ≡ space_after text → m ≡ take r.end bytes ++ (space ++ (v ++ drop r.end bytes)) → m ≡ bytes_changed c x l
-put-changed c x l v bytes space text m r p O k b t s h =
+-- as the code puts them together
+pub put-formed : (l : LocatedLine) (v bytes space text m : List ℕ) (r : Span) → r ≡ value_range_located false l → bytes ≡ l.bytes → text ≡ value_text_located l → space ≡ space_after text → m ≡ take r.end bytes ++ (space ++ (v ++ drop r.end bytes))
+    → m ≡ bytes_put v l
+put-formed l v bytes space text m r k b t s h =
     appended-line m bytes space text v r.end h s
     ∙ (ap (λ (z : Span). take z.end bytes ++ ((space_after text ++ v) ++ drop z.end bytes)) k
     ∙ (ap (λ z. take (value_range_located false l).end z ++ ((space_after text ++ v) ++ drop (value_range_located false l).end z)) b
-    ∙ (ap (λ z. take (value_range_located false l).end l.bytes ++ ((space_after z ++ v) ++ drop (value_range_located false l).end l.bytes)) t
-    ∙ sym (put-bytes c x l v p O))))
+    ∙ ap (λ z. take (value_range_located false l).end l.bytes ++ ((space_after z ++ v) ++ drop (value_range_located false l).end l.bytes)) t))
 
 -- ---- a word less
 
@@ -134,15 +135,18 @@ remove-bytes x l w O =
     ∙ (ap (replaced 0 l.bytes) (line-spans 0 w a (own_rest x l.bytes a O.here))
     ∙ (ap (λ z. replaced 0 z (replacements 0 ps)) (own-whole x l.bytes a O.here w (remove-closed x l w O)) ∙ replaced-pieces [] ps E))
 
+line-seen : (c : ValueChange) (x : Context) (l : LocatedLine) (at : assignment.Assignment) → (O : IsOwnLine c x l) → IsAssignmentAt l at → IsAssignmentSeen l at O.assigned (own_rest x l.bytes O.assigned O.here)
+line-seen c x l at O q =
+    let seen = line-own x l O.assigned O.class_is in
+    subst (λ (z : LocatedLine). IsAssignmentSeen z at O.assigned (own_rest x l.bytes O.assigned O.here)) (sym seen)
+    (own-seen x l.bytes O.assigned O.here at (subst (λ (z : LocatedLine). IsAssignmentAt z at) seen q))
+
+pub own-has : (c : ValueChange) (x : Context) (l : LocatedLine) (at : assignment.Assignment) → IsOwnLine c x l → IsAssignmentAt l at → HasAssignment l at
+own-has c x l at O q = record { assigned = O.assigned; rest = own_rest x l.bytes O.assigned O.here; seen = line-seen c x l at O q }
+
 pub remove-changed : (x : Context) (l : LocatedLine) (w m : List ℕ) (at : assignment.Assignment) → IsOwnLine (Remove w) x l → IsAssignmentAt l at
     → ((a : Assignment Cell) (r : List Cell) → IsAssignmentSeen l at a r → m ≡ new_bytes (line_without_pieces w a r) ++ line_end_bytes (line_end l.bytes)) → m ≡ bytes_changed (Remove w) x l
-remove-changed x l w m at O q h = h O.assigned (own_rest x l.bytes O.assigned O.here) (line-seen x l (Remove w) at O q) ∙ sym (remove-bytes x l w O)
-  where
-    line-seen : (x : Context) (l : LocatedLine) (c : ValueChange) (at : assignment.Assignment) → (O : IsOwnLine c x l) → IsAssignmentAt l at → IsAssignmentSeen l at O.assigned (own_rest x l.bytes O.assigned O.here)
-    line-seen x l c at O q =
-        let seen = line-own x l O.assigned O.class_is in
-        subst (λ (z : LocatedLine). IsAssignmentSeen z at O.assigned (own_rest x l.bytes O.assigned O.here)) (sym seen)
-        (own-seen x l.bytes O.assigned O.here at (subst (λ (z : LocatedLine). IsAssignmentAt z at) seen q))
+remove-changed x l w m at O q h = h O.assigned (own_rest x l.bytes O.assigned O.here) (line-seen (Remove w) x l at O q) ∙ sym (remove-bytes x l w O)
 
 -- ---- lengths
 

@@ -1,6 +1,6 @@
 -- What the code asks of a line of a document, told of the line as it is defined: whether a change changes it, and whether the
 -- value is open to the change.
-use Rattle.std.proofs.Common.{◌≡◌, refl, sym, ap, ◌∙◌, ℕ, ◌&&◌, ◌||◌, Bool, true, false, not, List, Some, None}
+use Rattle.std.proofs.Common.{◌≡◌, refl, sym, ap, ◌∙◌, ℕ, ◌&&◌, ◌||◌, Bool, true, false, not, List, None}
 use Rattle.mk_lines.specs.Lists.{concat}
 use Rattle.mk_lines.specs.Cells.{Cell, joined_byte}
 use Rattle.mk_lines.specs.Units.{is_closed}
@@ -19,7 +19,7 @@ use Rattle.mk_edit_language.specs.Edits.{ValueChange, Set, Append, Add, Remove}
 use Rattle.mk_edit_language.specs.Addresses.{assigns}
 use Rattle.mk_edit_language.specs.LineCauses.{bares_end_among, ends_in_fold, is_open_to}
 use Rattle.mk_edit_language.specs.ValueChanges.{has_effect, is_changed}
-use Rattle.mk_edit_language.proofs.on_values.FoundAssignments.{IsAssigned, assigned-in_context}
+use Rattle.mk_edit_language.proofs.on_values.FoundAssignments.{assigned-in_context}
 use Rattle.mk_edit_parts.specs.LineRanges.{ends_in_fold_located}
 use Rattle.mk_edit_parts.proofs.on_finding.PartLemmas.{assigns-located}
 use Rattle.mk_edit.specs.ValueChangeLines.{has_effect_located, is_changed_located, is_open_located}

@@ -1,17 +1,15 @@
 -- What a change of values finds among the lines of a document, by all lines; and the length of the text after it: what its spans
 -- take out and put in, line by line.
-use Rattle.std.proofs.Common.{◌≡◌, refl, sym, ap, ◌∙◌, subst, arith, ℕ, zero, suc, ◌+◌, ◌*◌, ◌≤◌, Bool, true, false, not, List, [], ◌∷◌, ◌++◌, length, length-append, filter, cond}
+use Rattle.std.proofs.Common.{◌≡◌, refl, sym, ap, ◌∙◌, subst, arith, ℕ, suc, ◌+◌, ◌*◌, ◌≤◌, Bool, true, false, not, List, [], ◌∷◌, ◌++◌, length, length-append, filter, cond}
 use Rattle.std.specs.Prelude.{nat_lt, if◌then◌else◌, ◌&&◌, ◌||◌, ◌==◌}
 use Rattle.std.specs.List.{list_any}
 use Rattle.std.proofs.lemmas.Bool.{le-ltb, ne_eqb}
 use Rattle.std.proofs.Math.Bool.{or-false, or_assoc}
 use Rattle.mk_lines.specs.Limits.{max_text}
 use Rattle.mk_lines.specs.Cells.{Cell}
-use Rattle.mk_lines.specs.Pieces.{Replacement, replaced, replacements}
-use Rattle.mk_lines.specs.declared.split.Span.{Span}
+use Rattle.mk_lines.specs.Pieces.{Replacement, replaced}
 use Rattle.mk_class.specs.ListTests.{is_empty}
 use Rattle.mk_class.specs.Classes.{Class}
-use Rattle.mk_class.specs.Classes.Class.{Assign}
 use Rattle.mk_class.specs.ClassTable.{class_of}
 use Rattle.mk_class.specs.ClassedLines.{ClassedLine, classed_lines}
 use Rattle.mk_class.specs.Contexts.{Context, start, context_after}
@@ -32,6 +30,7 @@ use Rattle.mk_edit_language.proofs.on_edits.LengthLemmas.{length-replaced}
 use Rattle.mk_edit_language.proofs.on_edits.SpansRise.{spans-rise}
 use Rattle.mk_edit_parts.specs.LineRanges.{value_range_located}
 use Rattle.mk_edit_parts.specs.LocatedParts.{assigns_located, is_unread_located}
+use Rattle.mk_edit_parts.specs.ValuePieces.{line_without_pieces}
 use Rattle.mk_edit.specs.ChangeValuesSurveys.{found_by, found_with}
 use Rattle.mk_edit.specs.ValueChangeLines.{is_changed_located, is_open_located, put_by, spared_by}
 use Rattle.mk_edit.specs.ValueEdits.{space_after, value_text_located}
@@ -112,10 +111,13 @@ PutsIn (Remove w) = ⊥
 abbrev AreBalanced : (spared put : ℕ) → List Replacement → Type 0
 AreBalanced s p rs = bytes_put rs + s ≡ p + bytes_taken rs
 
+abbrev space_if : Bool → List ℕ
+space_if b = if b then [] else 32 ∷ []
+
 space-spared : (text : List ℕ) → length (space_after text) + (if length text == 0 then 1 else 0) ≡ 1
 space-spared text = ap (λ b. length (space_after text) + (if b then 1 else 0)) (sym (is_empty-length text)) ∙ go (is_empty text)
   where
-    go : (b : Bool) → length (if b then [] else 32 ∷ []) + (if b then 1 else 0) ≡ 1
+    go : (b : Bool) → length (space_if b) + (if b then 1 else 0) ≡ 1
     go true = refl
     go false = refl
 
@@ -194,7 +196,7 @@ module _ (n w : List ℕ) (f : is_prefix_name n ≡ false) where
       go true e =
           let N = named-line x n k (AreClassed-class x k ks h) (changed-assigns n (Remove w) k e) f in
           ap (λ (q : Class Cell). bytes_put (assignment_spans (change_spans (Remove w)) at q)) N.class_is
-          ∙ (ap bytes_put (line-spans at w N.assigned []) ∙ nothing-put at _ (line-nothing w N.assigned []))
+          ∙ (ap bytes_put (line-spans at w N.assigned []) ∙ nothing-put at (line_without_pieces w N.assigned []) (line-nothing w N.assigned []))
       go false e = refl
 
 -- ---- whether the text is too long

@@ -4,8 +4,7 @@ use Rattle.std.specs.Prelude.{IfSome, if◌then◌else◌, ◌||◌, ◌&&◌, �
 use Rattle.std.proofs.lemmas.List.{map-append}
 use Rattle.std.proofs.Math.Bool.{or-false}
 use Rattle.mk_lines.specs.Limits.{max_text}
-use Rattle.mk_lines.specs.Cells.{line_cells}
-use Rattle.mk_class.specs.Contexts.{Context, start, context_after_located}
+use Rattle.mk_class.specs.Contexts.{Admits, Context, start, context_after_located}
 use Rattle.mk_class.specs.declared.class.Class as class
 use Rattle.mk_class.specs.declared.class.Class.TheVariants as variants
 use Rattle.mk_tree.specs.Admissions.{AreAdmitted}
@@ -15,7 +14,7 @@ use Rattle.mk_tree.specs.Origins.{lines_between}
 use Rattle.mk_tree.proofs.Indices.{size_of-append}
 use Rattle.mk_edit_language.specs.Edits.{ValueChange, Set, Append, Add, Remove}
 use Rattle.mk_edit_parts.specs.LineRanges.{value_range_located}
-use Rattle.mk_edit_parts.specs.LocatedParts.{AreEachClassed, assigns_located, is_unread_located}
+use Rattle.mk_edit_parts.specs.LocatedParts.{AreEachClassed, IsClassed, assigns_located, is_unread_located}
 use Rattle.mk_edit_parts.specs.Windows.{AreWindows, NonePasses, below, below_all, concerns_name, first_place}
 use Rattle.mk_edit_parts.specs.declared.seek.Found.{Found}
 use Rattle.mk_edit_parts.specs.declared.window.Window.{Window}
@@ -67,6 +66,10 @@ module _ (n : List ℕ) (c : ValueChange) where
 
 -- ---- what is spared of a line
 
+space-few : (b : Bool) (l : LocatedLine) → (if b then 1 else 0) ≤ length l.bytes + 1
+space-few true l = omega arith
+space-few false l = omega arith
+
 spared-few : (c : ValueChange) (l : LocatedLine) → spared_by c l ≤ length l.bytes + 1
 spared-few (Set v) l = go l.class
   where
@@ -93,17 +96,13 @@ spared-few (Set v) l = go l.class
     go variants.Directive = none
     go variants.Rough = none
 spared-few (Append v) l = space-few (length (value_text_located l) == 0) l
-  where
-    space-few : (b : Bool) (l : LocatedLine) → (if b then 1 else 0) ≤ length l.bytes + 1
-    space-few true l = omega arith
-    space-few false l = omega arith
-spared-few (Add w) l = spared-few (Append w) l
+spared-few (Add w) l = space-few (length (value_text_located l) == 0) l
 spared-few (Remove w) l = omega arith
 
 -- ---- the notes
 
 -- with the places among the lines ahead, notes are all places; the notes may have been dropped
-abbrev pub AreMeant : {A : _} {X : Type 0} (items : X → List (Meant A)) → (notes : Option X) → (ahead all : List MeantLine) → Type 0
+abbrev AreMeant : {A : _} {X : Type 0} (items : X → List (Meant A)) → (notes : Option X) → (ahead all : List MeantLine) → Type 0
 AreMeant items notes ahead all = IfSome notes (λ p. map meant_view (items p) ++ ahead ≡ all)
 
 meant-kept : {A : _} {X : Type 0} (items : X → List (Meant A)) (notes : Option X) (ahead left all : List MeantLine) → ahead ≡ left → AreMeant items notes ahead all → AreMeant items notes left all
@@ -147,6 +146,8 @@ module _ {A : _} {X : Type 0} (items : X → List (Meant A)) (n : List ℕ) (c :
 
   -- A line that is handed out, and the walk after it.
   pub record IsLineWalked (from : Found) (at : ℕ) (x : Context) (l : LocatedLine) (left : List LocatedLine) (f : Findings) (notes : Option X) : Type 0 where
+    pub classed : IsClassed l
+    pub admits : Admits x l.class
     pub few_lines : f.lines ≤ at
     pub room : f.spared + spared_by c l ≤ 2 * max_text + 1
     pub kept : (a : Context) (g : Findings) → a ≡ context_after_located x l.class → g ≡ found_by n c l f → is_changed_located n c l ≡ false → IsWalkedIn from (at + 1) a left g notes
@@ -155,17 +156,25 @@ module _ {A : _} {X : Type 0} (items : X → List (Meant A)) (n : List ℕ) (c :
 
   pub line-walked : (from : Found) (at : ℕ) (x : Context) (l : LocatedLine) (ahead left : List LocatedLine) (f : Findings) (notes : Option X) → ahead ≡ l ∷ left → IsWalkedIn from at x ahead f notes → IsLineWalked from at x l left f notes
   line-walked from at x l ahead left f notes s W = record {
+    classed = each-classed.0;
+    admits = each-admitted.0;
     few_lines = W.few;
     room = omega (arith, W.room, ap size_of s, spared-few c l);
     kept = λ a g k e u. on a g notes k e (meant-kept items notes _ (meant_places_from n c (at + 1) a left) (meant_places n c d) (ahead-are a false k u) W.places_are);
     more = λ a g m after k e u v w. on a g after k e (meant-more items notes after m _ (meant_places_from n c (at + 1) a left) (meant_places n c d) (ahead-are a true k u ∙ ap (λ (z : MeantLine). z ∷ meant_places_from n c (at + 1) a left) (sym v)) w W.places_are);
   }
     where
+      each-classed : AreEachClassed (l ∷ left)
+      each-classed = subst AreEachClassed s W.classed
+
+      each-admitted : AreAdmitted x (l ∷ left)
+      each-admitted = subst (AreAdmitted x) s W.admitted
+
       here : MeantLine
       here = record { place = record { at = at; context = x }; line = l }
 
       -- the places among the lines ahead, by whether the first of them is changed
-      abbrev with_here : Bool → List MeantLine → List MeantLine
+      with_here : Bool → List MeantLine → List MeantLine
       with_here b ms = if b then here ∷ ms else ms
 
       ahead-are : (a : Context) (b : Bool) → a ≡ context_after_located x l.class → is_changed_located n c l ≡ b → meant_places_from n c at x ahead ≡ with_here b (meant_places_from n c (at + 1) a left)
@@ -183,12 +192,10 @@ module _ {A : _} {X : Type 0} (items : X → List (Meant A)) (n : List ℕ) (c :
 
       on : (a : Context) (g : Findings) (more : Option X) → a ≡ context_after_located x l.class → g ≡ found_by n c l f → AreMeant items more (meant_places_from n c (at + 1) a left) (meant_places n c d) → IsWalkedIn from (at + 1) a left g more
       on a g more k e w =
-          let classed : AreEachClassed (l ∷ left) = subst AreEachClassed s W.classed in
-          let admitted : AreAdmitted x (l ∷ left) = subst (AreAdmitted x) s W.admitted in
           record {
             passed = passed-one d from (record { at = at; context = x }) (record { at = at + 1; context = a }) ahead left l s (ap (λ (z : Context). record { at = at + 1; context = z }) k) W.passed;
-            classed = classed.1;
-            admitted = subst (λ (z : Context). AreAdmitted z left) (sym k) admitted.1;
+            classed = each-classed.1;
+            admitted = subst (λ (z : Context). AreAdmitted z left) (sym k) each-admitted.1;
             few = subst (λ (z : Findings). z.lines ≤ at + 1) (sym e) (few-on (is_changed_located n c l));
             room = subst (λ (z : Findings). z.spared + (size_of left + length left) ≤ 2 * max_text) (sym e) (room-on (is_changed_located n c l));
             findings_are = ap (λ (z : Findings). found_with n c z left) e ∙ (ap (found_with n c f) (sym s) ∙ W.findings_are);
@@ -206,8 +213,13 @@ module _ {A : _} {X : Type 0} (items : X → List (Meant A)) (n : List ℕ) (c :
   walked-last from at count x ahead f notes h W =
       let now : Found = record { at = at; context = x } in
       let P = passed-by d from now ahead count h W.passed in
-      subst (λ (z : Found). IsSurveyedTo n c d z f items notes) P.now_is
-      (rw P.ahead_is at record { few = W.few; room = W.room; findings_are = W.findings_are; places_are = W.places_are })
+      let S : IsSurveyedTo n c d now f items notes = record {
+        few = W.few;
+        room = subst (λ z. f.spared + (size_of z + length z) ≤ 2 * max_text) (sym P.ahead_is) W.room;
+        findings_are = ap (found_with n c f) P.ahead_is ∙ W.findings_are;
+        places_are = subst (λ z. AreMeant items notes (meant_places_from n c at x z) (meant_places n c d)) (sym P.ahead_is) W.places_are;
+      } in
+      subst (λ (z : Found). IsSurveyedTo n c d z f items notes) P.now_is S
 
   -- ---- the windows
 

@@ -1,7 +1,7 @@
 -- The line of an assignment that sets no recipe prefix: the text of its value, and the line without a word of its value.
 use Rattle.std.proofs.Common.{◌≡◌, refl, sym, ap, ◌∙◌, subst, List, [], ◌∷◌, ◌++◌, Bool, true, false, map, append_assoc, None}
 use Rattle.std.proofs.lemmas.List.{append-nil}
-use Rattle.std.specs.Prelude.{ℕ}
+use Rattle.std.specs.Prelude.{ℕ, if◌then◌else◌}
 use Rattle.mk_lines.specs.PhysicalLines.{line_end, line_end_bytes, without_line_end}
 use Rattle.mk_lines.specs.Lists.{concat}
 use Rattle.mk_lines.specs.Cells.{Cell, joined_byte, raw_text, line_cells}
@@ -54,7 +54,7 @@ empty-units (u ∷ us) (b ∷ text) h k = refl
 empty-units (u ∷ us) [] h k = absurd (cc)
 
 -- the pieces of the line without a word are the whole line
-pub line-old : (w : List ℕ) (a : Assignment Cell) (r : List Cell) → from_first_word (led_words a.value) ≡ a.value → old_cells (line_without_pieces w a r) ≡ concat (before_value a) ++ (concat a.value ++ (concat a.after ++ r))
+line-old : (w : List ℕ) (a : Assignment Cell) (r : List Cell) → from_first_word (led_words a.value) ≡ a.value → old_cells (line_without_pieces w a r) ≡ concat (before_value a) ++ (concat a.value ++ (concat a.after ++ r))
 line-old w a r h = ap (λ z. concat (before_value a) ++ z) (go (is_empty (staying w (led_words a.value))))
   where
     go : (b : Bool) → old_cells (if b then Replace (concat (a.value ++ a.after)) [] ∷ Keep r ∷ [] else remove_word_pieces w (led_words a.value) ++ Keep (concat a.after ++ r) ∷ []) ≡ concat a.value ++ (concat a.after ++ r)
@@ -86,13 +86,13 @@ module _ (x : Context) (m : List ℕ) (a : Assignment Cell) (here : class_of x m
   own-fold = ap (last_passes is_fold) (value-cells x m a None here)
 
   -- the parts of the line, and the cells after the assignment
-  own-parts : AssignParts m a
+  pub own-parts : AssignParts m a
   own-parts = assign-parts x m a None here
 
   abbrev pub own_rest : List Cell
   own_rest = concat own-parts.rest
 
-  pub own-cells : line_cells m ≡ concat (before_value a) ++ (concat a.value ++ (concat a.after ++ own_rest))
+  own-cells : line_cells m ≡ concat (before_value a) ++ (concat a.value ++ (concat a.after ++ own_rest))
   own-cells = own-parts.cells_are ∙ ap (λ z. concat (before_value a) ++ (concat a.value ++ z)) (concat-append a.after own-parts.rest)
 
   pub own-seen : (at : assignment.Assignment) → IsAssignmentAt (own_line m a) at → IsAssignmentSeen (own_line m a) at a own_rest

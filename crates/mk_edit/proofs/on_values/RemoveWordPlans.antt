@@ -1,32 +1,25 @@
 -- A word of a value less: its causes by what the code asks, and its plan.
-use Rattle.std.proofs.Common.{◌≡◌, refl, sym, ap, ◌∙◌, subst, arith, ℕ, ◌<◌, ◌≤◌, ◌||◌, not, List, [], ◌∷◌, ◌++◌, append_assoc, Bool, true, false, if◌then◌else◌, length, Option, Some, None, option_map}
+use Rattle.std.proofs.Common.{◌≡◌, refl, sym, ap, ◌∙◌, subst, arith, ℕ, ◌<◌, ◌≤◌, ◌||◌, not, List, [], ◌∷◌, ◌++◌, Bool, true, false, if◌then◌else◌, length, Option, Some, None, option_map}
 use Rattle.std.specs.Prelude.{Ok, Err, slice_get}
 use Rattle.std.proofs.lemmas.List.{append-nil}
 use Rattle.mk_lines.specs.Limits.{max_text}
-use Rattle.mk_lines.specs.PhysicalLines.{line_end, line_end_bytes, without_line_end}
+use Rattle.mk_lines.specs.PhysicalLines.{line_end, line_end_bytes}
 use Rattle.mk_lines.specs.Lists.{concat}
-use Rattle.mk_lines.specs.Cells.{Cell, joined_byte, raw_text, line_cells}
-use Rattle.mk_lines.specs.CellFaults.{has_stray}
-use Rattle.mk_lines.specs.Pieces.{Piece, Keep, Replace, new_bytes, old_bytes, old_cells, replacements}
+use Rattle.mk_lines.specs.Cells.{Cell, joined_byte}
+use Rattle.mk_lines.specs.Pieces.{Piece, Keep, Replace, new_bytes, old_bytes, replacements}
 use Rattle.mk_lines.specs.Units.{is_closed}
 use Rattle.mk_lines.specs.Words.{words_in}
-use Rattle.mk_lines.proofs.on_lists.ListLemmas.{concat-append}
-use Rattle.mk_lines.proofs.on_lists.PieceLemmas.{raw_text-old_cells, old_cells-append}
-use Rattle.mk_lines.proofs.on_cells.CellLemmas.{raw_text-cells}
-use Rattle.mk_lines.proofs.on_lines.LineEndLemmas.{without_line_end-line_end}
 use Rattle.mk_class.specs.ListTests.{is_empty}
 use Rattle.mk_class.specs.Texts.{is_one_of}
-use Rattle.mk_class.specs.Assignments.{Assignment, before_value}
+use Rattle.mk_class.specs.Assignments.{Assignment}
 use Rattle.mk_class.specs.Classes.{Class}
 use Rattle.mk_class.specs.Classes.Class.{Assign}
 use Rattle.mk_class.specs.LocatedClasses.{located_class, located_assignment}
 use Rattle.mk_class.specs.ClassedLines.{ClassedLine, classed_lines}
 use Rattle.mk_class.specs.declared.assignment.Assignment as assignment
 use Rattle.mk_class.specs.declared.class.Class.TheVariants as variants
-use Rattle.mk_class.proofs.on_classes.ClassLemmas.{has_stray-left, has_stray-right}
-use Rattle.mk_class.proofs.on_assignments.AssignmentLineLemmas.{AssignParts}
 use Rattle.mk_tree.specs.Documents.{IsFaithful, text_of}
-use Rattle.mk_tree.specs.LocatedLines.{LocatedLine, located_line, located_text, size_of}
+use Rattle.mk_tree.specs.LocatedLines.{LocatedLine, located_text, size_of}
 use Rattle.mk_tree.proofs.on_changes.Sizes.{size_of-text}
 use Rattle.mk_tree.proofs.on_changes.SpansInLines.{replacements-append}
 use Rattle.mk_edit_language.specs.Edits.{Edit, RemoveWord}
@@ -35,7 +28,7 @@ use Rattle.mk_edit_language.specs.Lengths.{bytes_put}
 use Rattle.mk_edit_language.specs.Stretches.{this_line}
 use Rattle.mk_edit_language.specs.EditSpans.{spans_of, where_found}
 use Rattle.mk_edit_language.specs.ValueSpans.{value_start, set_value_span, value_spans, assignment_spans}
-use Rattle.mk_edit_language.specs.ValueWords.{assignment_passes, has_value_word, LedWord, led_words, staying, from_first_word, first_gaps, pieces_after, remove_word_pieces, remove_word_spans}
+use Rattle.mk_edit_language.specs.ValueWords.{assignment_passes, has_value_word, LedWord, led_words, staying, first_gaps, pieces_after, remove_word_pieces, remove_word_spans}
 use Rattle.mk_edit_language.specs.WordPieces.{is_word_of}
 use Rattle.mk_edit_language.specs.RuleCauses.{class_found, absent}
 use Rattle.mk_edit_language.specs.LineCauses.{has_open_value, bares_end, bares_end_among, open_value, too_long}
@@ -44,16 +37,12 @@ use Rattle.mk_edit_language.specs.Refusals.{spans}
 use Rattle.mk_edit_language.specs.declared.refusal.Refusal.TheVariants.{Absent, OpenValue}
 use Rattle.mk_edit_language.proofs.on_lines.ClassParts.{raw_width-append}
 use Rattle.mk_edit_language.proofs.on_values.SetValueLemmas.{not_prefix}
-use Rattle.mk_edit_language.proofs.on_values.AppendValueLemmas.{value-units}
-use Rattle.mk_edit_language.proofs.on_values.WordParts.{IsPart, value-led}
-use Rattle.mk_edit_language.proofs.on_values.RemoveWordLemmas.{remove_word-old}
 use Rattle.mk_edit_parts.specs.Found.{IsAddressed, IsPlaceOf}
 use Rattle.mk_edit_parts.specs.LineRanges.{value_range_located}
 use Rattle.mk_edit_parts.specs.SeenAssignments.{IsAssignmentSeen, HasAssignment, IsAssignmentAt, IsAssignmentLine}
 use Rattle.mk_edit_parts.specs.ValuePieces.{line_without_pieces}
 use Rattle.mk_edit_parts.specs.declared.seek.Found.{Found}
 use Rattle.mk_edit_parts.proofs.CauseLemmas.{passed, holds}
-use Rattle.mk_edit_parts.proofs.on_values.ValueCells.{assign-parts, assign-no_stray}
 use Rattle.mk_edit.specs.ValueEdits.{IsRemoveWord, value_text_located}
 use Rattle.mk_edit.proofs.on_plans.CausePlans.{never-long}
 use Rattle.mk_edit.proofs.on_plans.LinePlans.{IsReplaced}
