@@ -1,5 +1,5 @@
 -- One assignment's line with its value changed, by the law of the edit of this value alone.
-use Rattle.std.proofs.Common.{◌≡◌, refl, ℕ, List, [], ◌∷◌, ◌++◌, true, false, not, ◌&&◌, ◌||◌, length, Some, None}
+use Rattle.std.proofs.Common.{◌≡◌, refl, ℕ, List, [], ◌∷◌, ◌++◌, true, false, not, ◌&&◌, length, None}
 use Rattle.std.proofs.lemmas.Bool.{and_parts, not-true, not-false}
 use Rattle.std.specs.List.{list_any}
 use Rattle.mk_lines.specs.Lists.{concat}

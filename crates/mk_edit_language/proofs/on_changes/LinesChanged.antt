@@ -1,5 +1,5 @@
 -- The lines of a text after a change of every value of a name, each in the place of the old one.
-use Rattle.std.proofs.Common.{◌≡◌, refl, sym, ap, ◌∙◌, subst, arith, ℕ, List, [], ◌∷◌, ◌++◌, map, Bool, true, false, ◌&&◌, ◌||◌, cond, append_assoc, length, length-append, ◌+◌, None}
+use Rattle.std.proofs.Common.{◌≡◌, refl, sym, ap, ◌∙◌, subst, ℕ, List, [], ◌∷◌, ◌++◌, map, Bool, true, false, ◌&&◌, ◌||◌, cond, append_assoc, length, length-append, ◌+◌, None}
 use Rattle.std.proofs.lemmas.Bool.{and_parts}
 use Rattle.std.proofs.lemmas.List.{append-nil, append_cancel_left, append_cancel_right}
 use Rattle.std.proofs.lemmas.List.Folds.{list_any-append}
@@ -16,7 +16,7 @@ use Rattle.mk_class.specs.Classes.Class.{Assign}
 use Rattle.mk_class.specs.Contexts.{Context, start, context_after}
 use Rattle.mk_class.specs.ClassedLines.{ClassedLine, classed_lines}
 use Rattle.mk_tree.specs.Documents.{text_of, context_of}
-use Rattle.mk_tree.specs.Items.{Item, items, items_of_line}
+use Rattle.mk_tree.specs.Items.{items, items_of_line}
 use Rattle.mk_tree.specs.LineTexts.{StandingLine, bytes_of}
 use Rattle.mk_tree.specs.EachReplaced.{ReplaceEach}
 use Rattle.mk_tree.proofs.on_documents.LinesInText.{line-in_text, run-in_text, reading-line, text_of-append, context_of-last, AreClassed, AreClassed-tail}

@@ -1,5 +1,5 @@
 -- The spans of a change of a value, in a line by itself and in a line of a text: the same bytes come of them.
-use Rattle.std.proofs.Common.{◌≡◌, refl, sym, ap, ◌∙◌, arith, ℕ, List, [], ◌∷◌, ◌++◌, map, Bool, true, false, cond, length, take, drop, ◌+◌, ◌-◌}
+use Rattle.std.proofs.Common.{◌≡◌, refl, sym, ap, ◌∙◌, arith, ℕ, List, [], ◌∷◌, ◌++◌, Bool, true, false, cond, length, take, drop, ◌+◌, ◌-◌}
 use Rattle.mk_lines.specs.Cells.{Cell, raw_text}
 use Rattle.mk_lines.specs.Pieces.{Replacement, replaced, Piece, Keep, Replace, replacements}
 use Rattle.mk_class.specs.ListTests.{is_empty}

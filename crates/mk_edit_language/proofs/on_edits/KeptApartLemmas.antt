@@ -1,5 +1,5 @@
 -- An edit of lines that may stand apart leaves the lines that it does not change, and makes each other line in its place.
-use Rattle.std.proofs.Common.{◌≡◌, refl, sym, ap, ◌∙◌, subst, arith, ℕ, List, [], ◌∷◌, ◌++◌, map, filter, Bool, true, false, zero, suc, take, length, ◌+◌, ◌≤◌}
+use Rattle.std.proofs.Common.{◌≡◌, refl, sym, ap, ◌∙◌, subst, arith, ℕ, List, [], ◌∷◌, map, filter, Bool, true, false, zero, suc, take, length, ◌+◌, ◌≤◌}
 use Rattle.std.specs.Str.{bytes_eq}
 use Rattle.std.proofs.lemmas.Bool.{eq-eqb}
 use Rattle.std.specs.Prelude.{Ok, if◌then◌else◌}
@@ -60,7 +60,7 @@ module _ (p : ClassedLine → Bool) (P : Context → ClassedLine → ClassedLine
 -- ---- spans
 
 -- spans that stand within the lines that are changed
-abbrev pub NoneWhereSame : (p : ClassedLine → Bool) → (f : ℕ → Class Cell → List Replacement) → Type 0
+abbrev NoneWhereSame : (p : ClassedLine → Bool) → (f : ℕ → Class Cell → List Replacement) → Type 0
 NoneWhereSame p f = (at : ℕ) (l : ClassedLine) → p l ≡ false → f at l.class ≡ []
 
 spans-stand : (p : ClassedLine → Bool) (f : ℕ → Class Cell → List Replacement) → RisesInLine f → NoneWhereSame p f → (c : Context) (at : ℕ) (ls : List ClassedLine) → AreClassed c ls → StandInLines p at ls (spans_in_lines f at ls)
