@@ -57,8 +57,10 @@ fn exchange_changed<A: Allocator + Copy>(
     requires room { length patch.old.moves
         + length (turn_moves turn (value_change_of change.now) (map meant_view places.now))
         ≤ patch.old.room }
-    ensures moves { IfOk result (λ _. patch.new ≡ record patch.old { moves = patch.old.moves
-        ++ turn_moves turn (value_change_of change.now) (map meant_view places.now) }) }
+    ensures moves { IfOk result (λ _. patch.new ≡ record patch.old {
+      moves = patch.old.moves
+          ++ turn_moves turn (value_change_of change.now) (map meant_view places.now);
+    }) }
     ensures reads { ReadsAnew
         (length (turn_moves turn (value_change_of change.now) (map meant_view places.now)))
         meter.old meter.new result }

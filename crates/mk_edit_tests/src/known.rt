@@ -86,7 +86,9 @@ fn holds(line: &[u8], word: &[u8]) -> bool {
     }
     let mut rest = line.strip_suffix(b"\n").unwrap_or(line);
     while let Some((first, after)) = split_first_word(rest) {
-        let is_name = first.strip_prefix(word).is_some_and(|value| value.starts_with(b"="));
+        let is_name = first
+            .strip_prefix(word)
+            .is_some_and(|value| value.starts_with(b"="));
         if is_name || first == word || first.strip_suffix(b":") == Some(word) {
             return true;
         }

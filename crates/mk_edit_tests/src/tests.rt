@@ -7,8 +7,8 @@ use crate::checks::{
 };
 use crate::edits::{
     Kind, add_assign, add_prereq, add_recipe, add_rule, add_word, append_value, change_values,
-    insert_recipe, remove_assign, remove_prereq, remove_recipe, remove_recipe_by_text, remove_rule, remove_word,
-    rename_target, set_recipe, set_recipe_by_text, set_value,
+    insert_recipe, remove_assign, remove_prereq, remove_recipe, remove_recipe_by_text, remove_rule,
+    remove_word, rename_target, set_recipe, set_recipe_by_text, set_value,
 };
 use mk_class::{Flavor, Meter};
 use mk_edit::{Edit, Field, Refusal, RuleSeparator, plan};
@@ -342,9 +342,7 @@ fn changes_of_all_values_are_refused(rt: HostRuntime) -> Result<(), Fail> {
 }
 
 #[test]
-fn a_change_of_all_values_is_refused_for_one_that_it_changes(
-    rt: HostRuntime,
-) -> Result<(), Fail> {
+fn a_change_of_all_values_is_refused_for_one_that_it_changes(rt: HostRuntime) -> Result<(), Fail> {
     let heap = Watched::new(rt.alloc());
     // the walk has noted a line before it comes to the open value
     let edit = change_values(&heap, b"F", Kind::Append, b"x");

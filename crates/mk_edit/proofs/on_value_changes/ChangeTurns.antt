@@ -193,8 +193,7 @@ module _ (n : List ℕ) (c : ValueChange) where
         go false e i o R rest = rest
         go true e i o R rest =
             let t = sym (changed-told n c f x k i) ∙ e in
-            let is = new-is x k m i t R in
-            (
+            let is = new-is x k m i t R in (
               record {
                 own = own-line x k i t o;
                 one = subst (λ z. logical_lines z ≡ z ∷ []) (sym is) R.in_place.one_line;

@@ -13,16 +13,16 @@ use Rattle.mk_edit.proofs.change_values_causes.accepted_change.Given.{Over}
 use Rattle.mk_edit.proofs.change_values_causes.accepted_change.Goals.{In_default, Else-is_reserved}
 use Rattle.mk_edit.proofs.change_values_causes.accepted_change.Goals as goal
 
+pub returns-in-Some-clause-refused : goal.returns-in-Some-clause-refused
+returns-in-Some-clause-refused g c =
+    let t = located_text c.args.doc.now in
+    sym (bad-first t (classed_lines t) (edit_of c.args.edit.now) (BadArgument c.in-Some.field) (sym c.bad_field.ensures ∙ ap field_refusal c.in-Some.is))
+
 fields : (g : Over) (c : In_default g) → bad_argument (edit_of c.args.edit.now) ≡ None
 fields g c = sym c.bad_field.ensures ∙ ap field_refusal c.in_default.is
 
 free : (g : Over) (c : Else-is_reserved g) → reserved (edit_of c.args.edit.now) ≡ None
 free g c = reserved-holds (edit_of c.args.edit.now) c.is_reserved.result c.is_reserved.ensures ∙ ap (λ b. where_holds b Reserved) c.if-is_reserved.false
-
-pub returns-in-Some-clause-refused : goal.returns-in-Some-clause-refused
-returns-in-Some-clause-refused g c =
-    let t = located_text c.args.doc.now in
-    sym (bad-first t (classed_lines t) (edit_of c.args.edit.now) (BadArgument c.in-Some.field) (sym c.bad_field.ensures ∙ ap field_refusal c.in-Some.is))
 
 pub returns-then-is_reserved-clause-refused : goal.returns-then-is_reserved-clause-refused
 returns-then-is_reserved-clause-refused g c =

@@ -44,8 +44,8 @@ returns-in-Set g c =
     let k = c.value_range-range.ensures ∙ ap (λ b. value_range_located b l) empty in
     mapped _ _ c.with_replaced.result
     (λ all e.
-        set-changed x l v bytes all.items r O k c.bytes.ensures.bytes (e ∙ ap (λ z. take r.start bytes ++ (z ++ drop r.end bytes)) c.deref.ensures.value)
-        ∙ ap (λ (z : ValueChange). bytes_changed z x l) (sym (ap value_change_of c.in-Set.is)))
+    set-changed x l v bytes all.items r O k c.bytes.ensures.bytes (e ∙ ap (λ z. take r.start bytes ++ (z ++ drop r.end bytes)) c.deref.ensures.value)
+    ∙ ap (λ (z : ValueChange). bytes_changed z x l) (sym (ap value_change_of c.in-Set.is)))
     c.with_replaced.ensures
 
 pub with_text_after-requires : goal.with_text_after-requires
@@ -62,8 +62,8 @@ returns-in-Append g c =
     let O : IsOwnLine (Append v) x l = subst (λ (z : ValueChange). IsOwnLine z x l) (ap value_change_of c.in-Append.is) c.requires in
     mapped _ _ c.with_text_after.result
     (λ bytes e.
-        e ∙ (ap (λ z. bytes_put z l) c.deref-in-Append.ensures.value
-        ∙ (sym (put-bytes (Append v) x l v (λ a. refl) O) ∙ ap (λ (z : ValueChange). bytes_changed z x l) (sym (ap value_change_of c.in-Append.is)))))
+    e ∙ (ap (λ z. bytes_put z l) c.deref-in-Append.ensures.value
+    ∙ (sym (put-bytes (Append v) x l v (λ a. refl) O) ∙ ap (λ (z : ValueChange). bytes_changed z x l) (sym (ap value_change_of c.in-Append.is)))))
     c.with_text_after.ensures
 
 pub returns-in-Add : goal.returns-in-Add
@@ -74,8 +74,8 @@ returns-in-Add g c =
     let O : IsOwnLine (Add w) x l = subst (λ (z : ValueChange). IsOwnLine z x l) (ap value_change_of c.in-Add.is) c.requires in
     mapped _ _ c.with_text_after-in-Add.result
     (λ bytes e.
-        e ∙ (ap (λ z. bytes_put z l) c.deref-in-Add.ensures.value
-        ∙ (sym (put-bytes (Add w) x l w (λ a. refl) O) ∙ ap (λ (z : ValueChange). bytes_changed z x l) (sym (ap value_change_of c.in-Add.is)))))
+    e ∙ (ap (λ z. bytes_put z l) c.deref-in-Add.ensures.value
+    ∙ (sym (put-bytes (Add w) x l w (λ a. refl) O) ∙ ap (λ (z : ValueChange). bytes_changed z x l) (sym (ap value_change_of c.in-Add.is)))))
     c.with_text_after-in-Add.ensures
 
 pub without_word-requires : goal.without_word-requires
@@ -89,7 +89,7 @@ returns-in-Remove g c =
     let O : IsOwnLine (Remove w) x l = subst (λ (z : ValueChange). IsOwnLine z x l) (ap value_change_of c.in-Remove.is) c.requires in
     mapped _ _ c.without_word.result
     (λ bytes e.
-        remove-changed x l w bytes.items c.assignment_of.result O c.assignment_of.ensures
-        (λ a r s. e a r s ∙ ap (λ z. new_bytes (line_without_pieces z a r) ++ line_end_bytes (line_end l.bytes)) c.deref-in-Remove.ensures.value)
-        ∙ ap (λ (z : ValueChange). bytes_changed z x l) (sym (ap value_change_of c.in-Remove.is)))
+    remove-changed x l w bytes.items c.assignment_of.result O c.assignment_of.ensures
+    (λ a r s. e a r s ∙ ap (λ z. new_bytes (line_without_pieces z a r) ++ line_end_bytes (line_end l.bytes)) c.deref-in-Remove.ensures.value)
+    ∙ ap (λ (z : ValueChange). bytes_changed z x l) (sym (ap value_change_of c.in-Remove.is)))
     c.without_word.ensures
