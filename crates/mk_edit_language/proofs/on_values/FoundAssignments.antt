@@ -88,12 +88,18 @@ pub record IsAssigned (l : ClassedLine) : Type 0 where
   pub class_is : l.class ≡ Assign assigned None
   pub no_prefix : is_prefix_name (unit_text joined_byte assigned.name) ≡ false
 
-named-assigned : (t n : List ℕ) (A : List ClassedLine) (l : ClassedLine) (B : List ClassedLine) → classed_lines t ≡ A ++ l ∷ B → IsNamed n l.class → is_prefix_name n ≡ false → IsAssigned l
-named-assigned t n A l B h m f =
-    let L = line-in_text t A l B h in
+assigned-there : (c : Context) (n : List ℕ) (l : ClassedLine) → class_of c l.bytes ≡ l.class → IsNamed n l.class → is_prefix_name n ≡ false → IsAssigned l
+assigned-there c n l h m f =
     let g : is_prefix_name (unit_text joined_byte m.assigned.name) ≡ false = subst (λ z. is_prefix_name z ≡ false) (sym m.name_is) f in
-    let p : m.sets ≡ None = prefix-of_class (context_of A) l.bytes m.assigned m.sets (L.class ∙ m.class_is) ∙ no_prefix-set (nat_lt 0 (context_of A).conditionals) m.assigned g in
+    let p : m.sets ≡ None = prefix-of_class c l.bytes m.assigned m.sets (h ∙ m.class_is) ∙ no_prefix-set (nat_lt 0 c.conditionals) m.assigned g in
     record { assigned = m.assigned; class_is = m.class_is ∙ ap (Assign m.assigned) p; no_prefix = g }
+
+-- a line that assigns a name other than that of the prefix, in its context
+pub assigned-in_context : (c : Context) (n : List ℕ) (l : ClassedLine) → class_of c l.bytes ≡ l.class → assigns n l.class ≡ true → is_prefix_name n ≡ false → IsAssigned l
+assigned-in_context c n l h k f = assigned-there c n l h (assigns-named n l.class k) f
+
+named-assigned : (t n : List ℕ) (A : List ClassedLine) (l : ClassedLine) (B : List ClassedLine) → classed_lines t ≡ A ++ l ∷ B → IsNamed n l.class → is_prefix_name n ≡ false → IsAssigned l
+named-assigned t n A l B h m f = assigned-there (context_of A) n l (line-in_text t A l B h).class m f
 
 -- so is each line of a text that assigns a name other than that of the prefix
 pub assigned-by_name : (t n : List ℕ) (A : List ClassedLine) (l : ClassedLine) (B : List ClassedLine) → classed_lines t ≡ A ++ l ∷ B → assigns n l.class ≡ true → is_prefix_name n ≡ false → IsAssigned l
