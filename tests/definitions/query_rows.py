@@ -8,7 +8,8 @@ Turns a table into a file of equations, by which the checker computes the defini
 
 tests/gate/rows.py says which files the crates keep.
 
-A table with the columns name, query, makefile and stdout says the text of each query itself. A table
+A table with the columns name, query, makefile and stdout says the text of each query itself. In one that
+has a column word too, the query is asked for this one name or target. A table
 with the columns name, makefile and reading says the items of each makefile (see reading_rows.py), and
 the texts of `vars`, `rules` and `check` are made from these: the items are laid on the logical lines of the
 makefile, which are cut here; the text of an item, or its being none, says on which line it is.
@@ -166,13 +167,18 @@ def check_text(laid):
 
 
 QUERIES = {"vars": vars_text, "rules": rules_text, "check": check_text}
+# The definitions of the queries that are asked for one name or target.
+CHOSEN = {"vars": "vars_named_text", "rules": "rules_for_text", "recipes": "recipes_for_text"}
 
 
 def given(table):
     """The rows of a table that says the text of each query."""
     for columns in rows_of_table(table):
         text, out = (unescape(columns[name]).encode("latin-1") for name in ("makefile", "stdout"))
-        yield columns["name"], columns["query"], text, out
+        question = f"{columns['query']}_text"
+        if "word" in columns:
+            question = f"{CHOSEN[columns['query']]} {antt_text(unescape(columns['word']).encode('latin-1'))}"
+        yield columns["name"], question, text, out
 
 
 def made(table):
@@ -182,8 +188,9 @@ def made(table):
         yield name, text, [text_of(laid) for text_of in QUERIES.values()]
 
 
-# What the two kinds of files import beside what both need.
+# What the three kinds of files import beside what all need.
 TEXTS = ("Rattle.mk_queries.specs.Queries.{vars_text, rules_text, recipes_text, check_text}", "Rattle.mk_queries.specs.Caveats.{caveats_text}")
+CHOSEN_TEXTS = ("Rattle.mk_queries.specs.Queries.{vars_named_text, rules_for_text, recipes_for_text}",)
 ANSWERS = ("Rattle.mk_rows.proofs.queries.Answers.{Answers, answers}",)
 
 
@@ -203,11 +210,13 @@ def main():
     if len(sys.argv) != 2:
         sys.exit("usage: query_rows.py TABLE")
     table = Path(sys.argv[1])
-    says_texts = table.read_text().split("\n", 1)[0].split("\t")[1] == "query"
+    head = table.read_text().split("\n", 1)[0].split("\t")
+    says_texts = "query" in head
     where = table.name if says_texts else f"readings/{table.name}"
     print(f"-- Queries and their texts. Made by `tests/definitions/query_rows.py tests/cases/{where}`.")
     if says_texts:
-        print_file(TEXTS, ((name, f"{query}_text {antt_text(text)}", antt_text(out)) for name, query, text, out in given(table)))
+        imported = CHOSEN_TEXTS if "word" in head else TEXTS
+        print_file(imported, ((name, f"{question} {antt_text(text)}", antt_text(out)) for name, question, text, out in given(table)))
     else:
         print_file(ANSWERS, ((name, f"answers {antt_text(text)}", " ".join(["Answers", *map(antt_text, outs)])) for name, text, outs in made(table)))
 

@@ -6,3 +6,4 @@ pub mod on_parts
 pub mod on_walks
 -- Definitions computed
 mod WorkedRows
+mod ChosenRows

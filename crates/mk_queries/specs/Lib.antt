@@ -5,6 +5,7 @@ pub mod StandingLines
 pub mod PartTexts
 pub mod ItemLines
 -- The queries
+pub mod Wanted
 pub mod Queries
 pub mod Caveats
 -- # Vocabulary of private contracts
@@ -12,3 +13,4 @@ pub mod Caveats
 pub mod LocatedTexts
 pub mod QueryWalks
 pub mod RecipeWalks
+pub mod WantedLines

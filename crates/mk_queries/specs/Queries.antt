@@ -11,6 +11,7 @@ use Rattle.mk_tree.specs.Items.Item.{Header}
 use Rattle.mk_tree.specs.RecipeLines.{stays_in_rule}
 use Rattle.mk_queries.specs.StandingLines.{standing_below, standing_lines, line_number, depth, recipe_count}
 use Rattle.mk_queries.specs.ItemLines.{variable_line, rule_line, recipe_line, unread_line}
+use Rattle.mk_queries.specs.Wanted.{is_assignment_of, is_header_for, said_if}
 
 -- what is said of some lines in order: what is said of the item of each line that has an item
 abbrev pub said_of_lines : (StandingLine → Item → List ℕ) → List StandingLine → List ℕ
@@ -18,14 +19,29 @@ said_of_lines say [] = []
 said_of_lines say (s ∷ ss) =
     concat (map (say s) (items_of_line s.line.class s.line.bytes)) ++ said_of_lines say ss
 
+-- `vars`, of an item where it stands: a line on an assignment
+abbrev pub say_variable : StandingLine → Item → List ℕ
+say_variable s = variable_line (line_number s) (depth s)
+
 -- the text of `vars`
 abbrev pub vars_text : List ℕ → List ℕ
-vars_text t = said_of_lines (λ s. variable_line (line_number s) (depth s)) (standing_lines t)
+vars_text t = said_of_lines say_variable (standing_lines t)
+
+-- the text of `vars --name`
+abbrev pub vars_named_text : (name : List ℕ) → List ℕ → List ℕ
+vars_named_text n t = said_of_lines (said_if (is_assignment_of n) say_variable) (standing_lines t)
+
+-- `rules`, of an item where it stands: a line on a header
+abbrev pub say_rule : StandingLine → Item → List ℕ
+say_rule s = rule_line (line_number s) (depth s) (recipe_count s)
 
 -- the text of `rules`
 abbrev pub rules_text : List ℕ → List ℕ
-rules_text t =
-    said_of_lines (λ s. rule_line (line_number s) (depth s) (recipe_count s)) (standing_lines t)
+rules_text t = said_of_lines say_rule (standing_lines t)
+
+-- the text of `rules --target`
+abbrev pub rules_for_text : (target : List ℕ) → List ℕ → List ℕ
+rules_for_text g t = said_of_lines (said_if (is_header_for g) say_rule) (standing_lines t)
 
 -- those of some lines that stand in a rule whose header is above them: the lines before the first
 -- that ends it
@@ -52,6 +68,10 @@ rule_recipes s i = []
 -- the text of `recipes`
 abbrev pub recipes_text : List ℕ → List ℕ
 recipes_text t = said_of_lines rule_recipes (standing_lines t)
+
+-- the text of `recipes --target`
+abbrev pub recipes_for_text : (target : List ℕ) → List ℕ → List ℕ
+recipes_for_text g t = said_of_lines (said_if (is_header_for g) rule_recipes) (standing_lines t)
 
 -- a line on how many of this kind are open at the end of a text; nothing if none are
 abbrev pub open_count_line : (kind : List ℕ) → (count : ℕ) → List ℕ

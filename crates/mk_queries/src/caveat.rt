@@ -37,20 +37,20 @@ pub(crate) enum Caveat {
 
 impl Caveat {
     /// What is said of it.
-    pub(crate) fn sentence(self) -> &'static [u8]
+    pub(crate) fn sentence(self) -> &'static str
         ensures { result.now ≡ sentence self }
     {
         match self {
             Caveat::AfterEmpty => {
-                b"make may take this for a recipe line: an opaque line above is empty for make"
+                "make may take this for a recipe line: an opaque line above is empty for make"
             }
             Caveat::AfterConditional => {
-                b"make may take this for a recipe line: it may skip the conditional above"
+                "make may take this for a recipe line: it may skip the conditional above"
             }
-            Caveat::Conditional => b"make may obey this as a line of a conditional",
-            Caveat::Define => b"make may begin a define here",
-            Caveat::Assignment => b"make may set a variable here that no edit finds",
-            Caveat::Prefix => b"make may set the recipe prefix here",
+            Caveat::Conditional => "make may obey this as a line of a conditional",
+            Caveat::Define => "make may begin a define here",
+            Caveat::Assignment => "make may set a variable here that no edit finds",
+            Caveat::Prefix => "make may set the recipe prefix here",
         }
     }
 }

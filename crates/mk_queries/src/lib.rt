@@ -1,8 +1,9 @@
 //! Queries of a makefile.
 //!
-//! - [`vars`]: a line of text on each assignment.
-//! - [`rules`]: a line of text on each rule.
-//! - [`recipes`]: a line of text on each recipe line below a header.
+//! - [`vars`]: a line of text on each assignment; [`vars_named`]: on those of one name.
+//! - [`rules`]: a line of text on each rule; [`rules_for`]: on those for one target.
+//! - [`recipes`]: a line of text on each recipe line below a header; [`recipes_for`]: on those of
+//!   the rules for one target.
 //! - [`check`]: a line of text on each line that is not read inside, and what is open at the end.
 //! - [`caveats`]: a line of text on each line that make may read otherwise, as far as the lines
 //!   show it.
@@ -19,6 +20,7 @@
 //! - `make_word`: the first word of a line, as make finds it.
 //! - `seen`: what the lines above tell of rules, where make passes some of them.
 //! - `caveat`: what make may read in a line otherwise.
+//! - `wanted`: the one name or target that a query is asked for, and how it then sees the lines.
 //! - `query`: the five queries, each in the module of its name.
 #![tactic(auto)]
 
@@ -30,9 +32,10 @@ mod query;
 mod seen;
 mod spacing;
 mod targets;
+mod wanted;
 
 pub use query::caveats::caveats;
 pub use query::check::check;
-pub use query::recipes::recipes;
-pub use query::rules::rules;
-pub use query::vars::vars;
+pub use query::recipes::{recipes, recipes_for};
+pub use query::rules::{rules, rules_for};
+pub use query::vars::{vars, vars_named};

@@ -4,16 +4,19 @@ ghost use Rattle.std.specs.Prelude.{◌≡◌, false};
 ghost use Rattle.mk_tree.specs.Documents.{IsFaithful};
 
 use mk_lines::{ByteSink, Fault};
-use mk_queries::{caveats, check, recipes, rules, vars};
+use mk_queries::{caveats, check, recipes, recipes_for, rules, rules_for, vars, vars_named};
 use mk_tree::Doc;
 use std::alloc::Allocator;
 
-/// A query.
+/// A query, with the name or the target that it is asked for.
 #[derive(Clone, Copy)]
 pub enum Query {
     Vars,
+    VarsNamed(&'static str),
     Rules,
+    RulesFor(&'static str),
     Recipes,
+    RecipesFor(&'static str),
     Check,
     Caveats,
 }
@@ -26,8 +29,11 @@ impl Query {
     {
         match self {
             Query::Vars => vars(doc, out),
+            Query::VarsNamed(name) => vars_named(doc, name.as_bytes(), out),
             Query::Rules => rules(doc, out),
+            Query::RulesFor(target) => rules_for(doc, target.as_bytes(), out),
             Query::Recipes => recipes(doc, out),
+            Query::RecipesFor(target) => recipes_for(doc, target.as_bytes(), out),
             Query::Check => check(doc, out),
             Query::Caveats => caveats(doc, out),
         }
@@ -41,7 +47,7 @@ pub struct Row {
     pub text: &'static [u8],
 }
 
-pub static ROWS: [Row; 46] = [
+pub static ROWS: [Row; 53] = [
     // vars of an empty file
     Row {
         query: Query::Vars,
@@ -257,6 +263,48 @@ pub static ROWS: [Row; 46] = [
         query: Query::Recipes,
         makefile: b".RECIPEPREFIX = >\n%.o: %.c\n> cc $<\n>\n",
         text: b"3:0: %.o [1]  cc $<\n4:0: %.o [2] \n",
+    },
+    // vars of one name
+    Row {
+        query: Query::VarsNamed("A"),
+        makefile: b"A = 1\nB = 2\nall: A := 3 # c\n",
+        text: b"1:0: A = 1\n3:0: all: A := 3\n",
+    },
+    // vars of a name that begins another
+    Row {
+        query: Query::VarsNamed("A"),
+        makefile: b"AB = 1\nA = 2\nBA = 3\n",
+        text: b"2:0: A = 2\n",
+    },
+    // rules for one target
+    Row {
+        query: Query::RulesFor("a"),
+        makefile: b"a: b\n\tx\nb: c\n\ty\n\tz\na: d\n",
+        text: b"1:0: a: b [1]\n6:0: a: d [0]\n",
+    },
+    // rules for one of several targets
+    Row {
+        query: Query::RulesFor("b"),
+        makefile: b"a b: c\nb:: d ; e\nc d&: b\n",
+        text: b"1:0: a b: c [0]\n2:0: b:: d [1]\n",
+    },
+    // rules for a target of no rule
+    Row {
+        query: Query::RulesFor("b"),
+        makefile: b"a: b\nb: X = 1\n",
+        text: b"",
+    },
+    // recipes for one target
+    Row {
+        query: Query::RecipesFor("a"),
+        makefile: b"a:\n\tx\nb c:\n\ty\n\tz\na:\n\tw\n",
+        text: b"2:0: a [1] x\n7:0: a [1] w\n",
+    },
+    // recipes for one target are those of no other
+    Row {
+        query: Query::RecipesFor("a"),
+        makefile: b"a:\n\tx\nb:\n\ty\n\nifdef C\n\tz\nendif\n",
+        text: b"2:0: a [1] x\n",
     },
     // check counts both that are open
     Row {

@@ -1,5 +1,6 @@
 -- The parts of an assignment by their offsets, as the code has them.
-use Rattle.std.proofs.Common.{◌≡◌, refl, sym, ap, ◌∙◌, subst, arith, ℕ, ◌+◌, ◌≤◌, List, [], ◌++◌, map, length, append_assoc, append-nil, Bool, Option}
+use Rattle.std.proofs.Common.{◌≡◌, refl, sym, ap, ◌∙◌, subst, arith, ℕ, ◌+◌, ◌≤◌, List, [], ◌++◌, map, length, append_assoc, append-nil, Bool, true, false, if◌then◌else◌, Option, Some, None}
+use Rattle.std.specs.Str.{bytes_eq}
 use Rattle.std.specs.Prelude.{nat_lt, codes}
 use Rattle.std.proofs.lemmas.List.{length-map}
 use Rattle.mk_lines.proofs.on_lists.ListLemmas.{leading-after_leading}
@@ -35,11 +36,14 @@ use Rattle.mk_class.specs.declared.class.Class as class
 use Rattle.mk_class.specs.declared.class.Class.TheVariants as variants
 use Rattle.mk_class.specs.OperatorTexts.{operator_text, separator_text}
 use Rattle.mk_tree.specs.Items.{assigned, items_of_line}
+use Rattle.mk_tree.specs.Items.Item.{Assign as AssignItem, TargetAssign as TargetAssignItem}
 use Rattle.mk_tree.specs.LocatedLines.{LocatedLine, text_of_line}
 use Rattle.mk_lines.specs.Spacing.{each_before_space, after_space}
 use Rattle.mk_queries.specs.PartTexts.{modifier_text, assigned_text, targets_text}
 use Rattle.mk_queries.specs.ItemLines.{position_text, variable_line}
 use Rattle.mk_queries.specs.LocatedTexts.{IsClassedIn, IsAssignmentWithin, words_at, assigned_located, assigned_start, target_assigned_located, variable_located}
+use Rattle.mk_queries.specs.Wanted.{is_assignment_of}
+use Rattle.mk_queries.specs.WantedLines.{named_class}
 use Rattle.mk_queries.proofs.on_parts.ModifierLemmas.{HasModifiers, assignment-modifiers}
 use Rattle.mk_queries.proofs.on_parts.ColonLemmas.{target-wide}
 
@@ -183,6 +187,76 @@ variable-item n d c l Endif e = refl
 variable-item n d c l Directive e = refl
 variable-item n d c l Rough e = refl
 variable-item n d c l (Header x) e = refl
+
+-- ---- the lines of `vars --name`
+
+-- the name of an assignment, as the code finds it
+assign-name : (c : Context) (l : List ℕ) (a : Assignment Cell) (p : Option ℕ) → class_of c l ≡ Assign a p → text_at (joined_text (line_cells l)) (located_assignment 0 a).name ≡ unit_text joined_byte a.name
+assign-name c l a p e = (assign-at c l a p e).located.name.text_is
+
+target-name : (c : Context) (l : List ℕ) (t : TargetAssignment Cell) → class_of c l ≡ TargetAssign t → text_at (joined_text (line_cells l)) (located_target_assignment t).assignment.name ≡ unit_text joined_byte t.assigned.name
+target-name c l t e = (target-at c l t e).located.name.text_is
+
+-- what the code says of a line where one name is asked for is what is said of its item
+pub named-item : (w : List ℕ) (n d : ℕ) (c : Context) (l : List ℕ) (k : Class Cell) → class_of c l ≡ k
+    → variable_located n d (joined_text (line_cells l)) (named_class (Some w) (joined_text (line_cells l)) (located_class joined_byte k)) ≡ concat (map (λ i. if is_assignment_of w i then variable_line n d i else []) (items_of_line k l))
+named-item w n d c l (Assign a p) e =
+    ap (λ z. variable_located n d (joined_text (line_cells l)) (if bytes_eq z w then variants.Assign (located_assignment 0 a) p else variants.Directive)) (assign-name c l a p e)
+    ∙ go (bytes_eq (unit_text joined_byte a.name) w)
+  where
+    go : (b : Bool) → variable_located n d (joined_text (line_cells l)) (if b then variants.Assign (located_assignment 0 a) p else variants.Directive) ≡ (if b then variable_line n d (AssignItem (assigned a)) else []) ++ []
+    go true = variable-item n d c l (Assign a p) e
+    go false = refl
+named-item w n d c l (TargetAssign t) e =
+    ap (λ z. variable_located n d (joined_text (line_cells l)) (if bytes_eq z w then variants.TargetAssign (located_target_assignment t) else variants.Directive)) (target-name c l t e)
+    ∙ go (bytes_eq (unit_text joined_byte t.assigned.name) w)
+  where
+    go : (b : Bool) → variable_located n d (joined_text (line_cells l)) (if b then variants.TargetAssign (located_target_assignment t) else variants.Directive)
+        ≡ (if b then variable_line n d (TargetAssignItem (word_texts joined_byte t.targets) t.separator (assigned t.assigned)) else []) ++ []
+    go true = variable-item n d c l (TargetAssign t) e
+    go false = refl
+named-item w n d c l Endef e = refl
+named-item w n d c l (Body x) e = refl
+named-item w n d c l Recipe e = refl
+named-item w n d c l Opaque e = refl
+named-item w n d c l Blank e = refl
+named-item w n d c l Comment e = refl
+named-item w n d c l (DefineHead q) e = refl
+named-item w n d c l If e = refl
+named-item w n d c l Else e = refl
+named-item w n d c l Endif e = refl
+named-item w n d c l Directive e = refl
+named-item w n d c l Rough e = refl
+named-item w n d c l (Header x) e = refl
+
+-- a line that is seen as an assignment is one
+pub named-assign : (w : Option (List ℕ)) (t : List ℕ) (k : class.Class) (at : offsets.Assignment) (p : Option ℕ) → named_class w t k ≡ variants.Assign at p → k ≡ variants.Assign at p
+named-assign None t k at p h = h
+named-assign (Some n) t (variants.Assign a q) at p h = go (bytes_eq (text_at t a.name) n) h
+  where
+    go : (b : Bool) → (if b then variants.Assign a q else variants.Directive) ≡ variants.Assign at p → variants.Assign a q ≡ variants.Assign at p
+    go true h = h
+    go false h = cc
+named-assign (Some n) t (variants.TargetAssign a) at p h = go (bytes_eq (text_at t a.assignment.name) n) h
+  where
+    go : (b : Bool) → (if b then variants.TargetAssign a else variants.Directive) ≡ variants.Assign at p → variants.TargetAssign a ≡ variants.Assign at p
+    go true h = cc
+    go false h = cc
+named-assign (Some n) t k at p h = h
+
+pub named-target : (w : Option (List ℕ)) (t : List ℕ) (k : class.Class) (at : target_offsets.TargetAssignment) → named_class w t k ≡ variants.TargetAssign at → k ≡ variants.TargetAssign at
+named-target None t k at h = h
+named-target (Some n) t (variants.TargetAssign a) at h = go (bytes_eq (text_at t a.assignment.name) n) h
+  where
+    go : (b : Bool) → (if b then variants.TargetAssign a else variants.Directive) ≡ variants.TargetAssign at → variants.TargetAssign a ≡ variants.TargetAssign at
+    go true h = h
+    go false h = cc
+named-target (Some n) t (variants.Assign a q) at h = go (bytes_eq (text_at t a.name) n) h
+  where
+    go : (b : Bool) → (if b then variants.Assign a q else variants.Directive) ≡ variants.TargetAssign at → variants.Assign a q ≡ variants.TargetAssign at
+    go true h = cc
+    go false h = cc
+named-target (Some n) t k at h = h
 
 -- ---- the same as what the code puts one after the other
 

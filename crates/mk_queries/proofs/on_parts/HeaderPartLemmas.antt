@@ -1,12 +1,12 @@
 -- The parts of a header by their offsets, as the code has them.
-use Rattle.std.proofs.Common.{◌≡◌, refl, sym, ap, ◌∙◌, subst, arith, ℕ, List, [], ◌∷◌, ◌++◌, length, append-nil, if◌then◌else◌, inl, inr, Option, Some, None}
+use Rattle.std.proofs.Common.{◌≡◌, refl, sym, ap, ◌∙◌, subst, arith, ℕ, List, [], ◌∷◌, ◌++◌, length, append-nil, Bool, true, false, if◌then◌else◌, inl, inr, Option, Some, None}
 use Rattle.std.specs.Prelude.{◌⊎◌, codes}
 use Rattle.std.proofs.lemmas.List.{length-map}
 use Rattle.mk_lines.specs.Cells.{Cell, joined_byte, joined_text, line_cells}
 use Rattle.mk_lines.specs.Ranges.{text_at}
 use Rattle.mk_lines.specs.declared.split.Span.{Span}
 use Rattle.mk_lines.specs.Words.{words_in}
-use Rattle.mk_class.specs.Texts.{word_texts}
+use Rattle.mk_class.specs.Texts.{is_one_of, word_texts}
 use Rattle.mk_class.specs.Headers
 use Rattle.mk_class.specs.Headers.{inline_recipe}
 use Rattle.mk_class.specs.Classes.{Class}
@@ -25,7 +25,8 @@ use Rattle.mk_tree.specs.LocatedLines.{LocatedLine, text_of_line}
 use Rattle.mk_lines.specs.Spacing.{each_after_space}
 use Rattle.mk_queries.specs.PartTexts.{targets_text, pattern_text, order_only_text, inline_count}
 use Rattle.mk_queries.specs.ItemLines.{position_text}
-use Rattle.mk_queries.specs.LocatedTexts.{IsClassedIn, IsSpanWithin, IsHeaderWithin, pattern_span, header_located, count_located, rule_located}
+use Rattle.mk_queries.specs.LocatedTexts.{IsClassedIn, IsSpanWithin, IsHeaderWithin, words_at, pattern_span, header_located, count_located, rule_located}
+use Rattle.mk_queries.specs.WantedLines.{target_class}
 use Rattle.mk_queries.specs.RecipeWalks.{targets_after}
 use Rattle.mk_queries.proofs.on_parts.AssignmentPartLemmas.{words-part}
 
@@ -72,9 +73,23 @@ header-seen c l x e =
     ∙ (ap (λ z. targets_text ts x.separator ++ (pattern_text ps ++ (each_after_space z ++ order_only_text order))) (words-part cs at.normal_start at.normal_end _ x.normal s.normal)
     ∙ ap (λ z. targets_text ts x.separator ++ (pattern_text ps ++ (each_after_space ns ++ order_only_text z))) (words-part cs (order_only_span at).start (order_only_span at).end _ x.order_only s.order_only)))
 
--- the targets of a header, as the walk over recipe lines has them
+-- the targets of a header
+pub targets-part : (c : Context) (l : List ℕ) (x : Headers.Header Cell) → class_of c l ≡ Header x → words_at (joined_text (line_cells l)) 0 (located_header joined_byte x).targets_end ≡ word_texts joined_byte x.targets
+targets-part c l x e = words-part (line_cells l) 0 (located_header joined_byte x).targets_end [] x.targets (header-located c l x e).targets
+
+-- a line that is seen as a header is one
+pub wanted-header : (w : Option (List ℕ)) (t : List ℕ) (k : class.Class) (at : header.Header) → target_class w t k ≡ variants.Header at → k ≡ variants.Header at
+wanted-header None t k at h = h
+wanted-header (Some g) t (variants.Header a) at h = go (is_one_of g (words_at t 0 a.targets_end)) h
+  where
+    go : (b : Bool) → (if b then variants.Header a else variants.Rough) ≡ variants.Header at → variants.Header a ≡ variants.Header at
+    go true h = h
+    go false h = cc
+wanted-header (Some g) t k at h = h
+
+-- the same, as the walk over recipe lines has them
 pub targets-seen : (c : Context) (l : List ℕ) (x : Headers.Header Cell) → class_of c l ≡ Header x → (g : List ℕ) → words_in (targets_after g (joined_text (line_cells l)) (located_class joined_byte (Header x))) ≡ word_texts joined_byte x.targets
-targets-seen c l x e g = words-part (line_cells l) 0 (located_header joined_byte x).targets_end [] x.targets (header-located c l x e).targets
+targets-seen c l x e g = targets-part c l x e
 
 -- an inline recipe counts as one line
 pub inline-counted : (x : Headers.Header Cell) → (if (located_header joined_byte x).has_recipe then 1 else 0) ≡ inline_count (raw_units (inline_recipe joined_byte x))

@@ -1,20 +1,21 @@
 -- What the walk of `vars` says is what is said of the assignments.
-use Rattle.std.proofs.Common.{◌≡◌, refl, sym, ap, ◌∙◌, subst, ℕ, ◌+◌, List, [], ◌∷◌, ◌++◌}
+use Rattle.std.proofs.Common.{◌≡◌, refl, sym, ap, ◌∙◌, subst, ℕ, ◌+◌, List, [], ◌∷◌, ◌++◌, Option, Some, None}
 use Rattle.mk_lines.specs.Cells.{joined_byte}
 use Rattle.mk_class.specs.LocatedClasses.{located_class}
 use Rattle.mk_class.specs.ClassedLines.{ClassedLine, classed_lines}
 use Rattle.mk_class.specs.Contexts.{Context, start, context_after, context_after_located}
 use Rattle.mk_tree.specs.Documents.{IsFaithful}
-use Rattle.mk_tree.specs.LocatedLines.{LocatedLine, located_lines, located_text, text_of_line}
+use Rattle.mk_tree.specs.LocatedLines.{LocatedLine, located_lines, located_text}
 use Rattle.mk_tree.specs.TreeWalks.{LinesInContext}
 use Rattle.mk_tree.proofs.on_documents.LinesInText.{AreClassed, AreClassed-class, AreClassed-tail, AreClassed-lines}
 use Rattle.mk_queries.specs.StandingLines.{line_number, depth}
-use Rattle.mk_queries.specs.ItemLines.{variable_line}
-use Rattle.mk_queries.specs.LocatedTexts.{IsClassedIn, variable_located}
-use Rattle.mk_queries.specs.Queries.{vars_text}
+use Rattle.mk_queries.specs.LocatedTexts.{IsClassedIn}
+use Rattle.mk_queries.specs.Wanted.{is_assignment_of, said_if}
+use Rattle.mk_queries.specs.WantedLines.{vars_wanted}
+use Rattle.mk_queries.specs.Queries.{say_variable}
 use Rattle.mk_queries.specs.QueryWalks.{line_feeds}
-use Rattle.mk_queries.proofs.WalksAhead.{variables_ahead}
-use Rattle.mk_queries.proofs.on_parts.AssignmentPartLemmas.{variable-item}
+use Rattle.mk_queries.proofs.WalksAhead.{variable_at, variables_ahead}
+use Rattle.mk_queries.proofs.on_parts.AssignmentPartLemmas.{named-item, variable-item}
 use Rattle.mk_queries.proofs.SaidSoFar.{said-next}
 use Rattle.mk_queries.proofs.on_walks.SaidLemmas.{said-document}
 
@@ -32,10 +33,9 @@ pub document-classed : (ls : List LocatedLine) → IsFaithful ls → AreClassedI
 document-classed ls h = let t = located_text ls in subst (AreClassedIn start) (sym h) (lines-classed start (classed_lines t) (AreClassed-lines t (classed_lines t) refl))
 
 -- the text of `vars` of a document
-pub vars-walk : (ls : List LocatedLine) → IsFaithful ls → variables_ahead 1 start ls ≡ vars_text (located_text ls)
-vars-walk ls h =
-    said-document (λ n c l. variable_located n c.conditionals (text_of_line l) l.class) (λ s. variable_line (line_number s) (depth s))
-    (λ s k. variable-item (line_number s) (depth s) _ s.line.bytes s.line.class k) ls h
+pub vars-walk : (w : Option (List ℕ)) (ls : List LocatedLine) → IsFaithful ls → variables_ahead w 1 start ls ≡ vars_wanted w (located_text ls)
+vars-walk None ls h = said-document (variable_at None) say_variable (λ s k. variable-item (line_number s) (depth s) _ s.line.bytes s.line.class k) ls h
+vars-walk (Some n) ls h = said-document (variable_at (Some n)) (said_if (is_assignment_of n) say_variable) (λ s k. named-item n (line_number s) (depth s) _ s.line.bytes s.line.class k) ls h
 
 -- ---- the walk, line by line, on the lines that are ahead in their context
 
@@ -52,10 +52,10 @@ rest-classed ahead left c x e f i h =
     subst (λ z. AreClassedIn z left.lines) (sym i) s.1
 
 -- one line more; the code sees this context of it and this number of line feeds
-pub variables-next : (n m : ℕ) (c : Context) (bytes : List ℕ) (x : LocatedLine) (ahead left : LinesInContext) → c ≡ ahead.context → ahead.lines ≡ x ∷ left.lines → left.context ≡ context_after_located ahead.context x.class → bytes ≡ x.bytes → m ≡ line_feeds bytes → (front whole : List ℕ)
-    → front ++ variables_ahead n ahead.context ahead.lines ≡ whole → (front ++ variable_located n c.conditionals (text_of_line x) x.class) ++ variables_ahead (n + m) left.context left.lines ≡ whole
-variables-next n m c bytes x ahead left i e f b h front whole =
-    let said = variable_located n ahead.context.conditionals (text_of_line x) x.class in
-    said-next front _ _ _ whole (ap (λ (z : Context). variable_located n z.conditionals (text_of_line x) x.class ++ variables_ahead (n + m) left.context left.lines) i
-    ∙ (ap (λ k. said ++ variables_ahead (n + k) left.context left.lines) (h ∙ ap line_feeds b)
-    ∙ (ap (λ c. said ++ variables_ahead (n + line_feeds x.bytes) c left.lines) f ∙ ap (variables_ahead n ahead.context) (sym e))))
+pub variables-next : (w : Option (List ℕ)) (n m : ℕ) (c : Context) (bytes : List ℕ) (x : LocatedLine) (ahead left : LinesInContext) → c ≡ ahead.context → ahead.lines ≡ x ∷ left.lines → left.context ≡ context_after_located ahead.context x.class → bytes ≡ x.bytes → m ≡ line_feeds bytes → (front whole : List ℕ)
+    → front ++ variables_ahead w n ahead.context ahead.lines ≡ whole → (front ++ variable_at w n c x) ++ variables_ahead w (n + m) left.context left.lines ≡ whole
+variables-next w n m c bytes x ahead left i e f b h front whole =
+    let said = variable_at w n ahead.context x in
+    said-next front _ _ _ whole (ap (λ (z : Context). variable_at w n z x ++ variables_ahead w (n + m) left.context left.lines) i
+    ∙ (ap (λ k. said ++ variables_ahead w (n + k) left.context left.lines) (h ∙ ap line_feeds b)
+    ∙ (ap (λ c. said ++ variables_ahead w (n + line_feeds x.bytes) c left.lines) f ∙ ap (variables_ahead w n ahead.context) (sym e))))

@@ -33,7 +33,11 @@ fn put_caveat<W: ByteSink>(
     };
     let mut digits = itoa::Buffer::new();
     let number = digits.format(number).as_bytes();
-    put_parts(gathered, out, &[number, b": ", caveat.sentence(), b"\n"])
+    put_parts(
+        gathered,
+        out,
+        &[number, b": ", caveat.sentence().as_bytes(), b"\n"],
+    )
 }
 
 /// Writes a line of text on each line of the makefile that make may read otherwise than it is read

@@ -1,17 +1,19 @@
 //! The query `recipes`: the recipe lines of rules, with the numbers by which edits mean them.
-ghost use Rattle.std.specs.Prelude.{◌≡◌, ◌<◌, ◌^◌, false, drop};
+ghost use Rattle.std.specs.Prelude.{◌≡◌, ◌<◌, ◌^◌, false, drop, option_map};
 ghost use Rattle.mk_lines.specs.Device.{Writes};
 ghost use Rattle.mk_tree.specs.Documents.{IsFaithful};
 ghost use Rattle.mk_tree.specs.LocatedLines.{located_text, text_of_line};
 ghost use Rattle.mk_tree.specs.Printing.{Gathers};
 ghost use Rattle.mk_tree.specs.Trees.{line_view};
 ghost use Rattle.mk_queries.specs.LocatedTexts.{IsClassedIn, count_of};
-ghost use Rattle.mk_queries.specs.Queries.{recipes_text};
+ghost use Rattle.mk_queries.specs.Queries.{recipes_for_text, recipes_text};
+ghost use Rattle.mk_queries.specs.WantedLines.{recipes_wanted};
 ghost use Rattle.mk_queries.specs.RecipeWalks.{passed_after, recipe_located, targets_after};
 
 use crate::gathering::put_parts;
 use crate::position::{line_feeds, put_position};
 use crate::spacing::put_spaced;
+use crate::wanted::target_class;
 use mk_class::{Class, Context};
 use mk_lines::Fault;
 use mk_lines::sink::{ByteSink, write_all};
@@ -46,6 +48,41 @@ pub fn recipes<A: Allocator, W: ByteSink>(doc: &Doc<A>, out: &mut W) -> Result<(
     ensures { Writes W.contents W.failed W.flushes out.old out.new result
         (recipes_text (located_text doc.now)) }
 {
+    recipe_lines(doc, None, out)
+}
+
+/// Writes those lines of [`recipes`] alone that tell of a recipe line of a rule for this target.
+/// Nothing is flushed. Takes no memory.
+///
+/// It asks for a faithful document.
+///
+/// # Errors
+///
+/// [`Fault::Write`] if a write answered it or took no byte. A prefix of the text is out then.
+pub fn recipes_for<A: Allocator, W: ByteSink>(
+    doc: &Doc<A>,
+    target: &[u8],
+    out: &mut W,
+) -> Result<(), Fault>
+    requires faithful { IsFaithful doc.now }
+    requires works { W.failed out.old ≡ false }
+    ensures { Writes W.contents W.failed W.flushes out.old out.new result
+        (recipes_for_text target.now (located_text doc.now)) }
+{
+    recipe_lines(doc, Some(target), out)
+}
+
+// Writes the lines on the recipe lines, of the rules for one target where one is asked for.
+fn recipe_lines<A: Allocator, W: ByteSink>(
+    doc: &Doc<A>,
+    target: Option<&[u8]>,
+    out: &mut W,
+) -> Result<(), Fault>
+    requires faithful { IsFaithful doc.now }
+    requires works { W.failed out.old ≡ false }
+    ensures { Writes W.contents W.failed W.flushes out.old out.new result
+        (recipes_wanted (option_map (λ word. word.now) target.entry) (located_text doc.now)) }
+{
     let _size = doc.size(); // its contract bounds the text, and so each number here
     let mut gathered = Gathered::new();
     let mut number = 1;
@@ -56,7 +93,7 @@ pub fn recipes<A: Allocator, W: ByteSink>(doc: &Doc<A>, out: &mut W) -> Result<(
     'lines: for (context, line) in doc.lines_with_contexts() {
         put_recipe(&mut gathered, out, number, context, targets, passed, line)?;
         targets = targets_after(targets, context, line);
-        passed = passed_after(passed, line);
+        passed = passed_after(passed, target_class(target, context, line));
         number += line_feeds(line.bytes());
     }
     write_all(out, &gathered)
@@ -95,8 +132,8 @@ fn put_recipe<A: Allocator, W: ByteSink>(
     )
 }
 
-// The text of a recipe line after the recipe prefix.
-fn after_prefix(text: &[u8]) -> &[u8]
+/// The text of a recipe line after the recipe prefix.
+pub(crate) fn after_prefix(text: &[u8]) -> &[u8]
     ensures { result.now ≡ drop 1 text.now }
 {
     match text {
@@ -105,9 +142,9 @@ fn after_prefix(text: &[u8]) -> &[u8]
     }
 }
 
-// The targets of the last header after a line, which stands in a context: those of the line, if it
-// is a header.
-fn targets_after<'a, A: Allocator>(
+/// The targets of the last header after a line, which stands in a context: those of the line, if it
+/// is a header.
+pub(crate) fn targets_after<'a, A: Allocator>(
     targets: &'a [u8],
     context: Context,
     line: &'a Line<A>,
@@ -128,13 +165,13 @@ fn targets_after<'a, A: Allocator>(
     }
 }
 
-// How many recipe lines of the last header are passed after a line, if the rule of this header is
-// not yet ended.
-fn passed_after<A: Allocator>(passed: Option<usize>, line: &Line<A>) -> Option<usize>
+/// How many recipe lines of the last header are passed after a line of this class, if the rule of this
+/// header is not yet ended.
+pub(crate) fn passed_after(passed: Option<usize>, class: Class) -> Option<usize>
     requires { count_of passed < 2 ^ 32 }
-    ensures { result ≡ passed_after passed (line_view line.now).class }
+    ensures { result ≡ passed_after passed class }
 {
-    match line.class() {
+    match class {
         Class::Header(_) => Some(0),
         Class::Recipe => passed.map(|count| count + 1),
         Class::Blank | Class::Comment | Class::If | Class::Else | Class::Endif => passed,

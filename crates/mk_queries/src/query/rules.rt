@@ -1,5 +1,5 @@
 //! The query `rules`: the headers of rules.
-ghost use Rattle.std.specs.Prelude.{◌≡◌, ◌+◌, ◌<◌, ◌^◌, false, IfOk, length};
+ghost use Rattle.std.specs.Prelude.{◌≡◌, ◌+◌, ◌<◌, ◌^◌, false, IfOk, length, option_map};
 ghost use Rattle.mk_lines.specs.Device.{Writes};
 ghost use Rattle.mk_lines.specs.Ranges.{text_at};
 ghost use Rattle.mk_tree.specs.Documents.{IsFaithful};
@@ -10,12 +10,14 @@ ghost use Rattle.mk_queries.specs.PartTexts.{order_only_text, pattern_text};
 ghost use Rattle.mk_queries.specs.LocatedTexts.{IsClassedIn, IsHeaderWithin, count_of, count_located, counted_after, header_located, one_more, pattern_span, rule_located};
 ghost use Rattle.mk_class.specs.LineParts.{order_only_span};
 ghost use Rattle.mk_lines.specs.Words.{words_in};
-ghost use Rattle.mk_queries.specs.Queries.{rules_text};
+ghost use Rattle.mk_queries.specs.Queries.{rules_for_text, rules_text};
+ghost use Rattle.mk_queries.specs.WantedLines.{rules_wanted, target_class};
 
 use crate::gathering::put_parts;
 use crate::position::{line_feeds, put_position};
 use crate::spacing::put_each_after_space;
 use crate::targets::put_targets;
+use crate::wanted::target_class;
 use mk_class::{Class, Context, Header};
 use mk_lines::sink::{ByteSink, write_all};
 use mk_lines::split::Span;
@@ -51,13 +53,48 @@ pub fn rules<A: Allocator, W: ByteSink>(doc: &Doc<A>, out: &mut W) -> Result<(),
     ensures { Writes W.contents W.failed W.flushes out.old out.new result
         (rules_text (located_text doc.now)) }
 {
+    headers(doc, None, out)
+}
+
+/// Writes those lines of [`rules`] alone that tell of a rule for this target. Nothing is flushed.
+/// Takes no memory.
+///
+/// It asks for a faithful document.
+///
+/// # Errors
+///
+/// [`Fault::Write`] if a write answered it or took no byte. A prefix of the text is out then.
+pub fn rules_for<A: Allocator, W: ByteSink>(
+    doc: &Doc<A>,
+    target: &[u8],
+    out: &mut W,
+) -> Result<(), Fault>
+    requires faithful { IsFaithful doc.now }
+    requires works { W.failed out.old ≡ false }
+    ensures { Writes W.contents W.failed W.flushes out.old out.new result
+        (rules_for_text target.now (located_text doc.now)) }
+{
+    headers(doc, Some(target), out)
+}
+
+// Writes the lines on the headers, for one target where one is asked for.
+fn headers<A: Allocator, W: ByteSink>(
+    doc: &Doc<A>,
+    target: Option<&[u8]>,
+    out: &mut W,
+) -> Result<(), Fault>
+    requires faithful { IsFaithful doc.now }
+    requires works { W.failed out.old ≡ false }
+    ensures { Writes W.contents W.failed W.flushes out.old out.new result
+        (rules_wanted (option_map (λ word. word.now) target.entry) (located_text doc.now)) }
+{
     let _size = doc.size(); // its contract bounds the text, and so each number here
     let mut gathered = Gathered::new();
     let mut number = 1;
     // How many recipe lines the last header has so far, if its line of text is not yet ended.
     let mut counted = None;
     'lines: for (context, line) in doc.lines_with_contexts() {
-        counted = put_rule(&mut gathered, out, number, context, counted, line)?;
+        counted = put_rule(&mut gathered, out, number, context, counted, target, line)?;
         number += line_feeds(line.bytes());
     }
     put_count(&mut gathered, out, counted)?;
@@ -66,13 +103,15 @@ pub fn rules<A: Allocator, W: ByteSink>(doc: &Doc<A>, out: &mut W) -> Result<(),
 
 // Puts what is said at a line behind the texts that are held back. The line has this number and
 // stands in this context. `counted` is the number of recipe lines so far of a header above it whose
-// line of text is not yet ended. Answers this number for the last header after the line.
+// line of text is not yet ended. Answers this number for the last header after the line. Where a
+// target is asked for, a header without it is as the line of a rule that is not read inside.
 fn put_rule<A: Allocator, W: ByteSink>(
     gathered: &mut Gathered,
     out: &mut W,
     number: usize,
     context: Context,
     counted: Option<usize>,
+    target: Option<&[u8]>,
     line: &Line<A>,
 ) -> Result<Option<usize>, Fault>
     requires works { W.failed out.old ≡ false }
@@ -80,11 +119,13 @@ fn put_rule<A: Allocator, W: ByteSink>(
     requires few { count_of counted < 2 ^ 32 }
     ensures writes { Gathers W.contents W.failed W.flushes out.old out.new gathered.old.items
         gathered.new.items result (rule_located number context.conditionals counted
-        (text_of_line (line_view line.now)) (line_view line.now).class) }
-    ensures counted { IfOk result (λ after.
-        after ≡ counted_after counted (line_view line.now).class) }
+        (text_of_line (line_view line.now)) (target_class (option_map (λ word. word.now) target.entry)
+        (text_of_line (line_view line.now)) (line_view line.now).class)) }
+    ensures counted { IfOk result (λ after. after ≡ counted_after counted
+        (target_class (option_map (λ word. word.now) target.entry)
+        (text_of_line (line_view line.now)) (line_view line.now).class)) }
 {
-    match line.class() {
+    match target_class(target, context, line) {
         Class::Header(header) => {
             put_count(gathered, out, counted)?;
             put_position(gathered, out, number, context.conds())?;
@@ -153,8 +194,8 @@ fn put_header<W: ByteSink>(
     put_order_only(gathered, out, order_only(text, at))
 }
 
-// The pattern of a header with the blanks around it; the empty text if there is no pattern.
-fn pattern<'a>(text: &'a [u8], at: &Header) -> &'a [u8]
+/// The pattern of a header with the blanks around it; the empty text if there is no pattern.
+pub(crate) fn pattern<'a>(text: &'a [u8], at: &Header) -> &'a [u8]
     requires { IsHeaderWithin (length text.now) at.now }
     ensures { result.now ≡ text_at text.now (pattern_span at.now) }
 {
@@ -163,8 +204,8 @@ fn pattern<'a>(text: &'a [u8], at: &Header) -> &'a [u8]
     part(text, Span { start, end })
 }
 
-// The order-only prerequisites of a header.
-fn order_only<'a>(text: &'a [u8], at: &Header) -> &'a [u8]
+/// The order-only prerequisites of a header.
+pub(crate) fn order_only<'a>(text: &'a [u8], at: &Header) -> &'a [u8]
     requires { IsHeaderWithin (length text.now) at.now }
     ensures { result.now ≡ text_at text.now (order_only_span at.now) }
 {

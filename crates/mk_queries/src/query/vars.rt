@@ -1,18 +1,20 @@
 //! The query `vars`: the assignments.
-ghost use Rattle.std.specs.Prelude.{◌≡◌, ◌≤◌, ◌++◌, false, codes, length};
+ghost use Rattle.std.specs.Prelude.{◌≡◌, ◌≤◌, ◌++◌, false, codes, length, option_map};
 ghost use Rattle.mk_lines.specs.Device.{Writes};
 ghost use Rattle.mk_tree.specs.Documents.{IsFaithful};
 ghost use Rattle.mk_tree.specs.LocatedLines.{located_text, text_of_line};
 ghost use Rattle.mk_tree.specs.Printing.{Gathers};
 ghost use Rattle.mk_tree.specs.Trees.{line_view};
 ghost use Rattle.mk_queries.specs.LocatedTexts.{IsAssignmentWithin, IsClassedIn, assigned_located, assigned_start, target_assigned_located, variable_located};
-ghost use Rattle.mk_queries.specs.Queries.{vars_text};
+ghost use Rattle.mk_queries.specs.Queries.{vars_named_text, vars_text};
+ghost use Rattle.mk_queries.specs.WantedLines.{named_class, vars_wanted};
 ghost use Rattle.mk_lines.specs.Spacing.{after_space};
 
 use crate::gathering::put_parts;
 use crate::position::{line_feeds, put_position};
 use crate::spacing::put_each_before_space;
 use crate::targets::put_targets;
+use crate::wanted::named_class;
 use mk_class::{Assignment, Class, Context, TargetAssignment};
 use mk_lines::Fault;
 use mk_lines::sink::{ByteSink, write_all};
@@ -47,33 +49,70 @@ pub fn vars<A: Allocator, W: ByteSink>(doc: &Doc<A>, out: &mut W) -> Result<(), 
     ensures { Writes W.contents W.failed W.flushes out.old out.new result
         (vars_text (located_text doc.now)) }
 {
+    variables(doc, None, out)
+}
+
+/// Writes those lines of [`vars`] alone that tell of an assignment of this name, for targets or not.
+/// Nothing is flushed. Takes no memory.
+///
+/// It asks for a faithful document.
+///
+/// # Errors
+///
+/// [`Fault::Write`] if a write answered it or took no byte. A prefix of the text is out then.
+pub fn vars_named<A: Allocator, W: ByteSink>(
+    doc: &Doc<A>,
+    name: &[u8],
+    out: &mut W,
+) -> Result<(), Fault>
+    requires faithful { IsFaithful doc.now }
+    requires works { W.failed out.old ≡ false }
+    ensures { Writes W.contents W.failed W.flushes out.old out.new result
+        (vars_named_text name.now (located_text doc.now)) }
+{
+    variables(doc, Some(name), out)
+}
+
+// Writes the lines on the assignments, of one name where one is asked for.
+fn variables<A: Allocator, W: ByteSink>(
+    doc: &Doc<A>,
+    name: Option<&[u8]>,
+    out: &mut W,
+) -> Result<(), Fault>
+    requires faithful { IsFaithful doc.now }
+    requires works { W.failed out.old ≡ false }
+    ensures { Writes W.contents W.failed W.flushes out.old out.new result
+        (vars_wanted (option_map (λ word. word.now) name.entry) (located_text doc.now)) }
+{
     let _size = doc.size(); // its contract bounds the text, and so each number here
     let mut gathered = Gathered::new();
     let mut number = 1;
     'lines: for (context, line) in doc.lines_with_contexts() {
-        put_variable(&mut gathered, out, number, context, line)?;
+        put_variable(&mut gathered, out, number, context, name, line)?;
         number += line_feeds(line.bytes());
     }
     write_all(out, &gathered)
 }
 
 // Puts what is said of a line behind the texts that are held back. The line has this number and
-// stands in this context.
+// stands in this context. Where a name is asked for, nothing is said of an assignment of another.
 fn put_variable<A: Allocator, W: ByteSink>(
     gathered: &mut Gathered,
     out: &mut W,
     number: usize,
     context: Context,
+    name: Option<&[u8]>,
     line: &Line<A>,
 ) -> Result<(), Fault>
     requires works { W.failed out.old ≡ false }
     requires classed { IsClassedIn context (line_view line.now) }
     ensures { Gathers W.contents W.failed W.flushes out.old out.new gathered.old.items
         gathered.new.items result (variable_located number context.conditionals
-        (text_of_line (line_view line.now)) (line_view line.now).class) }
+        (text_of_line (line_view line.now)) (named_class (option_map (λ word. word.now) name.entry)
+        (text_of_line (line_view line.now)) (line_view line.now).class)) }
 {
     let text = text_of_line(line);
-    match line.class() {
+    match named_class(name, context, line) {
         Class::Assign(assignment, _) => {
             put_position(gathered, out, number, context.conds())?;
             put_assigned(gathered, out, text, 0, &assignment)

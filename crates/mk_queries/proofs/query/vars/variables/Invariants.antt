@@ -6,9 +6,9 @@ use Rattle.mk_lines.specs.Limits.{max_text}
 use Rattle.mk_class.specs.Contexts.{start}
 use Rattle.mk_tree.specs.LocatedLines.{size_of}
 use Rattle.mk_tree.specs.Printing.{Gathers}
-use Rattle.mk_queries.proofs.WalksAhead.{variables_ahead}
+use Rattle.mk_queries.proofs.WalksAhead.{asked, variables_ahead}
 use Rattle.mk_queries.proofs.on_walks.VariableLemmas.{AreClassedIn}
-use Rattle.mk_queries.proofs.query.vars.vars.Given as goal
+use Rattle.mk_queries.proofs.query.vars.variables.Given as goal
 
 abbrev pub invariant-lines : goal.invariant-lines
 invariant-lines g l =
@@ -16,6 +16,6 @@ invariant-lines g l =
     × AreClassedIn l.context-iterator.context l.context-iterator.lines
     × (l.number + size_of l.context-iterator.lines ≤ max_text + 1)
     × (
-    (front : List ℕ) × (front ++ variables_ahead l.number l.context-iterator.context l.context-iterator.lines ≡ variables_ahead 1 start l.doc)
+    (front : List ℕ) × (front ++ variables_ahead (asked l.name) l.number l.context-iterator.context l.context-iterator.lines ≡ variables_ahead (asked l.name) 1 start l.doc)
     × Gathers g.W.ByteSink.contents g.W.ByteSink.failed g.W.ByteSink.flushes l.initial.out l.out l.initial.gathered.items l.gathered.items (Ok (tt {0})) front
     )
