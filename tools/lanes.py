@@ -5,6 +5,10 @@ the crates of this chain are urgent: they get as many jobs as there are processo
 proof has steps that take one processor alone, at its begin, between its rounds and at its end. So other
 crates are proved beside an urgent one, each with one job and with less priority, unless the next crate of
 the chain waits for them too.
+
+With several jobs a proof ends sooner, and takes about a third more of processor time. So it has one job
+where that ends no later: where all that is left would keep the processors at work for longer than the chain
+takes, one crate after the other.
 """
 
 from typing import NamedTuple
@@ -39,9 +43,10 @@ class Crate(NamedTuple):
 class Lanes:
     """The crates that are not proved yet, and those that are being proved."""
 
-    def __init__(self, crates, processors, memory):
-        """crates: by name, each after those below it."""
+    def __init__(self, crates, processors, memory, others=0):
+        """crates: by name, each after those below it. others: the work that is left beside the proofs."""
         self.crates = crates
+        self.others = others
         self.processors = processors
         self.memory = PLANNED * memory
         self.left = [*crates]
@@ -63,7 +68,8 @@ class Lanes:
             first = [it for it in self.running if self.chains[it] >= self.chains[name]]
             if not is_urgent and len(first) >= self.processors:
                 break
-            jobs = self.jobs_of(name, self.processors // len(urgent) if is_urgent else 1)
+            has_several = is_urgent and self.is_longest(name)
+            jobs = self.jobs_of(name, self.processors // len(urgent) if has_several else 1)
             if not jobs:
                 break
             self.left.remove(name)
@@ -82,6 +88,11 @@ class Lanes:
         """Those that would make all end later if they waited as long as their own work takes."""
         longest = max(map(self.chains.get, [*ready, *self.running]), default=0)
         return [it for it in ready if longest - self.chains[it] < self.crates[it].work()]
+
+    def is_longest(self, name):
+        """Whether the longest chain from a crate on takes longer than all that is left on all processors."""
+        left = sum(self.crates[it].work() for it in [*self.left, *self.running])
+        return self.chains[name] * self.processors > left + self.others
 
     def awaited(self):
         """What the next crate of the longest chain waits for."""

@@ -4,6 +4,8 @@ The toolchain begins a task where a processor is free, and a task keeps it to it
 of the longest chain waits until wrong bodies have been tried, and gets one processor where it could use
 four. Here the proofs get their jobs as `make` gives them (tools/lanes.py), and begin at once. All else
 goes on beside them with less priority: other proofs, and the wrong bodies, as many as there are processors.
+Wrong bodies are work that keeps the processors busy too, so a proof may have one job here where it has two
+in `make`.
 """
 
 import os
@@ -15,7 +17,7 @@ from tests import TOP
 
 sys.path.insert(0, str(TOP / "tools"))
 # (below the line that says where it is)
-from lanes import Crate, Lanes  # noqa: E402
+from lanes import LONE_STEPS, Crate, Lanes  # noqa: E402
 from toolchain import lacking  # noqa: E402
 
 # The parts of the toolchain's script that are called or replaced, as tools/toolchain.py lists such parts.
@@ -26,6 +28,8 @@ SEED = "seed"
 EDITS = ("edits", SEED)
 # How much all else gives way to the proofs that others wait for.
 GIVES_WAY = 10
+# The work of a task that tries wrong bodies, as a part of that of the crate's proof.
+TRYING = 0.5
 # What a check takes of the memory that the toolchain's script reckons with.
 TAKEN = 0.5
 
@@ -56,8 +60,13 @@ class Tasks:
         after, lines, memory, _ = self.tasks[key]
         return Crate(tuple(after), lines, TAKEN * memory)
 
+    def trying_left(self):
+        """The work of the wrong bodies that are not tried yet."""
+        return sum(TRYING * (LONE_STEPS + self.tasks[it][1]) for it in [*self.edits, *self.trying])
+
     def starts(self):
         """The keys that begin now, each with its jobs, and whether it goes before others."""
+        self.lanes.others = self.trying_left()
         for key, jobs, is_urgent in self.lanes.starts():
             if not is_urgent:
                 self.beside.add(key)

@@ -34,6 +34,11 @@ class Said:
     def is_proved(self, function):
         return self.verdicts.get(function) == "proved"
 
+    def lacks_others(self, wrong):
+        """Whether a function has a fault of its own that is none of the wrong ones and calls none of them."""
+        others = (it for it in self.verdicts if it not in wrong and not self.waits_for(it) & wrong)
+        return any(map(self.fault_of, others))
+
     def fault_of(self, function):
         """The first fault of the function's own: a goal that was tried in vain, or a wrong answer.
 

@@ -7,14 +7,16 @@ in vain, or where an answer of that function's proof does not fit any more; that
 proved refuses nothing. What no round can judge is tried by itself, as `rt ci` does it. What is
 refused only because a proof names what the wrong body lacks shows nothing, and fails.
 
-Each round begins with the same folder of proofs, the seed: what one check has proved of the functions
-that are to be made wrong, as they stand. So no round proves again what another has made wrong. And it
-shows that the rounds can prove: where one of these functions is not proved in it, there is no seed,
-and each wrong body is tried by itself. The first one that rounds cannot judge has the whole crate
-proved over the seed.
+The many wrong bodies of a crate are tried in up to four shares side by side, where the toolchain can,
+each in rounds of its own. Each round begins with the same folder of proofs, the seed: what one check,
+beside that of the crate, has proved of the functions that are to be made wrong, as they stand. So no
+round proves again what another has made wrong. Where one of these functions is not proved in it, there
+is no seed, and each wrong body is tried by itself.
 
-Where the toolchain can, the many wrong bodies of a crate are tried in up to four shares side by side,
-each in rounds of its own. All of them begin with one seed, which is proved beside the crate itself.
+A few wrong bodies, as `make check` tries of a crate, need no seed: they are tried once the crate is
+proved, in one round or two, each over what the ones before have left. Such a round judges nothing where it does
+not prove a function that it leaves as it is and that calls none of the wrong ones. The first wrong body
+that rounds cannot judge has the whole crate proved.
 """
 
 import hashlib
@@ -46,12 +48,13 @@ def linked(seed, folder):
 
 
 class Trial:
-    """The wrong bodies of one crate, tried over a seed."""
+    """The wrong bodies of one crate, tried over a seed; or over what the rounds themselves leave in a folder."""
 
-    def __init__(self, script, crate, seed):
+    def __init__(self, script, crate, seed, is_sown=True):
         self.script = script
         self.crate = crate
         self.seed = seed
+        self.is_sown = is_sown
         self.folder = Path(crate.folder)
         # of each body, what was found: whether it is refused, and words on it
         self.found = {}
@@ -71,7 +74,10 @@ class Trial:
 
     @contextmanager
     def kept(self):
-        """A folder to check over, which begins as the seed and is removed at the end."""
+        """A folder to check over. Where there is a seed, it begins as the seed and is removed at the end."""
+        if not self.is_sown:
+            yield self.seed
+            return
         with tempfile.TemporaryDirectory(prefix="wrong-bodies-") as room:
             linked(self.seed, f"{room}/kept")
             yield f"{room}/kept"
@@ -93,7 +99,8 @@ class Trial:
         wrong = functions_of(bodies)
         with self.kept() as kept:
             said = self.said(texts, wrong, kept)
-        if not said.is_judged() or any(self.script.unread(it, texts) for it in said.lines):
+        is_doubtful = not self.is_sown and said.lacks_others(wrong)
+        if is_doubtful or not said.is_judged() or any(self.script.unread(it, texts) for it in said.lines):
             return self.try_halves(bodies)
         again = []
         for body in bodies:
@@ -152,17 +159,17 @@ def sown(script, crate, names, seed, jobs=1):
 def found_in_rounds(script, crate, names, seed=None):
     """What was found of some wrong bodies of a crate, by their names: whether each is refused, and words on it.
 
-    The seed is the one of these bodies and perhaps of others; without one it is made here. None where the
-    checks cannot be trusted. ValueError where one does not fit.
+    The seed is the one of these bodies and perhaps of others, if there is one. ValueError where a body does not
+    fit.
     """
     bodies = bodies_named(crate, names)
     with tempfile.TemporaryDirectory(prefix="wrong-bodies-") as room:
         own = f"{room}/seed"
         if seed:
             linked(seed, own)
-        elif not sown(script, crate, names, own):
-            return None
-        trial = Trial(script, crate, own)
+        else:
+            os.mkdir(own)
+        trial = Trial(script, crate, own, is_sown=bool(seed))
         for body in bodies:
             if not body.functions:
                 trial.try_alone(body)
@@ -180,10 +187,15 @@ def tried(script, crate, edits, seed=None):
     try:
         found = found_in_rounds(script, crate, {*names}, seed)
     except (OSError, ValueError):
-        found = None
-    if found is None or not found.keys() >= {*names}:
-        return [script.must_fail(crate, it, list(FLAGS)) for it in edits]
+        found = {}
+    if not found.keys() >= {*names}:
+        return tried_alone(script, crate, edits)
     return [answer(script, crate, it, *found[it]) for it in names]
+
+
+def tried_alone(script, crate, edits):
+    """The same, by a check of the whole crate from nothing for each."""
+    return [script.must_fail(crate, it, list(FLAGS)) for it in edits]
 
 
 def refusals(script):
@@ -284,7 +296,7 @@ def shares_of(crate, edits):
 
 
 class Shares:
-    """The wrong bodies of a crate as tasks of the toolchain's: the seed, and each share, which waits for it."""
+    """The wrong bodies of a crate as tasks of the toolchain's: each share, and for several shares the seed before them."""
 
     def __init__(self, script, crate, edits, kept, is_well):
         self.script = script
@@ -293,6 +305,7 @@ class Shares:
         self.kept = kept
         self.is_well = is_well
         self.shares = shares_of(crate, edits)
+        self.is_sown = len(self.shares) > 1
         self.alone = threading.Lock()
         self.earlier = None
         self.left = len(self.shares)
@@ -306,9 +319,11 @@ class Shares:
 
     def add_to(self, tasks, first, waits):
         name, lines, needs = self.crate.name, self.crate.count(rb"\n"), self.script.need(self.crate)
-        tasks[name, "seed"] = first, lines, needs, partial(self.sow, first)
+        seeds = [(name, "seed")] if self.is_sown else []
+        for it in seeds:
+            tasks[it] = first, lines, needs, partial(self.sow, first)
         for number, places in enumerate(self.shares):
-            after = [*waits, (name, "seed")]
+            after = [*waits, *seeds]
             tasks[name, "edits", number] = after, lines, self.script.OVER * needs, partial(self.try_share, places)
 
     def sow(self, first, given, jobs):
@@ -326,18 +341,23 @@ class Shares:
 
     def try_share(self, places, given, jobs):
         """What the wrong bodies of a share come to, by their places; None where the crate is not proved."""
-        known, room = self.known(), given[self.crate.name, "seed"]
+        known, room = self.known(), given.get((self.crate.name, "seed"))
         try:
             if not self.is_well(given, len(self.edits) - len(known)):
                 return None
             new = [at for at in places if at not in known]
-            seed = room and f"{room}/seed"
-            told = tried(self.script, self.crate, [self.edits[at] for at in new], seed) if new else []
+            told = self.told_of([self.edits[at] for at in new], room) if new else []
             found = dict(zip(new, told_at_once(self.script, told)))
             self.earlier.keep({at: it for at, it in found.items() if it[0] in refusals(self.script)})
             return {at: known.get(at) or found[at] for at in places}
         finally:
             self.end_share(room)
+
+    def told_of(self, edits, room):
+        """What some wrong bodies come to; each by itself where the seed was to be in a room, and is not."""
+        if self.is_sown and not room:
+            return tried_alone(self.script, self.crate, edits)
+        return tried(self.script, self.crate, edits, room and f"{room}/seed")
 
     def end_share(self, room):
         """Removes the seed after the last share."""

@@ -25,7 +25,7 @@ from .listed import listed, with_below
 from .part import copy_part
 from .crates import load
 from .proving import Said
-from .rounds import linked, take_rounds
+from .rounds import found_in_rounds, linked, take_rounds
 from .share import SHARES, Body, bodies_of, share_of
 from .texts import problems as old_texts
 from .tries import program_of, tests_of
@@ -378,7 +378,7 @@ def two_crates():
         ("low", "seed"): task(),
         ("low", "edits", 0): task(proof("low"), ("low", "seed")),
         ("low", "edits", 1): task(proof("low"), ("low", "seed")),
-        proof("high"): task(proof("low"), lines=10),
+        proof("high"): task(proof("low"), lines=1000),
         ("high", "seed"): task(proof("low"), lines=10),
     }
 
@@ -398,6 +398,11 @@ class Beside(unittest.TestCase):
     def test_the_next_proof_begins_though_wrong_bodies_are_tried(self):
         _, begun = self.begun()
         self.assertEqual(begun[0], (proof("high"), 2, True))
+
+    def test_a_proof_has_one_job_where_wrong_bodies_keep_the_processors_busy(self):
+        tasks = two_crates()
+        tasks["low", "edits", 2] = task(proof("low"), lines=5000)
+        self.assertEqual([*Tasks(tasks, 2, ENOUGH).starts()][0], (proof("low"), 1, True))
 
     def test_as_many_wrong_bodies_are_tried_as_there_are_processors(self):
         tasks, begun = self.begun()
@@ -451,6 +456,55 @@ class Toolchain(unittest.TestCase):
     def test_a_proof_that_names_what_is_gone_is_no_fault(self):
         error = "./proofs/a/f/Answers.antt:3:1: error: `loop-x` is not in scope\nfn low::a::f: not proved\nonly=1 proved=0\n"
         self.assertIsNone(Said("low", error).fault_of("a::f"))
+
+
+class Rounds(InRoom):
+    """Wrong bodies of a small crate, tried with a toolchain that says what it is told to say."""
+
+    SOURCE = "pub fn f() -> u8 {\n    1\n}\n\npub fn g() -> u8 {\n    2\n}\n"
+    # what the prover says of one function that is not proved, and of one whose callee is not
+    VAIN, CALLS = "no proof: `search` did not prove `returns`", "not proved: it calls `low::{}`, which is not proved"
+
+    def setUp(self):
+        super().setUp()
+        self.write("src/lib.rt", self.SOURCE)
+        for name, old in (("f_is_wrong", "    1"), ("g_is_wrong", "    2")):
+            self.write(f"must-fail/{name}.edit", f"file: src/lib.rt\nold: {old}\nnew:     7\n")
+        self.crate = types.SimpleNamespace(name="low", folder=str(self.room))
+
+    def write(self, name, text):
+        path = self.room / name
+        path.parent.mkdir(exist_ok=True)
+        path.write_text(text)
+
+    def tried(self, *verdicts):
+        """What is found where each check says the next of these verdicts of f and g; and the folders of the checks."""
+        said, folders = iter(verdicts), []
+
+        def checked(crate, texts, flags, kept):
+            folders.append(kept)
+            lines = "".join(f"fn low::{name}: {words}\n" for name, words in zip("fg", next(said)))
+            return types.SimpleNamespace(stdout=f"{lines}only=2 proved=0\n")
+
+        alone = lambda crate, edit, flags, kept: ("refused", f"must-fail {edit}: refused: alone")
+        script = types.SimpleNamespace(checked=checked, must_fail=alone, unread=lambda *_: False, REFUSED="refused", AT_LIMIT="limit")
+        found = found_in_rounds(script, self.crate, {"f_is_wrong", "g_is_wrong"})
+        return {name[0]: words for name, (is_refused, words) in found.items() if is_refused}, folders
+
+    def test_both_are_refused_in_one_round(self):
+        found, folders = self.tried((self.VAIN, self.VAIN))
+        self.assertEqual(found, dict.fromkeys("fg", "`search` did not prove `returns`"))
+        self.assertEqual(len(folders), 1)
+
+    def test_one_that_waits_for_the_other_is_tried_again_over_what_the_round_has_left(self):
+        found, folders = self.tried((self.VAIN, self.CALLS.format("f")), ("proved", self.VAIN))
+        self.assertEqual([*found], ["f", "g"])
+        self.assertEqual(len({*folders}), 1)
+
+    def test_a_round_that_does_not_prove_what_it_leaves_judges_nothing(self):
+        self.write("must-fail/g_is_wrong.edit", "file: src/lib.rt\nold:     1\nnew:     8\n")
+        found, folders = self.tried(*[(self.VAIN, self.VAIN)] * 9)
+        self.assertEqual(found, dict.fromkeys("fg", "alone"))
 
 
 class Refuse(InRoom):

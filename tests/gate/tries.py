@@ -8,9 +8,12 @@ tests are the same. `make check-all` proves the crates of tests too.
 
 import re
 import subprocess
+import sys
 import threading
 from concurrent.futures import ThreadPoolExecutor
 from typing import NamedTuple
+
+from tests import TOP
 
 RESULT = re.compile(rb"^test result: \w+\. (\d+) passed; (\d+) failed; 0 ignored; 0 filtered out$", re.M)
 # How many crates are tried at once, and how much they give way to the proofs beside them.
@@ -28,9 +31,10 @@ class Tried(NamedTuple):
 
 
 def rt_try(crate, words, given):
-    """Runs `rt try` in a crate's folder."""
-    command = ["nice", "-n", GIVES_WAY, "rt", "try", "--seconds", SECONDS, *words]
-    return subprocess.run(command, cwd=crate.folder, input=given, capture_output=True)
+    """Runs `rt try` in a crate's folder (trying.py)."""
+    module = [sys.executable, "-B", "-m", "tests.gate.trying", crate.folder]
+    command = ["nice", "-n", GIVES_WAY, *module, "--seconds", SECONDS, *words]
+    return subprocess.run(command, cwd=TOP, input=given, capture_output=True)
 
 
 def said_by(ran):

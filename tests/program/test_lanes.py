@@ -65,6 +65,11 @@ class LanesOfCrates(unittest.TestCase):
             last = lanes.starts() or last
         self.assertEqual(last, [("edit", 4, True), ("index", 1, True)])
 
+    def test_a_proof_has_one_job_where_other_work_keeps_the_processors_busy(self):
+        crates = {name: Crate(below, lines, ONE) for name, (below, lines) in GRAPH.items()}
+        for others, jobs in ((10_000, 2), (12_000, 1)):
+            self.assertEqual(Lanes(crates, 2, ENOUGH, others).starts()[0], ("lines", jobs, True))
+
     def test_one_processor_proves_one_crate_after_the_other(self):
         got = begun(1, ENOUGH, "lines class tree")
         self.assertEqual(got, [{"lines": 1}, {"class": 1}, {"tree": 1}, {"errors": 1}])
