@@ -192,7 +192,6 @@ fn check_all<'a>(heap: Heap<'a>, indexed: &mut IndexedDoc<Heap<'a>>) -> Result<(
     check_before(heap, indexed, remove_rule(heap, b"tail"))?;
     check_before(heap, indexed, add_assign(heap, b"E", Flavor::Simple, b"7"))?;
     check_before(heap, indexed, change_values(heap, b"A", Kind::Set, b"7"))?;
-    check_before(heap, indexed, change_values(heap, b"B", Kind::Add, b"7"))?;
     check_before(heap, indexed, change_values(heap, b"D", Kind::Set, b"7"))?;
     check_before(heap, indexed, rename_target(heap, b"mid", b"new"))?;
     check_before(heap, indexed, rename_target(heap, b"center", b"tail"))?;
@@ -242,6 +241,11 @@ fn what_is_known_after_each_edit_of_a_line_is_what_a_walk_finds(
     check_after(&heap, &mut indexed, remove_word(&heap, b"M", b"2"))?;
     let append = change_values(&heap, b"B", Kind::Append, b"2");
     check_after(&heap, &mut indexed, append)?;
+    check_before(
+        &heap,
+        &mut indexed,
+        change_values(&heap, b"B", Kind::Add, b"7"),
+    )?;
     check_after(&heap, &mut indexed, add_prereq(&heap, true, b"mid", b"new"))?;
     check_after(&heap, &mut indexed, remove_prereq(&heap, b"all", b"x"))?;
     check_after(&heap, &mut indexed, set_recipe(&heap, b"tail", 1, b"other"))?;
