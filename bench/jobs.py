@@ -77,16 +77,17 @@ def rename(size):
 
 
 def many(kind, count, size):
-    """A script of commands of a kind, whose names stand all over a makefile of pairs.
+    """A script of commands of a kind, whose names stand all over a makefile of pairs; or of one edit of so many lines.
 
     What it has to put out is what the plain program puts out, which has to be built.
     """
     commands = DATA / f"many-{kind.replace(' ', '-')}-{count}-{size}"
-    text, made_by = text_of("pairs", size), BENCH / "make_many.py"
+    of_text = f"every-{count}" if kind.startswith("all ") else "pairs"
+    text, made_by = text_of(of_text, size), BENCH / "make_many.py"
     if not is_made(commands, text, made_by):
         subprocess.run([made_by, kind, str(count), text, commands], check=True)
     words = ["edit", commands]
-    return Job(f"{count:,} {kind}", "pairs", size, words, [DATA / "plain", *words])
+    return Job(f"{count:,} {kind}", of_text, size, words, [DATA / "plain", *words])
 
 
 def query(name, size):

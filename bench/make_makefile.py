@@ -8,6 +8,7 @@ makefile  what build systems hold: variables, lists over many folds, rules and r
 settings  variables, comments and blank lines alone
 pairs     a variable, and a rule with a recipe, over and over: more than 10,000 of each in a megabyte.
           The object file that a rule makes is a target of this rule alone, and a prerequisite of some others
+every-N   `pairs` in which N variables, from all over it, have the name ALL and the flag -X first
 blank     one variable and then empty lines
 line      one variable with one long value
 
@@ -22,6 +23,7 @@ Each text but those has one line that begins with `CC = `, and its last line is 
 
 import argparse
 import random
+import re
 import sys
 
 WORDS = (
@@ -47,7 +49,9 @@ REPEATED = {
     "words": b"a ",
     "blanks": b" ",
 }
-KINDS = ("makefile", "settings", "pairs", "blank", "line", *REPEATED)
+# How many variables of a text have one name.
+EVERY = {f"every-{it}": it for it in (100, 1_000, 10_000)}
+KINDS = ("makefile", "settings", "pairs", *EVERY, "blank", "line", *REPEATED)
 COMMENT = "# How the {0} of {1} is built, and what {2} needs of it.\n"
 
 
@@ -150,8 +154,23 @@ class Writer:
         return self.pick([self.setting, self.setting, self.setting, self.comment, lambda: "\n"])()
 
 
+def with_one_name(pieces, count):
+    """A text of pairs in which so many variables have one name. Its last line, a comment, fills it up again."""
+    text = b"".join(pieces)
+    found = [*re.finditer(rb"(?m)^[A-Z]+\d+ (\S+) \S+", text)]
+    kept, at = [], 0
+    for it in (found[(number + 1) * len(found) // count - 1] for number in range(count)):
+        kept += [text[at : it.start()], b"ALL %s -X" % it[1]]
+        at = it.end()
+    changed = b"".join([*kept, text[at:-1]])
+    return changed + b"#" * (len(text) - len(changed) - 1) + b"\n"
+
+
 def texts(kind, seed, size):
     """The pieces of a text of the kind and size."""
+    if kind in EVERY:
+        yield with_one_name(texts("pairs", seed, size), EVERY[kind])
+        return
     if kind == "line":
         yield b"CC = " + b"x" * (size - 6) + b"\n"
         return

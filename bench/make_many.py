@@ -5,7 +5,8 @@
 
 KIND is the edit, with its place where it has one, or `mixture`. Each edit has a name of its own: one
 variable, or one rule, of each of so many equal parts of the makefile, in a random order. Each is
-accepted. In the mixture eight of ten commands are edits of random kinds, and somewhere among them an
+accepted. With `all` before the edit the script is this one edit, which changes COUNT lines of a makefile of the
+kind `every-COUNT`. In the mixture eight of ten commands are edits of random kinds, and somewhere among them an
 `undo` and a `redo` follow each other. The same arguments give the same script.
 """
 
@@ -33,6 +34,12 @@ COMMANDS = {
     "recipe-del": "recipe-del {target} 1",
     "recipe-insert": 'recipe-insert {target} 1 "@echo {number}"',
     "rename": "rename {target} new/{number}.o",
+}
+# One edit of every line of a name.
+OF_EVERY_LINE = {
+    "all set": "all set ALL value",
+    "all append": "all append ALL -DNEW",
+    "all drop": "all drop ALL -X",
 }
 # How many edits stand in so many commands of a mixture.
 EDITS, TURN = 8, 10
@@ -74,6 +81,9 @@ class Script:
 
 def main():
     kind, count, makefile, path = sys.argv[1], int(sys.argv[2]), *map(Path, sys.argv[3:])
+    if kind in OF_EVERY_LINE:
+        path.write_text(f"{OF_EVERY_LINE[kind]}\n", encoding="ascii")
+        return
     script = Script(count)
     draw = script.mixture if kind == MIXTURE else lambda *given: script.edits(given[0], kind, given[1])
     lines = draw(makefile.read_text(encoding="ascii"), count)

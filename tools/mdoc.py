@@ -11,7 +11,7 @@ REPLACED = re.compile(r"\b(?:(?P<field>PLACE|FILE)|(?P<nth>[KN])-th)\b")
 END = re.compile(r"\. (?=[A-Z]|$)")
 PUNCTUATION = ".,:;"
 COMMANDS = (
-    "nth set append add drop unset assign rule unrule depend depend-order undepend recipe recipe-set recipe-del "
+    "nth all set append add drop unset assign rule unrule depend depend-order undepend recipe recipe-set recipe-del "
     "recipe-insert recipe-replace recipe-remove rename undo redo begin end cancel"
 ).split()
 

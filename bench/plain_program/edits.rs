@@ -13,9 +13,16 @@ pub fn obey(document: &mut Document, command: &Command<'_>) -> Option<()> {
         _ => document.begin(),
     }
     match fields[..] {
-        [b"set", name, value] => give(document, name, value, false)?,
-        [b"append", name, value] => give(document, name, value, true)?,
-        [b"drop", name, word] => drop_word(document, name, word)?,
+        [kind @ (b"set" | b"append" | b"drop"), name, text] => {
+            change(document, variable(document, name)?, kind, text)?;
+        }
+        [b"all", kind, name, text] => {
+            let lines: Vec<u32> = variables(document, name).collect();
+            for line in &lines {
+                change(document, *line, kind, text)?;
+            }
+            lines.first()?;
+        }
         [b"unset", name] => document.take_out(variable(document, name)?),
         [b"assign", ref place @ .., name, operator, value] => {
             let gap: &[u8] = if value.is_empty() { b"" } else { b" " };
@@ -54,13 +61,17 @@ fn only(mut lines: impl Iterator<Item = u32>) -> Option<u32> {
     lines.next().is_none().then_some(first)
 }
 
-/// The line that assigns a variable.
-fn variable(document: &Document, name: &[u8]) -> Option<u32> {
-    only(document.variables.lines(name).filter(|number| {
+/// The lines that assign a variable.
+fn variables(document: &Document, name: &[u8]) -> impl Iterator<Item = u32> {
+    document.variables.lines(name).filter(move |number| {
         let line = document.line(*number);
         let is_named = matches!(class_of(line), Class::Assign { name: it, .. } if line[it.clone()] == *name);
         is_named && document.is_in(*number)
-    }))
+    })
+}
+
+fn variable(document: &Document, name: &[u8]) -> Option<u32> {
+    only(variables(document, name))
 }
 
 fn is_rule_of(document: &Document, number: u32, target: &[u8]) -> bool {
@@ -95,9 +106,17 @@ fn place_of(document: &Document, place: &[&[u8]]) -> Option<u32> {
     })
 }
 
+/// Changes the value of a variable in one of its lines.
+fn change(document: &mut Document, number: u32, kind: &[u8], text: &[u8]) -> Option<()> {
+    match kind {
+        b"set" | b"append" => give(document, number, text, kind == b"append"),
+        b"drop" => drop_word(document, number, text),
+        _ => None,
+    }
+}
+
 /// Gives a variable another value, or one more word.
-fn give(document: &mut Document, name: &[u8], value: &[u8], is_more: bool) -> Option<()> {
-    let number = variable(document, name)?;
+fn give(document: &mut Document, number: u32, value: &[u8], is_more: bool) -> Option<()> {
     let line = document.line(number).to_vec();
     let Class::Assign { operator_end, .. } = class_of(&line) else {
         return None;
@@ -110,8 +129,7 @@ fn give(document: &mut Document, name: &[u8], value: &[u8], is_more: bool) -> Op
 }
 
 /// Takes a word out of a value; at the front of the value it goes with the blanks after it.
-fn drop_word(document: &mut Document, name: &[u8], word: &[u8]) -> Option<()> {
-    let number = variable(document, name)?;
+fn drop_word(document: &mut Document, number: u32, word: &[u8]) -> Option<()> {
     let line = document.line(number).to_vec();
     let Class::Assign { operator_end, .. } = class_of(&line) else {
         return None;

@@ -90,8 +90,16 @@ def place_of(nth, fields):
     return f"({name} {number_of(nth)} {antt_text(fields[1])})", fields[2:]
 
 
+def antt_change(word, name, text):
+    """The command of every value of a name as the term of its edit."""
+    change = {b"set": "Set", b"append": "Append", b"add": "Add", b"drop": "Remove"}[word]
+    return f"(ChangeValues {antt_text(name)} (edits.{change} {antt_text(text)}))"
+
+
 def antt_edit(fields):
     """A command as the term of its edit, or None where it is no edit."""
+    if fields[0] == b"all":
+        return antt_change(*fields[1:])
     nth = None
     if fields[0] == b"nth":
         nth = int(fields[1])
@@ -182,10 +190,11 @@ IMPORTS = [
     ("Rattle.mk_edit_language.specs.Edits", ["Bottom", "BeforeVar", "AfterVar", "BeforeRule"]),
     (
         "Rattle.mk_edit_language.specs.Edits",
-        ["SetValue", "AppendValue", "AddWord", "RemoveWord", "AddAssign", "RemoveAssign", "AddRule", "RemoveRule", "AddPrereq", "RemovePrereq"]
+        ["SetValue", "AppendValue", "AddWord", "RemoveWord", "ChangeValues", "AddAssign", "RemoveAssign", "AddRule", "RemoveRule", "AddPrereq", "RemovePrereq"]
         + ["AddRecipe", "SetRecipe", "RemoveRecipe", "InsertRecipe", "SetRecipeByText", "RemoveRecipeByText"]
         + ["RenameTarget"],
     ),
+    ("Rattle.mk_edit_language.specs.Edits", "edits"),
     ("Rattle.mk_rows.proofs.edits.Outcomes", ["outcome", "account", "span"]),
     ("Rattle.mk_rows.proofs.edits.Outcomes", ["Becomes", "Refused", "Accepted", "NotMade"]),
 ]

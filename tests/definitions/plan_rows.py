@@ -26,7 +26,7 @@ A line of two columns, `table` and a name, begins a table. Each line below it is
 and then two columns for each command, up to the refusal that ended the run: its reply, which is `done` or
 the number, the name and the detail of a refusal between blanks, and its fields between blanks. The first
 field is the command's word, the second the number given by `nth`, or `-` where none is given; the
-commands `rename`, `undo`, `redo`, `begin`, `end` and `cancel` have no such field.
+commands `rename`, `undo`, `redo`, `begin`, `end` and `cancel`, and those that begin with `all`, have no such field.
 
 Columns stand between tabs. In a text \\\\, \\t, \\n and \\r stand for a backslash, a tab, a line end and a
 return, and \\xHH for the byte HH: of bytes that are not printable ASCII, of blanks in a field, and of a
@@ -45,6 +45,7 @@ TABLES = {
     "corners": CASES / "edits" / "corners.tsv",
     "random": CASES / "edits" / "random.tsv",
     "words": CASES / "edits" / "words.tsv",
+    "every-value": CASES / "edits" / "every-value.tsv",
     "random-recipes": CASES / "edits" / "random-recipes.tsv",
     "runs": CASES / "runs.tsv",
     "random-runs": CASES / "random-runs.tsv",
@@ -55,7 +56,7 @@ DEPTH = 100
 BAD_RUN = "2"
 ESCAPES = {9: "\\t", 10: "\\n", 13: "\\r", 92: "\\\\"}
 REPORT = re.compile(r"(\d+): refused (.*)")
-WITHOUT_NUMBER = (b"rename", b"undo", b"redo", b"begin", b"end", b"cancel")
+WITHOUT_NUMBER = (b"all", b"rename", b"undo", b"redo", b"begin", b"end", b"cancel")
 
 
 def escaped(byte):

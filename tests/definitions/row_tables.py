@@ -46,11 +46,16 @@ def stands_in(name, equations):
     return name == "[]" or bool(re.search(rf"(?<![\w.]){name}(?!\w)", equations))
 
 
+def import_of(module, names, equations):
+    """The line that imports what equations have of a module: some of its names, or all of them behind one word."""
+    if isinstance(names, str):
+        return f"use {module} as {names}\n" if re.search(rf"(?<![\w.]){names}\.", equations) else ""
+    used = [name for name in names if stands_in(name, equations)]
+    return f"use {module}.{{{', '.join(used)}}}\n" if used else ""
+
+
 def head_of(title, imports, body):
-    """The first lines of a file: its title, and of the imports, a module and its names each, what a body has."""
-    lines, equations = [f"-- {title}"], outside_texts(body)
-    for module, names in imports:
-        used = [name for name in names if stands_in(name, equations)]
-        if used:
-            lines.append(f"use {module}.{{{', '.join(used)}}}")
-    return "\n".join(lines) + "\n"
+    """The first lines of a file: its title, and of the imports what a body has. An import is a module with its
+    names, or with the word that stands before each of them."""
+    equations = outside_texts(body)
+    return f"-- {title}\n" + "".join(import_of(module, names, equations) for module, names in imports)

@@ -34,8 +34,9 @@ IMPORTS = [
         "Rattle.mk_edit_language.specs.Edits",
         ["SetValue", "AppendValue", "AddWord", "RemoveWord", "AddAssign", "RemoveAssign", "AddRule", "RemoveRule", "AddPrereq", "RemovePrereq"]
         + ["AddRecipe", "SetRecipe", "RemoveRecipe", "InsertRecipe", "SetRecipeByText", "RemoveRecipeByText"]
-        + ["RenameTarget"],
+        + ["RenameTarget", "ChangeValues"],
     ),
+    ("Rattle.mk_edit_language.specs.Edits", "edits"),
     ("Rattle.mk_history.specs.Machine", ["Apply", *CALLS.values()]),
     ("Rattle.mk_history.specs.Shown", ["shown_opened"]),
     ("Rattle.mk_script.specs.Scripts", ["Step", "Chain"]),

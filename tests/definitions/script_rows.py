@@ -49,6 +49,8 @@ EDITS = {
     b"recipe-replace": ("SetRecipeByText", [], 3),
     b"recipe-remove": ("RemoveRecipeByText", [], 2),
 }
+# The changes of every value of a name, by their word.
+CHANGES = {b"set": "Set", b"append": "Append", b"add": "Add", b"drop": "Remove"}
 PLACES = {b"before-var": "BeforeVar", b"after-var": "AfterVar", b"before-rule": "BeforeRule"}
 CALLS = {b"undo": "Undo", b"redo": "Redo", b"begin": "Begin", b"end": "End", b"cancel": "Cancel"}
 
@@ -140,6 +142,9 @@ def command_of(fields):
     nth, (word, *rest) = None, fields
     if not rest and word in CALLS:
         return (CALLS[word],)
+    if word == b"all":
+        change, name, text = taken(rest, 3)
+        return ("ChangeValues", name, (CHANGES[known(CHANGES, change)], text))
     if word == b"nth" and len(rest) > 1:
         nth, (word, *rest) = number_of(rest[0]), rest[1:]
     return edit_of(nth, word, rest)
@@ -210,6 +215,8 @@ def stated(meaning):
 
 def antt_argument(name, part):
     """An argument of an edit as a term."""
+    if name == "ChangeValues" and isinstance(part, tuple):
+        return f"(edits.{part[0]} {antt_text(part[1])})"
     if isinstance(part, tuple):
         return part[0] if len(part) == 1 else f"({part[0]} {antt_nth(part[1])} {antt_text(part[2])})"
     if isinstance(part, bool):
@@ -283,8 +290,9 @@ IMPORTS = [
         "Rattle.mk_edit_language.specs.Edits",
         ["SetValue", "AppendValue", "AddWord", "RemoveWord", "AddAssign", "RemoveAssign", "AddRule", "RemoveRule", "AddPrereq", "RemovePrereq"]
         + ["AddRecipe", "SetRecipe", "RemoveRecipe", "InsertRecipe", "SetRecipeByText", "RemoveRecipeByText"]
-        + ["RenameTarget"],
+        + ["RenameTarget", "ChangeValues"],
     ),
+    ("Rattle.mk_edit_language.specs.Edits", "edits"),
     ("Rattle.mk_history.specs.Machine", ["Apply", *CALLS.values()]),
     ("Rattle.mk_script.specs.Scripts", ["Chain"]),
     ("Rattle.mk_run_rows.proofs.scripts.ScriptReader", ["on_line", "edit_on", "tried_on", "read_script"]),

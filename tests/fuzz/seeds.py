@@ -19,7 +19,7 @@ MAKEFILES = ("queries", "corner-queries", "readings/worked")
 TEXT = b"X = 1\na: b\n\tc\n"
 LONGEST = 60
 OTHER_COMMANDS = (
-    b"assign rule recipe-set recipe-del recipe-insert recipe-replace recipe-remove rename nth bottom".split()
+    b"assign rule recipe-set recipe-del recipe-insert recipe-replace recipe-remove rename nth all bottom".split()
 )
 COMMANDS = [*EDITS, *PLACES, *CALLS, *OTHER_COMMANDS]
 WORDS = [

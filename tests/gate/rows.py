@@ -45,6 +45,7 @@ STORED = (
     Stored("mk_rows", "proofs/edits/RandomEdits.antt", "edit_rows.py tests/cases/edits/random.tsv"),
     Stored("mk_rows", "proofs/edits/CornerEdits.antt", "edit_rows.py tests/cases/edits/corners.tsv"),
     Stored("mk_rows", "proofs/edits/WordEdits.antt", "edit_rows.py tests/cases/edits/words.tsv"),
+    Stored("mk_rows", "proofs/edits/EveryValue.antt", "edit_rows.py tests/cases/edits/every-value.tsv"),
     Stored("mk_rows", "proofs/edits/RandomRecipes.antt", "edit_rows.py tests/cases/edits/random-recipes.tsv"),
     Stored("mk_run_rows", "proofs/scripts/WorkedScripts.antt", "script_rows.py tests/cases/runs.tsv"),
     Stored("mk_run_rows", "proofs/scripts/RandomScripts.antt", "script_rows.py tests/cases/random-runs.tsv"),

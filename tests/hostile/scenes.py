@@ -26,6 +26,8 @@ EDITS = {
     "append": (b"append LAST two", b"= one", b"= one two"),
     "add": (b"add LAST two", b"= one", b"= one two"),
     "drop": (b"drop LAST one", b"one # c\n", b"# c\n"),
+    "all set": (b"all set LAST two", b"= one", b"= two"),
+    "all drop": (b"all drop LAST one", b"one # c\n", b"# c\n"),
     "unset": (b"unset LAST", b"LAST = one # c\n", b""),
     "assign": (b"assign after-var LAST NEW = 1", b"last:", b"NEW = 1@last:"),
     "rule": (b'rule before-rule last new : "a b"', b"last:", b"new: a b@last:"),
@@ -47,7 +49,8 @@ BOTTOM = {
 }
 # One list of every kind, each fit for what those before it leave, and then as many undos.
 ALL = (
-    b"set LAST two\nappend LAST three\nadd LAST four\ndrop LAST three\nassign after-var LAST NEW = 1\n"
+    b"set LAST two\nappend LAST three\nadd LAST four\ndrop LAST three\n"
+    b"all append LAST five\nall drop LAST four\nassign after-var LAST NEW = 1\n"
     b'rule before-rule last new : "a b"\ndepend last c\ndepend-order last d\nundepend last a\n'
     b"recipe last third\nrecipe-set last 2 fourth\nrecipe-del last 1\n"
     b"recipe-insert last 2 fifth\nrecipe-replace last fourth sixth\nrecipe-remove last third\n"

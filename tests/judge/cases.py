@@ -121,6 +121,8 @@ PLANTED = (
     (b"A = 1\nB = 2\n", ("set", None, b"A", b"3"), b"A = 1\nB = 2\n"),
     (b"A = 1\nB = 2\n", ("set", None, b"A", b"3"), b"A = 3\nB = 3\n"),
     (b"A = 1 # c\n", ("append", None, b"A", b"3"), b"A = 1 # c 3\n"),
+    (b"A = 1\nA += 2\n", ("all append", None, b"A", b"3"), b"A = 1 3\nA += 2\n"),
+    (b"A = 1\nA += 1 2\n", ("all drop", None, b"A", b"1"), b"A = \nA += 1 2\n"),
     (b"A = 1\nB = 2\n", ("unset", None, b"A"), b""),
     (b"A = 1\nB := $(C)\n", ("assign", None, b"bottom", b"C", b"=", b"3"), b"C = 3\nA = 1\nB := $(C)\n"),
     (b"t: a\n\tx\nu: b\n", ("depend", None, b"t", b"c"), b"t: a | c\n\tx\nu: b\n"),

@@ -8,6 +8,8 @@ most are accepted.
 
 from tests.lib import reading
 
+from .stated import OF_EVERY_LINE
+
 # A value refers only to names after its own, so that no variable refers to itself.
 VARIABLES = b"A B CC CFLAGS X.y n-1 _d R Z".split()
 TARGETS = b"all t u a.o b.o lib.a(x.o) sub/d $(R)x v-1 t2".split()
@@ -293,7 +295,7 @@ class Editor:
         fields = FIELDS[command](self)
         if fields is None:
             return None
-        is_counted = command != "rename" and fields[0] != b"bottom"
+        is_counted = command not in ("rename", *OF_EVERY_LINE) and fields[0] != b"bottom"
         return (command, self.nth(fields[0]) if is_counted else None, *fields)
 
     def nth(self, address):
@@ -345,6 +347,12 @@ class Editor:
         name = self.name()
         return name and (name, *(it(name) for it in rest))
 
+    def for_every_line(self, *rest):
+        """A name with other fields, most often a name that stands in several lines."""
+        repeated = [it for it in self.names if self.names.count(it) > 1]
+        name = self.one(repeated) if repeated and self.source.random() < 0.8 else self.name()
+        return name and (name, *(it(name) for it in rest))
+
     def for_target(self, *rest):
         target = self.target()
         return target and (target, *(it(target) for it in rest))
@@ -379,6 +387,10 @@ FIELDS = {
     "append": lambda it: it.for_name(lambda name: it.value(name) or b"more"),
     "add": lambda it: it.for_name(lambda _: it.word()),
     "drop": lambda it: it.for_name(it.held),
+    "all set": lambda it: it.for_every_line(it.value),
+    "all append": lambda it: it.for_every_line(lambda name: it.value(name) or b"more"),
+    "all add": lambda it: it.for_every_line(lambda _: it.word()),
+    "all drop": lambda it: it.for_every_line(it.held),
     "unset": lambda it: it.for_name(),
     "assign": Editor.assign,
     "rule": Editor.rule,

@@ -1,7 +1,7 @@
 """Edits over the items of a makefile, as docs/EDITS.md states their changes.
 
-An edit is a tuple: its command, the number N of `nth N` or None, and the command's fields as bytes. A
-place is one of its fields, as b"after-var X". after() gives the items after an accepted edit, and
+An edit is a tuple: its command, with `all` if that stands before it, the number N of `nth N` or None, and
+the command's fields as bytes. A place is one of its fields, as b"after-var X". after() gives the items after an accepted edit, and
 touched() what of make's data base the edit is about.
 """
 
@@ -13,7 +13,8 @@ from tests.lib import reading
 from .expected import Item
 from .values import shown
 
-OF_VARIABLES = ("set", "append", "add", "drop", "unset", "assign")
+OF_EVERY_LINE = ("all set", "all append", "all add", "all drop")
+OF_VARIABLES = ("set", "append", "add", "drop", "unset", "assign", *OF_EVERY_LINE)
 
 
 def field(text):
@@ -107,6 +108,18 @@ def drop(of, nth, name, word):
         return kept
 
     return with_value(of, nth, name, change)
+
+
+def at_every_line(command):
+    """The edit of every assignment of a name, by that of one; `add` leaves alone those that have the word."""
+
+    def change(of, _, name, text):
+        for nth, item in enumerate([it for it in of if assigns(name)(it)], 1):
+            if command != "add" or text not in words_of(item.parts[-1]):
+                of = CHANGES[command](of, nth, name, text)
+        return of
+
+    return change
 
 
 def unset(of, nth, name):
@@ -228,6 +241,7 @@ CHANGES = {
     "recipe-replace": recipe_replace,
     "recipe-remove": recipe_remove,
     "rename": rename,
+    **{it: at_every_line(it.removeprefix("all ")) for it in OF_EVERY_LINE},
 }
 
 

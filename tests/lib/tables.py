@@ -28,6 +28,8 @@ TABLES = (
     "edits/corners",
     "edits/random",
     "edits/random-recipes",
+    "edits/words",
+    "edits/every-value",
 )
 ESCAPES = {"\\\\": b"\\", "\\t": b"\t", "\\n": b"\n", "\\r": b"\r"}
 PIECE = re.compile(r"\\x[0-9A-Fa-f]{2}|\\[\\tnr]|[^\\]+")

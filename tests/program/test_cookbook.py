@@ -18,9 +18,13 @@ REFUSAL = re.compile(r"`(\d+) (\w+)[^`]*`")
 TASKS = 19
 # The tasks whose script changes nothing when it is run over its own result.
 TWICE = (
+    "Add a flag unless it is there",
+    "Take a flag out of a value",
+    "Change the recipe line that says a command",
     "Set or add",
     "A script that can be run twice",
     "A rule that is put in, or whose recipe is emptied",
+    "Change a variable in every branch",
 )
 
 

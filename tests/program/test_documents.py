@@ -22,7 +22,7 @@ EDITS, LANGUAGE, LIBRARY = (DOCS / f"{it}.md" for it in ("EDITS", "LANGUAGE", "L
 QUOTED = ("crates/session_example/src/main.rt", "crates/mk_session/src/session.rt")
 LAST_CHAPTER = "## 8. Where make reads otherwise\n"
 COMMANDS = (
-    "nth set append add drop unset assign rule unrule depend depend-order undepend recipe recipe-set recipe-del "
+    "nth all set append add drop unset assign rule unrule depend depend-order undepend recipe recipe-set recipe-del "
     "recipe-insert recipe-replace recipe-remove rename"
 )
 EXAMPLE = re.compile(

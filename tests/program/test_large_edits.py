@@ -19,6 +19,8 @@ LONG_LINES = {
     "append": (b"append CC @", b"CC = gcc # c\n", b"CC = gcc @ # c\n"),
     "add": (b"add CC @", b"CC = gcc # c\n", b"CC = gcc @ # c\n"),
     "drop": (b"drop CC gcc", b"CC = gcc @ # c\n", b"CC = @ # c\n"),
+    "all set": (b"all set CC @", b"CC = gcc # c\n", b"CC = @ # c\n"),
+    "all drop": (b"all drop CC gcc", b"CC = gcc @ # c\n", b"CC = @ # c\n"),
     "unset": (b"unset CC", b"CC = @\n", b""),
     "assign": (b"assign bottom CC = @", b"", b"CC = @\n"),
     "rule": (b"rule bottom all : @", b"", b"all: @\n"),
@@ -75,6 +77,9 @@ class LargeEdits(RoomCase):
         self.assert_edit(b"rename a b", b"a:\n" + b"c: a\n" * MANY, b"b:\n" + b"c: b\n" * MANY)
         self.assert_edit(b"rename a bc", b"a:\n" + b"c: a\n" * MANY, b"bc:\n" + b"c: bc\n" * MANY)
         self.assert_edit(b"unrule a", b"a:\n" + b"\tc\n" * MANY, b"")
+        self.assert_edit(b"all set A 12", b"A = 1\n" * MANY, b"A = 12\n" * MANY)
+        self.assert_edit(b"all add A c", b"A = b\nA = b c\n" * MANY, b"A = b c\n" * 2 * MANY)
+        self.assert_edit(b"all drop A c", b"A = b\nA = b c\n" * MANY, b"A = b\n" * 2 * MANY)
 
     def seconds(self, script, wanted):
         """The least processor time of some runs of a script, whose text has to be the wanted one."""

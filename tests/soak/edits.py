@@ -137,34 +137,43 @@ class OfVariable(Edit):
     def find(self, doc):
         return picked(doc.assignments(self.name), self.nth)
 
+    def change_in(self, doc, line):
+        """The spans in one of the lines, and the value that it has afterwards."""
+        raise NotImplementedError
+
+    def plan_in(self, doc):
+        return changed(doc, [self.find(doc)], self)
+
+
+def changed(doc, found, edit):
+    """The plan of an edit of values in the lines with these indices."""
+    items, spans = items_of(doc.lines), []
+    for at in found:
+        its_spans, value = edit.change_in(doc, doc.lines[at])
+        items[at] = (*items[at][:-1], value)
+        spans += its_spans
+    return spans, items
+
 
 class SetValue(OfVariable):
-    def plan_in(self, doc):
-        at = self.find(doc)
-        line = doc.lines[at]
+    def change_in(self, doc, line):
         start, end, cut_end = document.value_places(line)
         end = end if self.value else cut_end
-        items = items_of(doc.lines)
         leaves_fold = doc.text[:start].endswith(b"\n") and end == len(doc.text) and not self.value
-        items[at] = (*items[at][:-1], b"\\" if leaves_fold else self.value)
-        return [Span(start, end, self.value)], items
+        return [Span(start, end, self.value)], b"\\" if leaves_fold else self.value
 
 
 class AppendValue(OfVariable):
     def fields(self):
         return [("name", self.name, is_name), ("value", self.value, lambda it: it and is_value(it))]
 
-    def plan_in(self, doc):
-        at = self.find(doc)
-        line = doc.lines[at]
+    def change_in(self, doc, line):
         old = line.parts[-1]
         refuse(11, not is_closed(old))
         _, end, _ = document.value_places(line)
         added = b" " + self.value if old else self.value
         takes_space_in = document.ends_in_fold(line)
-        items = items_of(doc.lines)
-        items[at] = (*items[at][:-1], old + (self.value if takes_space_in else added))
-        return [Span(end, end, added)], items
+        return [Span(end, end, added)], old + (self.value if takes_space_in else added)
 
 
 def is_value_word(text):
@@ -188,36 +197,53 @@ class AddWord(OfVariable):
     def fields(self):
         return [("name", self.name, is_name), ("word", self.value, is_value_word)]
 
-    def plan_in(self, doc):
-        at = self.find(doc)
-        line = doc.lines[at]
+    def change_in(self, doc, line):
         old = line.parts[-1]
         refuse(7, self.value in reading.texts(reading.units(old)))
         refuse(11, not is_closed(old) or document.ends_in_fold(line))
         _, end, _ = document.value_places(line)
         added = b" " + self.value if old else self.value
-        items = items_of(doc.lines)
-        items[at] = (*items[at][:-1], old + added)
-        return [Span(end, end, added)], items
+        return [Span(end, end, added)], old + added
 
 
 class RemoveWord(AddWord):
-    def plan_in(self, doc):
-        at = self.find(doc)
-        line = doc.lines[at]
+    def change_in(self, doc, line):
         words = document.value_words(line)
         goes = [it.text == self.value for it in words]
         refuse(6, not any(goes))
         follows = zip(words, goes[1:])
         refuse(11, not is_closed(line.parts[-1]) or any(going and not is_value(it.text) for it, going in follows))
         if all(goes):
-            return SetValue(self.nth, self.name).plan_in(doc)
+            return SetValue(self.nth, self.name).change_in(doc, line)
         first = goes.index(False)
         before = [Span(it.start, after.start, b"") for it, after in zip(words[:first], words[1:])]
         after = [Span(it.gap, it.end, b"") for it, going in zip(words[first:], goes[first:]) if going]
-        items = items_of(doc.lines)
-        items[at] = (*items[at][:-1], without_word(line.parts[-1], self.value))
-        return [*before, *after], items
+        return [*before, *after], without_word(line.parts[-1], self.value)
+
+
+class ChangeValues(Edit):
+    """The edit of every assignment of a name: that of one, made at each that it does something to."""
+
+    def __init__(self, name, change):
+        kind, text = change
+        kinds = {"Set": SetValue, "Append": AppendValue, "Add": AddWord, "Remove": RemoveWord}
+        self.name, self.names = name, (name,)
+        self.of_one, self.text = kinds[kind](None, name, text), text
+
+    def fields(self):
+        return self.of_one.fields()
+
+    def does_something(self, line):
+        """Whether an assignment is changed: by all but the words that it has or lacks already."""
+        has_word = self.text in reading.texts(reading.units(line.parts[-1]))
+        return {AddWord: not has_word, RemoveWord: has_word}.get(type(self.of_one), True)
+
+    def plan_in(self, doc):
+        found = doc.assignments(self.name)
+        refuse(4, not found)
+        changing = [at for at in found if self.does_something(doc.lines[at])]
+        refuse(6 if isinstance(self.of_one, RemoveWord) else 7, not changing)
+        return changed(doc, changing, self.of_one)
 
 
 class RemoveAssign(OfVariable):
@@ -548,6 +574,7 @@ KINDS = (
     AppendValue,
     AddWord,
     RemoveWord,
+    ChangeValues,
     AddAssign,
     RemoveAssign,
     AddRule,

@@ -195,6 +195,10 @@ class Scripts(Drawing):
         number = self.one([0, count + 1, GREATEST]) if self.chance(0.08) else number
         return [b"nth", (b"%010d" if self.chance(0.05) else b"%d") % number]
 
+    def address(self, count):
+        """What may stand before the edit of a value that this number of lines have: `all`, `nth N`, or nothing."""
+        return [b"all"] if self.chance(0.3 if count > 1 else 0.08) else self.number(count)
+
     def place(self):
         """The words `nth N`, or nothing, and the fields of a place."""
         places = [b"bottom"]
@@ -211,18 +215,17 @@ class Scripts(Drawing):
 
     # ---- commands
 
-    def of_name(self, word, *rest):
-        name = self.name()
-        return [*self.number(len(self.document.assignments(name))), word, name, *rest]
+    def of_value(self, word, name, text):
+        return [*self.address(len(self.document.assignments(name))), word, name, text]
 
     def of_target(self, word, target, *rest):
         return [*self.number(len(self.document.rules(target))), word, target, *rest]
 
     def set(self):
-        return self.of_name(b"set", self.value())
+        return self.of_value(b"set", self.name(), self.value())
 
     def append(self):
-        return self.of_name(b"append", self.value() or self.one([b"v", b"v", b""]))
+        return self.of_value(b"append", self.name(), self.value() or self.one([b"v", b"v", b""]))
 
     def word_of(self, name, share):
         """With this chance a word of a value of this variable, else any word."""
@@ -232,14 +235,15 @@ class Scripts(Drawing):
 
     def add(self):
         name = self.name()
-        return [*self.number(len(self.document.assignments(name))), b"add", name, self.word_of(name, 0.2)]
+        return self.of_value(b"add", name, self.word_of(name, 0.2))
 
     def drop(self):
         name = self.name()
-        return [*self.number(len(self.document.assignments(name))), b"drop", name, self.word_of(name, 0.8)]
+        return self.of_value(b"drop", name, self.word_of(name, 0.8))
 
     def unset(self):
-        return self.of_name(b"unset")
+        name = self.name()
+        return [*self.number(len(self.document.assignments(name))), b"unset", name]
 
     def assign(self):
         number, place = self.place()

@@ -6,7 +6,7 @@ from tests.lib.tables import rows, unescape
 from .cases import USUAL_DEPTH
 from .judge import judged
 
-TABLES = ("runs", "corner-runs", "random-runs", "alternatives", "edits/corners", "edits/random", "edits/random-recipes", "edits/words")
+TABLES = ("runs", "corner-runs", "random-runs", "alternatives", "edits/corners", "edits/random", "edits/random-recipes", "edits/words", "edits/every-value")
 
 
 def verdict_on(row):

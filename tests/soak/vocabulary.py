@@ -1,6 +1,6 @@
 """The words that makefiles and scripts are made of: usual ones, and those that some rule speaks of."""
 
-NAMES = b"X Y Z CC OBJS a.b _9 - a b t define ifdef endef export override include".split()
+NAMES = b"X Y Z CC OBJS a.b _9 - a b t all define ifdef endef export override include".split()
 TARGETS = [
     *b"a b c all foo t t1 tidy >b X f1 %.o x.o .PHONY -l lib.a(x.o) $(OBJ) ${c} a&b $$ $x".split(),
     *(b"$(q:;=|)", b"$(a b)", b"${g (}", b"a$#"),
@@ -62,4 +62,6 @@ NO_COMMANDS = [
     *(b"nth 1 rename a b", b"nth", b"recipe-set a +1 x", b"unset X Y", b"\xc2\xa0", b'"" X'),
     *(b"try undo", b"or cancel", b"try", b"or", b"try try unset X", b"or or unset X", b"nth 1 try unset X"),
     *(b"undo\nor unset X", b"try unset X\nor unset X", b"# c\nor nth 1 end"),
+    *(b"all", b"all unset X", b"all undo", b"all set X", b"all all set X 1", b"all rename a b"),
+    *(b"all nth 1 set X 1", b"nth 1 all set X 1", b"all try set X 1", b"all assign bottom X = 1"),
 ]

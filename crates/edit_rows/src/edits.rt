@@ -3,7 +3,7 @@
 use crate::text::unescape;
 use anyhow::{Context as _, Result, bail};
 use mk_class::Flavor;
-use mk_edit::{Edit, Place, RuleSeparator};
+use mk_edit::{Edit, Place, RuleSeparator, ValueChange};
 use mk_session::Command;
 use std::alloc::Global;
 
@@ -24,6 +24,11 @@ pub fn read_command(alloc: Global, command: &str) -> Result<Command> {
             let (from, to) = unescape_both(alloc, from, to)?;
             Ok(Command::Apply(Edit::RenameTarget { from, to }))
         }
+        ["all", word, name, text] => {
+            let (name, text) = unescape_both(alloc, name, text)?;
+            let change = read_change(word, text)?;
+            Ok(Command::Apply(Edit::ChangeValues { name, change }))
+        }
         [word, nth, fields @ ..] => Ok(Command::Apply(read_edit(
             alloc,
             word,
@@ -31,6 +36,17 @@ pub fn read_command(alloc: Global, command: &str) -> Result<Command> {
             fields,
         )?)),
         _ => bail!("no command: {command}"),
+    }
+}
+
+/// The change of every value of a name, by its word and its text.
+fn read_change(word: &str, text: Vec<u8>) -> Result<ValueChange> {
+    match word {
+        "set" => Ok(ValueChange::Set(text)),
+        "append" => Ok(ValueChange::Append(text)),
+        "add" => Ok(ValueChange::Add(text)),
+        "drop" => Ok(ValueChange::Remove(text)),
+        _ => bail!("no change of every value: {word}"),
     }
 }
 

@@ -20,7 +20,7 @@ const ABOUT_EDIT: &str = "Runs a script of edits over a makefile, and prints the
 const EDIT: &str = "\
 A line of the script is a command, a comment that begins with #, or blank:
     set NAME VALUE            append NAME VALUE           unset NAME
-    add NAME WORD             drop NAME WORD
+    add NAME WORD             drop NAME WORD              nth N COMMAND    all COMMAND
     assign PLACE NAME OP VALUE                            rename OLD NEW
     rule PLACE TARGETS SEP PREREQS                        unrule TARGET
     depend TARGET WORD        depend-order TARGET WORD    undepend TARGET WORD
@@ -30,9 +30,10 @@ A line of the script is a command, a comment that begins with #, or blank:
     undo    redo    begin    end    cancel                try COMMAND    or COMMAND
 PLACE is bottom, before-var NAME, after-var NAME or before-rule TARGET. OP is one of
 = := ::= :::= ?= += != and SEP one of : and ::. A field with blanks in it stands between double
-quotes. `nth N` before a command picks the N-th of several lines that it could mean. `try` before an
-edit: it is no refusal that there is nothing to do. `or` before an edit: an alternative of the edit in
-the line above, for the case that there is nothing on which that one is to be made.
+quotes. `nth N` before a command picks the N-th of several lines that it could mean. `all` before
+set, append, add or drop means all of them. `try` before an edit: it is no refusal that there is nothing
+to do. `or` before an edit: an alternative of the edit in the line above, for the case that there is
+nothing on which that one is to be made.
 
 The text goes to standard output, or to OUT, which may be FILE. Where a command is refused, a line on
 standard error says which one and why, and no text goes out, unless -k is given. `mkedit explain 4`,

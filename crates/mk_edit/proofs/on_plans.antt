@@ -6,3 +6,4 @@ pub mod DocumentPlaces
 pub mod CausePlans
 pub mod RangePlans
 pub mod RemovalPlans
+pub mod TurnPlans

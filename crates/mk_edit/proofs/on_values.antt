@@ -1,5 +1,6 @@
 -- Lemmas. Edits of a value, planned.
 pub mod ValuePlaces
+pub mod OwnLines
 pub mod SetValuePlans
 pub mod AppendValuePlans
 pub mod AddWordPlans

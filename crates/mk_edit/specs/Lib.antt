@@ -15,3 +15,7 @@ pub mod RenameTargetPatches
 -- Edits of a value
 pub mod ValueEdits
 pub mod RangeEdits
+-- A change of all values of a name
+pub mod ValueChangeLines
+pub mod ChangeValuesSurveys
+pub mod ChangeValuesPatches

@@ -54,9 +54,9 @@ pub(crate) fn plan_add_word<A: Allocator + Copy>(
     plan_put_after(alloc, doc, edit, found, word, meter)
 }
 
-// Whether a word after the value of a line, which has this text, would not be read as a word of its
-// own: the value is not closed, or ends in a fold.
-fn takes_no_word<A: Allocator>(line: &Line<A>, value: &[u8]) -> bool
+/// Whether a word after the value of a line, which has this text, would not be read as a word of its
+/// own: the value is not closed, or ends in a fold.
+pub(crate) fn takes_no_word<A: Allocator>(line: &Line<A>, value: &[u8]) -> bool
     requires { IsClassed (line_view line.now) }
     ensures { result
         ≡ (not (is_closed (λ b. b) value.now) || ends_in_fold_located (line_view line.now)) }

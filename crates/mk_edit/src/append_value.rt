@@ -92,17 +92,21 @@ pub(crate) fn value_text<A: Allocator>(line: &Line<A>) -> &[u8]
     }
 }
 
-// What stands between a value and a text that is appended to it.
-fn space_after(value: &[u8]) -> &'static [u8]
+/// What stands between a value and a text that is appended to it.
+pub(crate) fn space_after(value: &[u8]) -> &'static [u8]
     ensures space { result.now ≡ space_after value.now }
     ensures short { length result.now ≤ 1 }
 {
     if value.is_empty() { b"" } else { b" " }
 }
 
-// Bytes with a text put in at a place, and a space or nothing before it, in memory of their own.
-// All memory is taken at once.
-fn with_put_in<A: Allocator>(
+/// Bytes with a text put in at a place, and a space or nothing before it, in memory of their own.
+/// All memory is taken at once.
+///
+/// # Errors
+///
+/// [`AllocError`] if the memory was refused.
+pub(crate) fn with_put_in<A: Allocator>(
     alloc: A,
     bytes: &[u8],
     at: usize,

@@ -5,7 +5,7 @@
 //! lines that edits write.
 //!
 //! - [`planning`]: `plan`, one call for all edits, and `plan_with`, for a caller who knows
-//!   where the edit's line stands, or which windows of the document a rename concerns.
+//!   where the edit's line stands, or which windows of the document an edit of several lines concerns.
 //!
 //! The other modules are the crate's own, lowest first:
 //!
@@ -27,6 +27,12 @@
 //! - `assignment`: the assignment in its line.
 //! - `remove_word`: a word taken out of a value, planned.
 //! - `remove_assign`: the removal of an assignment.
+//! - `value_change`: what a change of values does to the line of one assignment.
+//! - `change_values_places`: the lines that a change of values changes and their places, noted.
+//! - `change_values_survey`: what a change of values finds among the lines.
+//! - `change_values_causes`: the causes of refusal of a change of values.
+//! - `change_values_patch`: the patch of a change of values whose causes are decided.
+//! - `change_values`: a change of all values of a name, planned.
 //! - `rename_target_places`: the lines that a rename exchanges and their places, noted.
 //! - `rename_target_effect`: what a rename finds among the lines and does to them.
 //! - `rename_target_causes`: the causes of refusal of a rename.
@@ -40,6 +46,11 @@ mod add_recipe;
 mod add_word;
 mod append_value;
 mod assignment;
+mod change_values;
+mod change_values_causes;
+mod change_values_patch;
+mod change_values_places;
+mod change_values_survey;
 mod header;
 mod insert_recipe;
 mod insertion;
@@ -58,6 +69,7 @@ mod rename_target_patch;
 mod rename_target_places;
 mod set_recipe;
 mod set_value;
+mod value_change;
 
-pub use mk_edit_language::{Detail, Edit, Field, Place, Refusal, RuleSeparator};
+pub use mk_edit_language::{Detail, Edit, Field, Place, Refusal, RuleSeparator, ValueChange};
 pub use planning::{plan, plan_with};

@@ -1,8 +1,8 @@
 //! What an edit would do to a document, or why it is refused.
 ghost use Rattle.std.specs.Prelude.{◌≡◌};
 ghost use Rattle.mk_tree.specs.Documents.{IsFaithful};
-ghost use Rattle.mk_edit_language.specs.Edits.{RenameTarget};
-ghost use Rattle.mk_edit_language.specs.EditViews.{edit_of};
+ghost use Rattle.mk_edit_language.specs.Edits.{ChangeValues, RenameTarget};
+ghost use Rattle.mk_edit_language.specs.EditViews.{edit_of, value_change_of};
 ghost use Rattle.mk_edit_parts.specs.Windows.{IsKnown};
 ghost use Rattle.mk_edit.specs.Planned.{Plans};
 
@@ -11,6 +11,7 @@ use crate::add_prereq::plan_add_prereq;
 use crate::add_recipe::plan_add_recipe;
 use crate::add_word::plan_add_word;
 use crate::append_value::plan_append_value;
+use crate::change_values::plan_change_values;
 use crate::insert_recipe::plan_insert_recipe;
 use crate::remove_assign::plan_remove_assign;
 use crate::remove_prereq::plan_remove_prereq;
@@ -21,7 +22,7 @@ use crate::rename_target::plan_rename_target;
 use crate::set_recipe::plan_set_recipe;
 use crate::set_value::plan_set_value;
 use mk_class::Meter;
-use mk_edit_language::{Edit, Refusal};
+use mk_edit_language::{Edit, Refusal, ValueChange};
 use mk_edit_parts::window::{Known, Window};
 use mk_patch::Patch;
 use mk_tree::Doc;
@@ -53,8 +54,9 @@ pub fn plan<A: Allocator + Copy>(
 }
 
 /// Plans an edit as [`plan`] does, with what is known of the document. If nothing is known, the call
-/// walks over the document for the line that the edit means, or for the lines that a rename
-/// concerns. If windows are known for a rename, it walks over their lines alone.
+/// walks over the document for the line that the edit means, or for the lines that concern a rename or
+/// a change of all values of a name. If windows are known for one of these, it walks over their lines
+/// alone.
 ///
 /// # Errors
 ///
@@ -99,6 +101,9 @@ pub fn plan_with<A: Allocator + Copy>(
         Edit::InsertRecipe { number, .. } => {
             plan_insert_recipe(alloc, doc, edit, sought, *number, meter)
         }
+        Edit::ChangeValues { name, change } => plan_values(
+            alloc, doc, edit, known, name, change, meter,
+        ),
         Edit::RenameTarget { from, to } => plan_rename(alloc, doc, edit, known, from, to, meter),
     }
 }
@@ -125,4 +130,28 @@ fn plan_rename<A: Allocator + Copy>(
         Known::Nothing | Known::Line(_) => &whole[..],
     };
     plan_rename_target(alloc, doc, edit, windows, from, to, meter)
+}
+
+// Plans a change of all values of a name with what is known of the document, as a rename is planned.
+fn plan_values<A: Allocator + Copy>(
+    alloc: A,
+    doc: &Doc<A>,
+    edit: &Edit<A>,
+    known: &Known<A>,
+    name: &[u8],
+    change: &ValueChange<A>,
+    meter: &mut Meter,
+) -> Result<Patch<A>, Refusal>
+    requires faithful { IsFaithful doc.now }
+    requires kind { edit_of edit.now ≡ ChangeValues name.now (value_change_of change.now) }
+    requires known { IsKnown (edit_of edit.now) doc.now known.now }
+    ensures { Plans (edit_of edit.now) doc.now meter.old meter.new result }
+{
+    match known {
+        Known::Windows(known) => plan_change_values(alloc, doc, edit, known, name, change, meter),
+        Known::Nothing | Known::Line(_) => {
+            let all = [Window::whole(doc)];
+            plan_change_values(alloc, doc, edit, &all, name, change, meter)
+        }
+    }
 }

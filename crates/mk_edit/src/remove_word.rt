@@ -63,9 +63,9 @@ pub(crate) fn plan_remove_word<A: Allocator + Copy>(
     replace_line(alloc, doc, place, bytes, meter)
 }
 
-// Whether a value without a word would be read otherwise than as its other words: the value is not
-// closed, or what follows the word would be read together with the word before it.
-fn cannot_lose(value: &[u8], word: &[u8]) -> bool
+/// Whether a value without a word would be read otherwise than as its other words: the value is not
+/// closed, or what follows the word would be read together with the word before it.
+pub(crate) fn cannot_lose(value: &[u8], word: &[u8]) -> bool
     ensures { result
         ≡ (not (is_closed (λ b. b) value.now) || bares_end_among word.now (words_in value.now)) }
 {

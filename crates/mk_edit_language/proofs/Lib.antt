@@ -6,4 +6,5 @@ pub mod on_removals
 pub mod on_recipes
 pub mod on_prerequisites
 pub mod on_renames
+pub mod on_changes
 pub mod on_edits

@@ -8,7 +8,9 @@ pub mod TouchedLineLemmas
 pub mod KeptLineLemmas
 pub mod KeptByEdits
 pub mod KeptByText
+pub mod KeptApartLemmas
 pub mod KeptByRenameTargetLemmas
+pub mod KeptByChangeValuesLemmas
 pub mod KeptLemmas
 pub mod LengthLemmas
 pub mod EditedLineLemmas

@@ -11,9 +11,9 @@ use Rattle.mk_class.specs.Classes.{Class}
 use Rattle.mk_class.specs.Classes.Class.{Assign, DefineHead}
 use Rattle.mk_class.specs.Contexts.{Context, start, context_after}
 use Rattle.mk_class.specs.ClassedLines.{ClassedLine}
-use Rattle.mk_edit_language.specs.Edits.{Edit, AddAssign, AddRule, RenameTarget}
+use Rattle.mk_edit_language.specs.Edits.{Edit, ChangeValues, AddAssign, AddRule, RenameTarget}
 use Rattle.mk_edit_language.specs.Spots.{nth_of}
-use Rattle.mk_edit_language.specs.Addresses.{Address, candidates, nth_meant, address, is_a_target}
+use Rattle.mk_edit_language.specs.Addresses.{Address, assigns, candidates, nth_meant, address, is_a_target}
 use Rattle.mk_edit_language.specs.Stretches.{Stretch, insertion}
 use Rattle.mk_tree.specs.Documents.{context_of}
 use Rattle.mk_tree.specs.LineTexts.{StandingLine}
@@ -34,7 +34,8 @@ is_unread_prefix k = false
 abbrev pub unread_prefix : List ClassedLine → Option Refusal
 unread_prefix ls = where_holds (list_any (λ l. is_unread_prefix l.class) ls) RecipePrefix
 
--- ---- NoSuch: there is no such line, or no nth such line; the old name of a rename is no target
+-- ---- NoSuch: there is no such line, or no nth such line; the old name of a rename is no target; no
+-- ---- line assigns the name whose values change
 
 -- whether there is no line, or no nth line
 abbrev pub is_missing : Option ℕ → List StandingLine → Bool
@@ -46,6 +47,7 @@ no_such_line ls None = None
 no_such_line ls (Some a) = where_holds (is_missing (nth_meant a) (candidates ls a)) NoSuch
 
 abbrev pub no_such : List ClassedLine → Edit → Option Refusal
+no_such ls (ChangeValues n c) = where_holds (not (list_any (λ l. assigns n l.class) ls)) NoSuch
 no_such ls (RenameTarget o n) = where_holds (not (is_a_target ls o)) NoSuch
 no_such ls e = no_such_line ls (address e)
 

@@ -9,7 +9,7 @@ use Rattle.mk_class.specs.Classes.{Class}
 use Rattle.mk_class.specs.Classes.Class.{Assign, TargetAssign, Header}
 use Rattle.mk_class.specs.ClassedLines.{ClassedLine}
 use Rattle.mk_tree.specs.LineTexts.{StandingLine}
-use Rattle.mk_edit_language.specs.Edits.{Place, Bottom, BeforeVar, AfterVar, BeforeRule, Edit, SetValue, AppendValue, AddWord, RemoveWord, AddAssign, RemoveAssign, AddRule, RemoveRule, AddPrereq, RemovePrereq, AddRecipe, SetRecipe, RemoveRecipe, InsertRecipe, SetRecipeByText, RemoveRecipeByText, RenameTarget}
+use Rattle.mk_edit_language.specs.Edits.{Place, Bottom, BeforeVar, AfterVar, BeforeRule, Edit, SetValue, AppendValue, AddWord, RemoveWord, ChangeValues, AddAssign, RemoveAssign, AddRule, RemoveRule, AddPrereq, RemovePrereq, AddRecipe, SetRecipe, RemoveRecipe, InsertRecipe, SetRecipeByText, RemoveRecipeByText, RenameTarget}
 use Rattle.mk_edit_language.specs.Spots.{spots, picked}
 
 -- a variable by its name among the assignments, or a rule by a target among the headers
@@ -48,12 +48,13 @@ place_address (BeforeVar nth n) = Some (Variable nth n)
 place_address (AfterVar nth n) = Some (Variable nth n)
 place_address (BeforeRule nth t) = Some (Rule nth t)
 
--- the address of an edit, or of its place
+-- the address of an edit, or of its place; an edit of every line of a name has none
 abbrev pub address : Edit → Option Address
 address (SetValue nth n v) = Some (Variable nth n)
 address (AppendValue nth n v) = Some (Variable nth n)
 address (AddWord nth n w) = Some (Variable nth n)
 address (RemoveWord nth n w) = Some (Variable nth n)
+address (ChangeValues n c) = None
 address (AddAssign p n f v) = place_address p
 address (RemoveAssign nth n) = Some (Variable nth n)
 address (AddRule p ts c ws) = place_address p

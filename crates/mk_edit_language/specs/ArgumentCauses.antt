@@ -8,7 +8,7 @@ use Rattle.mk_class.specs.ListTests.{is_empty}
 use Rattle.mk_class.specs.Keywords.{is_reserved_word}
 use Rattle.mk_class.specs.RecipePrefix.{is_prefix_name}
 use Rattle.mk_class.specs.Arguments.{is_value, is_word, is_target, is_name, is_command}
-use Rattle.mk_edit_language.specs.Edits.{Place, Bottom, BeforeVar, AfterVar, BeforeRule, Edit, SetValue, AppendValue, AddWord, RemoveWord, AddAssign, RemoveAssign, AddRule, RemoveRule, AddPrereq, RemovePrereq, AddRecipe, SetRecipe, RemoveRecipe, InsertRecipe, SetRecipeByText, RemoveRecipeByText, RenameTarget}
+use Rattle.mk_edit_language.specs.Edits.{Place, Bottom, BeforeVar, AfterVar, BeforeRule, ValueChange, Set, Append, Add, Remove, Edit, SetValue, AppendValue, AddWord, RemoveWord, ChangeValues, AddAssign, RemoveAssign, AddRule, RemoveRule, AddPrereq, RemovePrereq, AddRecipe, SetRecipe, RemoveRecipe, InsertRecipe, SetRecipeByText, RemoveRecipeByText, RenameTarget}
 use Rattle.mk_edit_language.specs.Causes.{where_holds}
 use Rattle.mk_edit_language.specs.declared.refusal.Field.{Field}
 use Rattle.mk_edit_language.specs.declared.refusal.Field.TheVariants as field
@@ -47,6 +47,13 @@ abbrev pub is_value_word : List ℕ → Bool
 is_value_word w =
     is_value w && (not (is_empty w) && not (list_any (is_gap (λ b. b)) (units (λ b. b) w)))
 
+-- the test of the text of a change of values
+abbrev pub change_test : ValueChange → FieldTest
+change_test (Set v) = Tested field.Value (is_value v)
+change_test (Append v) = Tested field.Value (is_value v && not (is_empty v))
+change_test (Add w) = Tested field.Word (is_value_word w)
+change_test (Remove w) = Tested field.Word (is_value_word w)
+
 -- the fields of an edit in their order
 abbrev pub field_tests : Edit → List FieldTest
 field_tests (SetValue nth n v) =
@@ -57,6 +64,7 @@ field_tests (AddWord nth n w) =
     Tested field.Name (is_name n) ∷ Tested field.Word (is_value_word w) ∷ []
 field_tests (RemoveWord nth n w) =
     Tested field.Name (is_name n) ∷ Tested field.Word (is_value_word w) ∷ []
+field_tests (ChangeValues n c) = Tested field.Name (is_name n) ∷ change_test c ∷ []
 field_tests (AddAssign p n f v) =
     Tested field.Place (is_place p) ∷ Tested field.Name (is_name n)
     ∷ Tested field.Value (is_value v) ∷ []
@@ -101,6 +109,7 @@ names (SetValue nth n v) = n ∷ []
 names (AppendValue nth n v) = n ∷ []
 names (AddWord nth n w) = n ∷ []
 names (RemoveWord nth n w) = n ∷ []
+names (ChangeValues n c) = n ∷ []
 names (AddAssign p n f v) = n ∷ place_names p
 names (RemoveAssign nth n) = n ∷ []
 names (AddRule p ts c ws) = place_names p

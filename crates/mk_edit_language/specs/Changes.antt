@@ -1,6 +1,6 @@
 -- What an accepted edit does to the reading.
 -- Told in docs/EDITS.md, "Variables", "Rules", "Recipes" and "Targets".
-use Rattle.std.specs.Prelude.{ℕ, ◌&&◌, ◌==◌, if◌then◌else◌, Bool, true, false, not, List, [], ◌∷◌, ◌++◌, map, take, drop, filter, length, None}
+use Rattle.std.specs.Prelude.{ℕ, ◌+◌, ◌&&◌, ◌==◌, if◌then◌else◌, Bool, true, false, not, List, [], ◌∷◌, ◌++◌, map, take, drop, filter, length, None}
 use Rattle.std.specs.Str.{bytes_eq}
 use Rattle.mk_lines.specs.Lists.{concat}
 use Rattle.mk_lines.specs.Cells.{Cell, joined_byte}
@@ -17,13 +17,14 @@ use Rattle.mk_class.specs.declared.assignment.Flavor.{Flavor}
 use Rattle.mk_class.specs.declared.rule.Separator.{Separator}
 use Rattle.mk_class.specs.declared.rule.Separator.TheVariants.{SingleColon, DoubleColon}
 use Rattle.mk_tree.specs.Documents.{text_of}
-use Rattle.mk_tree.specs.Items.{Item, Assign, TargetAssign, Header, Recipe, Sets, items, header_item}
+use Rattle.mk_tree.specs.Items.{Item, Assign, TargetAssign, Header, Recipe, Sets, items, items_of_line, header_item}
 use Rattle.mk_tree.specs.LineTexts.{StandingLine}
-use Rattle.mk_edit_language.specs.Edits.{Edit, SetValue, AppendValue, AddWord, RemoveWord, AddAssign, RemoveAssign, AddRule, RemoveRule, AddPrereq, RemovePrereq, AddRecipe, SetRecipe, RemoveRecipe, InsertRecipe, SetRecipeByText, RemoveRecipeByText, RenameTarget}
+use Rattle.mk_edit_language.specs.Edits.{ValueChange, Set, Append, Add, Remove, Edit, SetValue, AppendValue, AddWord, RemoveWord, ChangeValues, AddAssign, RemoveAssign, AddRule, RemoveRule, AddPrereq, RemovePrereq, AddRecipe, SetRecipe, RemoveRecipe, InsertRecipe, SetRecipeByText, RemoveRecipeByText, RenameTarget}
 use Rattle.mk_edit_language.specs.Addresses.{Variable, Rule, found}
 use Rattle.mk_edit_language.specs.Stretches.{Stretch, insertion, removal, recipe_found, text_number}
 use Rattle.mk_edit_language.specs.ValueSpans.{set_value_span}
 use Rattle.mk_edit_language.specs.ValueWords.{led_words, staying, from_first_word}
+use Rattle.mk_edit_language.specs.ValueChanges.{is_changed}
 use Rattle.mk_edit_language.specs.EditSpans.{where_found}
 use Rattle.mk_edit_language.specs.declared.edit.RuleSeparator.{RuleSeparator}
 use Rattle.mk_edit_language.specs.declared.edit.RuleSeparator.TheVariants.{Single, Double}
@@ -79,6 +80,27 @@ abbrev pub value_without : (text word : List ℕ) → (line_start : ℕ) → Ass
 value_without t w at a =
     if is_empty (staying w (led_words a.value)) then value_set t [] at a else
     unit_text joined_byte (from_first_word (staying w (led_words a.value)))
+
+-- the value after a change of values: what the edit of this value alone makes of it
+abbrev pub value_changed : (text : List ℕ) → ValueChange → (line_start : ℕ) → Assignment Cell
+    → List ℕ
+value_changed t (Set v) at a = value_set t v at a
+value_changed t (Append v) at a = value_appended v a
+value_changed t (Add w) at a = value_appended w a
+value_changed t (Remove w) at a = value_without t w at a
+
+-- the item of a line that begins at this offset: with its value changed, if the line is changed
+abbrev pub changed_items : (text name : List ℕ) → ValueChange → (line_start : ℕ) → ClassedLine
+    → List Item
+changed_items t n c at l =
+    if is_changed n c l then value_item (value_changed t c) at l.class else items_of_line l.class l.bytes
+
+-- the items of lines, with each value of the name changed; the first line begins at this offset
+abbrev pub with_values : (text name : List ℕ) → ValueChange → (start : ℕ) → List ClassedLine
+    → List Item
+with_values t n c at [] = []
+with_values t n c at (l ∷ ls) =
+    changed_items t n c at l ++ with_values t n c (at + length l.bytes) ls
 
 -- ---- prerequisites and targets
 
@@ -143,6 +165,7 @@ change_of t ls (AddWord nth n w) =
     where_found (with_value (λ at. value_appended w)) (found ls (Variable nth n))
 change_of t ls (RemoveWord nth n w) =
     where_found (with_value (value_without t w)) (found ls (Variable nth n))
+change_of t ls (ChangeValues n c) = with_values t n c 0 ls
 change_of t ls (AddAssign p n f v) =
     where_found (with_item (new_assign n f v)) (insertion ls (AddAssign p n f v))
 change_of t ls (RemoveAssign nth n) = where_found without_items (removal ls (RemoveAssign nth n))

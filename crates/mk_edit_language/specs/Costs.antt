@@ -3,8 +3,9 @@
 use Rattle.std.specs.Prelude.{ℕ, Bool, List, length, filter, Option, Some, None}
 use Rattle.std.specs.List.{list_any}
 use Rattle.mk_class.specs.ClassedLines.{ClassedLine, classed_lines}
-use Rattle.mk_edit_language.specs.Edits.{Edit, AddAssign, RemoveAssign, AddRule, RemoveRule, AddRecipe, RemoveRecipe, InsertRecipe, RemoveRecipeByText, RenameTarget}
+use Rattle.mk_edit_language.specs.Edits.{Edit, ChangeValues, AddAssign, RemoveAssign, AddRule, RemoveRule, AddRecipe, RemoveRecipe, InsertRecipe, RemoveRecipeByText, RenameTarget}
 use Rattle.mk_edit_language.specs.Stretches.{Stretch, removal}
+use Rattle.mk_edit_language.specs.ValueChanges.{is_changed}
 use Rattle.mk_edit_language.specs.WordPieces.{renamed_pieces, is_replaced}
 
 -- whether a line holds a word that a rename replaces
@@ -13,6 +14,7 @@ is_renamed o n l = list_any is_replaced (renamed_pieces o n l.class)
 
 -- the greatest number of lines that an edit reads again
 abbrev pub cost : (text : List ℕ) → Edit → ℕ
+cost t (ChangeValues n c) = length (filter (is_changed n c) (classed_lines t))
 cost t (RenameTarget o n) = length (filter (is_renamed o n) (classed_lines t))
 cost t (RemoveAssign nth n) = 0
 cost t (RemoveRule nth g) = 0

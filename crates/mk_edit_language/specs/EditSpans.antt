@@ -10,12 +10,13 @@ use Rattle.mk_class.specs.Classes.Class.{Header}
 use Rattle.mk_class.specs.ClassedLines.{ClassedLine}
 use Rattle.mk_tree.specs.Documents.{text_of}
 use Rattle.mk_tree.specs.LineTexts.{StandingLine}
-use Rattle.mk_edit_language.specs.Edits.{Edit, SetValue, AppendValue, AddWord, RemoveWord, AddAssign, RemoveAssign, AddRule, RemoveRule, AddPrereq, RemovePrereq, AddRecipe, SetRecipe, RemoveRecipe, InsertRecipe, SetRecipeByText, RemoveRecipeByText, RenameTarget}
+use Rattle.mk_edit_language.specs.Edits.{Edit, SetValue, AppendValue, AddWord, RemoveWord, ChangeValues, AddAssign, RemoveAssign, AddRule, RemoveRule, AddPrereq, RemovePrereq, AddRecipe, SetRecipe, RemoveRecipe, InsertRecipe, SetRecipeByText, RemoveRecipeByText, RenameTarget}
 use Rattle.mk_edit_language.specs.Addresses.{Variable, Rule, found}
 use Rattle.mk_edit_language.specs.Stretches.{Stretch, insertion, removal, recipe_found, text_number}
 use Rattle.mk_edit_language.specs.NewLines.{new_line_span}
 use Rattle.mk_edit_language.specs.ValueSpans.{value_span, value_spans, set_value_span, append_value_span}
 use Rattle.mk_edit_language.specs.ValueWords.{remove_word_spans}
+use Rattle.mk_edit_language.specs.ValueChanges.{changed_line_spans}
 use Rattle.mk_edit_language.specs.WordPieces.{add_pieces, remove_pieces, renamed_pieces}
 
 -- the span of whole lines with their line ends
@@ -33,12 +34,20 @@ header_spans f at k = []
 abbrev pub word_spans : (Headers.Header Cell → List Piece) → StandingLine → List Replacement
 word_spans f s = header_spans f (length (text_of s.above)) s.line.class
 
--- the spans of each target and each prerequisite that is the old word, in lines; the first line
--- begins at this offset
+-- the spans in lines, where `f` says those in a line that begins at an offset; the first line begins
+-- at this offset
+abbrev pub spans_in_lines : (f : ℕ → Class Cell → List Replacement) → (start : ℕ)
+    → List ClassedLine → List Replacement
+spans_in_lines f at [] = []
+spans_in_lines f at (l ∷ ls) = f at l.class ++ spans_in_lines f (at + length l.bytes) ls
+
+-- the spans of each target and each prerequisite that is the old word, in a line of this class
+abbrev pub renamed_line_spans : (old new : List ℕ) → (line_start : ℕ) → Class Cell
+    → List Replacement
+renamed_line_spans o n at k = replacements at (renamed_pieces o n k)
+
 abbrev pub renamed_spans : (old new : List ℕ) → (start : ℕ) → List ClassedLine → List Replacement
-renamed_spans o n at [] = []
-renamed_spans o n at (l ∷ ls) =
-    replacements at (renamed_pieces o n l.class) ++ renamed_spans o n (at + length l.bytes) ls
+renamed_spans o n at ls = spans_in_lines (renamed_line_spans o n) at ls
 
 -- the span of a recipe line's text: all after its first byte, up to its line end
 abbrev pub recipe_span : (command : List ℕ) → StandingLine → List Replacement
@@ -61,6 +70,7 @@ spans_of t ls (AddWord nth n w) =
     where_found (value_span (append_value_span w)) (found ls (Variable nth n))
 spans_of t ls (RemoveWord nth n w) =
     where_found (value_spans (remove_word_spans w)) (found ls (Variable nth n))
+spans_of t ls (ChangeValues n c) = spans_in_lines (changed_line_spans n c) 0 ls
 spans_of t ls (AddAssign p n f v) =
     where_found (new_line_span t (AddAssign p n f v)) (insertion ls (AddAssign p n f v))
 spans_of t ls (RemoveAssign nth n) = where_found removed_span (removal ls (RemoveAssign nth n))

@@ -3,6 +3,8 @@
 use Rattle.mk_edit_language.specs.Edits as edits
 use Rattle.mk_edit_language.specs.declared.edit.Place.{Place}
 use Rattle.mk_edit_language.specs.declared.edit.Place.TheVariants as place
+use Rattle.mk_edit_language.specs.declared.edit.ValueChange.{ValueChange}
+use Rattle.mk_edit_language.specs.declared.edit.ValueChange.TheVariants as change
 use Rattle.mk_edit_language.specs.declared.edit.Edit.{Edit}
 use Rattle.mk_edit_language.specs.declared.edit.Edit.TheVariants as edit
 
@@ -13,12 +15,20 @@ place_of (place.BeforeVar nth name) = edits.BeforeVar nth name.items
 place_of (place.AfterVar nth name) = edits.AfterVar nth name.items
 place_of (place.BeforeRule nth target) = edits.BeforeRule nth target.items
 
+-- a change of values; its text is seen as bytes
+abbrev pub value_change_of : {A : _} → ValueChange A → edits.ValueChange
+value_change_of (change.Set value) = edits.Set value.items
+value_change_of (change.Append value) = edits.Append value.items
+value_change_of (change.Add word) = edits.Add word.items
+value_change_of (change.Remove word) = edits.Remove word.items
+
 -- an edit; its texts are seen as bytes
 abbrev pub edit_of : {A : _} → Edit A → edits.Edit
 edit_of (edit.SetValue nth name value) = edits.SetValue nth name.items value.items
 edit_of (edit.AppendValue nth name value) = edits.AppendValue nth name.items value.items
 edit_of (edit.AddWord nth name word) = edits.AddWord nth name.items word.items
 edit_of (edit.RemoveWord nth name word) = edits.RemoveWord nth name.items word.items
+edit_of (edit.ChangeValues name c) = edits.ChangeValues name.items (value_change_of c)
 edit_of (edit.AddAssign p name flavor value) =
     edits.AddAssign (place_of p) name.items flavor value.items
 edit_of (edit.RemoveAssign nth name) = edits.RemoveAssign nth name.items

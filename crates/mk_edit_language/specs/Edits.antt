@@ -13,6 +13,14 @@ pub data Place : Type 0 where
   AfterVar : (nth : Option ℕ) → (name : List ℕ) → Place
   BeforeRule : (nth : Option ℕ) → (target : List ℕ) → Place
 
+-- What an edit does to each value of a name: it gives it another value, puts a text after it, puts a
+-- word after it where the word is none of its words, or takes the word out where it is one.
+pub data ValueChange : Type 0 where
+  Set : (value : List ℕ) → ValueChange
+  Append : (value : List ℕ) → ValueChange
+  Add : (word : List ℕ) → ValueChange
+  Remove : (word : List ℕ) → ValueChange
+
 -- An edit. `nth` is the number of the line, from 1, among the lines of the same name or target;
 -- `number` is the number of a recipe line, from 1, and `old` is its text. The targets of a new rule are one text, which is
 -- cut into words, and so are its prerequisites.
@@ -21,6 +29,7 @@ pub data Edit : Type 0 where
   AppendValue : (nth : Option ℕ) → (name value : List ℕ) → Edit
   AddWord : (nth : Option ℕ) → (name word : List ℕ) → Edit
   RemoveWord : (nth : Option ℕ) → (name word : List ℕ) → Edit
+  ChangeValues : (name : List ℕ) → (change : ValueChange) → Edit
   AddAssign : (place : Place) → (name : List ℕ) → (flavor : Flavor) → (value : List ℕ) → Edit
   RemoveAssign : (nth : Option ℕ) → (name : List ℕ) → Edit
   AddRule : (place : Place) → (targets : List ℕ) → (separator : RuleSeparator) → (prereqs : List ℕ) → Edit

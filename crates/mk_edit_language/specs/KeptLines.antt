@@ -1,5 +1,5 @@
--- What an edit other than a rename leaves: the lines above and below the lines that its spans
--- touch, with their classes.
+-- What an edit of one place leaves: the lines above and below the lines that its spans touch, with
+-- their classes.
 -- Told in docs/PROOFS.md, "An edit".
 use Rattle.std.specs.Prelude.{◌≡◌, ℕ, List, ◌++◌, length, ◌+◌, ◌≤◌, Option, Some, None}
 use Rattle.mk_lines.specs.PhysicalLines.{file_line_end}

@@ -12,6 +12,7 @@ pub mod EditedLines
 pub mod ValueSpans
 pub mod WordPieces
 pub mod ValueWords
+pub mod ValueChanges
 pub mod EditSpans
 pub mod RisingSpans
 -- Causes of refusal, each by itself
@@ -28,7 +29,9 @@ pub mod Costs
 -- What an edit leaves
 pub mod TouchedLines
 pub mod KeptLines
+pub mod LinesInPlace
 pub mod RenamedLines
+pub mod ChangedLines
 pub mod RuleTaken
 -- Statements of laws
 pub mod EditLaws

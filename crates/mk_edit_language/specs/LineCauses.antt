@@ -2,6 +2,7 @@
 -- OpenDefine, Leans and TooLong.
 -- Told in docs/EDITS.md, "Refusals".
 use Rattle.std.specs.Prelude.{ℕ, Bool, false, not, ◌&&◌, ◌||◌, nat_lt, List, [], ◌∷◌, ◌++◌, length, Option, Some, None}
+use Rattle.std.specs.List.{list_any}
 use Rattle.std.specs.Str.{bytes_eq}
 use Rattle.mk_lines.specs.Limits.{max_text}
 use Rattle.mk_lines.specs.Lists.{concat}
@@ -19,12 +20,14 @@ use Rattle.mk_class.specs.Classes.Class.{Assign}
 use Rattle.mk_class.specs.ClassedLines.{ClassedLine}
 use Rattle.mk_class.specs.declared.context.RuleFlag.{RuleFlag}
 use Rattle.mk_class.specs.declared.context.RuleFlag.TheVariants.{Off, Rule}
-use Rattle.mk_edit_language.specs.Edits.{Place, Bottom, Edit, AppendValue, AddWord, RemoveWord, AddAssign, AddRule}
+use Rattle.mk_edit_language.specs.Edits.{Place, Bottom, ValueChange, Set, Append, Add, Remove, Edit, AppendValue, AddWord, RemoveWord, ChangeValues, AddAssign, AddRule}
 use Rattle.mk_edit_language.specs.Addresses.{Variable, found}
 use Rattle.mk_edit_language.specs.Stretches.{Stretch, insertion, removal}
 use Rattle.mk_tree.specs.Documents.{context_of}
 use Rattle.mk_tree.specs.Leaning.{leans}
-use Rattle.mk_edit_language.specs.RuleCauses.{class_found, assignment_passes}
+use Rattle.mk_edit_language.specs.ValueWords.{assignment_passes}
+use Rattle.mk_edit_language.specs.ValueChanges.{is_changed}
+use Rattle.mk_edit_language.specs.RuleCauses.{class_found}
 use Rattle.mk_edit_language.specs.Causes.{where_holds}
 use Rattle.mk_edit_language.specs.declared.refusal.Refusal.{Refusal}
 use Rattle.mk_edit_language.specs.declared.refusal.Refusal.TheVariants.{OpenValue, OpenLine, OpenDefine, Leans, TooLong}
@@ -52,6 +55,13 @@ bares_end_among w (x ∷ y ∷ xs) =
 abbrev pub bares_end : (word : List ℕ) → Assignment Cell → Bool
 bares_end w a = bares_end_among w (word_texts joined_byte a.value)
 
+-- whether a change of values would be refused for the value of a line of this class
+abbrev pub is_open_to : ValueChange → Class Cell → Bool
+is_open_to (Set v) k = false
+is_open_to (Append v) k = has_open_value (Some k)
+is_open_to (Add w) k = has_open_value (Some k) || assignment_passes ends_in_fold (Some k)
+is_open_to (Remove w) k = has_open_value (Some k) || assignment_passes (bares_end w) (Some k)
+
 abbrev pub open_value : List ClassedLine → Edit → Option Refusal
 open_value ls (AppendValue nth n v) =
     where_holds (has_open_value (class_found (found ls (Variable nth n)))) OpenValue
@@ -61,6 +71,8 @@ open_value ls (AddWord nth n w) =
 open_value ls (RemoveWord nth n w) =
     let k = class_found (found ls (Variable nth n)) in
     where_holds (has_open_value k || assignment_passes (bares_end w) k) OpenValue
+open_value ls (ChangeValues n c) =
+    where_holds (list_any (λ l. is_changed n c l && is_open_to c l.class) ls) OpenValue
 open_value ls e = None
 
 -- ---- OpenLine: a new line would follow a last line that is open

@@ -3,7 +3,7 @@
 -- Told in docs/PROOFS.md, "Edits, as definitions (mk_edit_language)".
 use Rattle.std.specs.Prelude.{◌≡◌, ℕ, ◌+◌, List, ◌++◌, length, Some, Ok}
 use Rattle.mk_lines.specs.Pieces.{Replacement}
-use Rattle.mk_edit_language.specs.Edits.{Edit, RenameTarget}
+use Rattle.mk_edit_language.specs.Edits.{Edit, ChangeValues, RenameTarget}
 use Rattle.mk_class.specs.ClassedLines.{classed_lines}
 use Rattle.mk_edit_language.specs.Stretches.{Stretch, insertion, touched_by}
 use Rattle.mk_edit_language.specs.EditedLines.{edited_lines}
@@ -12,6 +12,7 @@ use Rattle.mk_edit_language.specs.RisingSpans.{IsReplacedAt}
 use Rattle.mk_edit_language.specs.TouchedLines.{IsOfOnePlace, TouchFew}
 use Rattle.mk_edit_language.specs.KeptLines.{AreOthersKept, above_after}
 use Rattle.mk_edit_language.specs.RenamedLines.{AreOthersKeptByRenameTarget}
+use Rattle.mk_edit_language.specs.ChangedLines.{AreOthersKeptByChangeValues}
 use Rattle.mk_edit_language.specs.Refusals.{spans, text_after}
 
 -- the spans of an edit rise within the text and do not overlap, and the bytes outside them are as
@@ -27,8 +28,8 @@ LengthsAddUp =
     (text : List ℕ) (e : Edit) (replacements : List Replacement) → spans text e ≡ Ok replacements
     → length (text_after text e) + bytes_taken replacements ≡ length text + bytes_put replacements
 
--- the spans of an edit other than a rename stand within a stretch that has at most as many lines as
--- the edit's size says
+-- the spans of an edit of one place stand within a stretch that has at most as many lines as the
+-- edit's size says
 abbrev pub SpansTouchFewLines : Type 0
 SpansTouchFewLines = (text : List ℕ) (e : Edit) (replacements : List Replacement) → IsOfOnePlace e
     → spans text e ≡ Ok replacements → TouchFew text e replacements
@@ -47,12 +48,16 @@ abbrev KeepsOthers : Edit → Type 0
 KeepsOthers e = (text : List ℕ) (replacements : List Replacement) → spans text e ≡ Ok replacements
     → AreOthersKept text e replacements
 
--- What an edit leaves. A rename may touch lines that stand apart: it leaves the lines that have no
--- word to rename, makes each other line in its place, and opens no conditional.
+-- What an edit leaves. A rename and a change of every value of a name may touch lines that stand
+-- apart: each leaves the lines that it does not change, makes each other line in its place, and
+-- opens no conditional.
 abbrev pub LeavesOthers : Edit → Type 0
 LeavesOthers (RenameTarget old new) = (text : List ℕ) (replacements : List Replacement)
     → spans text (RenameTarget old new) ≡ Ok replacements
     → AreOthersKeptByRenameTarget old new text replacements
+LeavesOthers (ChangeValues name change) = (text : List ℕ) (replacements : List Replacement)
+    → spans text (ChangeValues name change) ≡ Ok replacements
+    → AreOthersKeptByChangeValues name change text replacements
 LeavesOthers e = KeepsOthers e
 
 -- each edit leaves the lines that its spans do not touch

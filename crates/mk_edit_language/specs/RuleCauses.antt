@@ -5,16 +5,17 @@ use Rattle.std.specs.Prelude.{ℕ, Bool, true, false, not, ◌||◌, nat_lt, Lis
 use Rattle.std.specs.List.{list_any}
 use Rattle.mk_lines.specs.Cells.{Cell, joined_byte}
 use Rattle.mk_class.specs.Texts.{is_one_of, word_texts}
-use Rattle.mk_class.specs.Assignments.{Assignment}
 use Rattle.mk_class.specs.Headers
 use Rattle.mk_class.specs.Classes.{Class, is_conditional}
-use Rattle.mk_class.specs.Classes.Class.{Assign, Header}
+use Rattle.mk_class.specs.Classes.Class.{Header}
 use Rattle.mk_class.specs.ClassedLines.{ClassedLine}
 use Rattle.mk_tree.specs.RecipeLines.{recipe_run}
 use Rattle.mk_tree.specs.LineTexts.{StandingLine}
-use Rattle.mk_edit_language.specs.Edits.{Edit, AddWord, RemoveWord, AddPrereq, RemovePrereq, RemoveRule, AddRecipe, SetRecipe, RemoveRecipe, InsertRecipe, SetRecipeByText, RemoveRecipeByText, RenameTarget}
+use Rattle.mk_edit_language.specs.Edits.{Edit, Add, Remove, AddWord, RemoveWord, ChangeValues, AddPrereq, RemovePrereq, RemoveRule, AddRecipe, SetRecipe, RemoveRecipe, InsertRecipe, SetRecipeByText, RemoveRecipeByText, RenameTarget}
 use Rattle.mk_edit_language.specs.Addresses.{Variable, Rule, found, targets_of, is_a_target}
 use Rattle.mk_edit_language.specs.Stretches.{recipe_found, recipes_of_text, recipe_gap}
+use Rattle.mk_edit_language.specs.ValueWords.{assignment_passes, has_value_word}
+use Rattle.mk_edit_language.specs.ValueChanges.{is_changed}
 use Rattle.mk_edit_language.specs.Causes.{where_holds}
 use Rattle.mk_edit_language.specs.declared.refusal.Refusal.{Refusal}
 use Rattle.mk_edit_language.specs.declared.refusal.Refusal.TheVariants.{Ambiguous, Absent, Already, Taken, SharedRule, Straddles}
@@ -34,16 +35,7 @@ abbrev pub header_passes : (Headers.Header Cell → Bool) → Option (Class Cell
 header_passes p (Some (Header h)) = p h
 header_passes p k = false
 
--- whether an assignment is found and passes the test
-abbrev pub assignment_passes : (Assignment Cell → Bool) → Option (Class Cell) → Bool
-assignment_passes p (Some (Assign a s)) = p a
-assignment_passes p k = false
-
--- whether a word is one of the words of a value
-abbrev pub has_value_word : List ℕ → Assignment Cell → Bool
-has_value_word w a = is_one_of w (word_texts joined_byte a.value)
-
--- ---- Absent: the word is no word of the value, or no prerequisite; there is no recipe line of this number or of this text,
+-- ---- Absent: the word is no word of the value, or of any value of the name, or no prerequisite; there is no recipe line of this number or of this text,
 -- ---- or no place of this number for a new one
 
 -- whether a word is among the normal prerequisites of a header, and among the order-only ones
@@ -64,6 +56,8 @@ absent ls (RemoveWord nth n w) =
     where_holds
     (not (assignment_passes (has_value_word w) (class_found (found ls (Variable nth n)))))
     Absent
+absent ls (ChangeValues n (Remove w)) =
+    where_holds (not (list_any (is_changed n (Remove w)) ls)) Absent
 absent ls (RemovePrereq nth t w) =
     where_holds
     (not (header_passes (λ h. is_normal w h || is_order_only w h) (rule_class_found ls nth t)))
@@ -75,11 +69,12 @@ absent ls (SetRecipeByText nth t o c) = not_one (recipes_of_text ls nth t o)
 absent ls (RemoveRecipeByText nth t o) = not_one (recipes_of_text ls nth t o)
 absent ls e = None
 
--- ---- Already: the word is in that list of prerequisites, or in the value
+-- ---- Already: the word is in that list of prerequisites, in the value, or in each value of the name
 
 abbrev pub already : List ClassedLine → Edit → Option Refusal
 already ls (AddWord nth n w) =
     where_holds (assignment_passes (has_value_word w) (class_found (found ls (Variable nth n)))) Already
+already ls (ChangeValues n (Add w)) = where_holds (not (list_any (is_changed n (Add w)) ls)) Already
 already ls (AddPrereq true nth t w) =
     where_holds (header_passes (is_order_only w) (rule_class_found ls nth t)) Already
 already ls (AddPrereq false nth t w) =

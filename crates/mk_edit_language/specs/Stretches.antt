@@ -7,7 +7,7 @@ use Rattle.mk_class.specs.Classes.{is_recipe}
 use Rattle.mk_class.specs.ClassedLines.{ClassedLine}
 use Rattle.mk_tree.specs.RecipeLines.{recipe_run, after_recipe, recipe_lines}
 use Rattle.mk_tree.specs.LineTexts.{StandingLine}
-use Rattle.mk_edit_language.specs.Edits.{Place, Bottom, BeforeVar, AfterVar, BeforeRule, Edit, SetValue, AppendValue, AddWord, RemoveWord, AddAssign, RemoveAssign, AddRule, RemoveRule, AddPrereq, RemovePrereq, AddRecipe, SetRecipe, RemoveRecipe, InsertRecipe, SetRecipeByText, RemoveRecipeByText, RenameTarget}
+use Rattle.mk_edit_language.specs.Edits.{Place, Bottom, BeforeVar, AfterVar, BeforeRule, Edit, SetValue, AppendValue, AddWord, RemoveWord, ChangeValues, AddAssign, RemoveAssign, AddRule, RemoveRule, AddPrereq, RemovePrereq, AddRecipe, SetRecipe, RemoveRecipe, InsertRecipe, SetRecipeByText, RemoveRecipeByText, RenameTarget}
 use Rattle.mk_edit_language.specs.Spots.{spots, nth_of}
 use Rattle.mk_edit_language.specs.Addresses.{Variable, Rule, found}
 
@@ -158,4 +158,5 @@ touched_by ls (AddRule p ts c ws) = option_map between (insertion ls (AddRule p 
 touched_by ls (AddRecipe nth t c) = option_map between (insertion ls (AddRecipe nth t c))
 touched_by ls (InsertRecipe nth t k c) =
     option_map between (insertion ls (InsertRecipe nth t k c))
+touched_by ls (ChangeValues n c) = None
 touched_by ls (RenameTarget o n) = None

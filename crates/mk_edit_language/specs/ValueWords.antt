@@ -1,14 +1,26 @@
 -- The words of a value, and the edit that takes some of them out.
 -- Told in docs/EDITS.md, "Variables".
-use Rattle.std.specs.Prelude.{ℕ, if◌then◌else◌, not, List, [], ◌∷◌, ◌++◌, filter}
+use Rattle.std.specs.Prelude.{ℕ, if◌then◌else◌, Bool, false, not, List, [], ◌∷◌, ◌++◌, filter, Option, Some}
 use Rattle.mk_lines.specs.Lists.{concat}
 use Rattle.mk_lines.specs.Cells.{Cell, joined_byte}
 use Rattle.mk_lines.specs.Pieces.{Replacement, Piece, Keep, Replace, replacements}
 use Rattle.mk_lines.specs.Words.{Token, Gap, Word, tokens}
 use Rattle.mk_class.specs.ListTests.{is_empty}
+use Rattle.mk_class.specs.Texts.{is_one_of, word_texts}
 use Rattle.mk_class.specs.Assignments.{Assignment}
+use Rattle.mk_class.specs.Classes.{Class}
+use Rattle.mk_class.specs.Classes.Class.{Assign}
 use Rattle.mk_edit_language.specs.ValueSpans.{value_start, set_value_span}
 use Rattle.mk_edit_language.specs.WordPieces.{is_word_of}
+
+-- whether there is an assignment, and it passes the test
+abbrev pub assignment_passes : (Assignment Cell → Bool) → Option (Class Cell) → Bool
+assignment_passes p (Some (Assign a s)) = p a
+assignment_passes p k = false
+
+-- whether a word is one of the words of a value
+abbrev pub has_value_word : List ℕ → Assignment Cell → Bool
+has_value_word w a = is_one_of w (word_texts joined_byte a.value)
 
 -- a word of a value, with the blanks and folds directly before it
 pub record LedWord : Type 0 where

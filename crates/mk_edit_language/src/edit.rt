@@ -1,4 +1,4 @@
-//! The edits, the places of new lines, and the separators of new rules.
+//! The edits, the changes of values, the places of new lines, and the separators of new rules.
 //!
 //! An edit owns its texts. Contracts see it as a value of the definitions (`edit_of`).
 //!
@@ -49,6 +49,19 @@ pub enum Place<A: Allocator = Global> {
     },
 }
 
+/// What an edit does to each value of a name.
+#[derive(Drop)]
+pub enum ValueChange<A: Allocator = Global> {
+    /// Gives each assignment this value, which may be empty, as [`Edit::SetValue`] does with one.
+    Set(Vec<u8, A>),
+    /// Puts this text, which is not empty, after each value, as [`Edit::AppendValue`] does with one.
+    Append(Vec<u8, A>),
+    /// Puts this word after each value that does not have it, as [`Edit::AddWord`] does with one.
+    Add(Vec<u8, A>),
+    /// Takes this word out of each value that has it, as [`Edit::RemoveWord`] does with one.
+    Remove(Vec<u8, A>),
+}
+
 /// An edit of a makefile.
 #[derive(Drop)]
 pub enum Edit<A: Allocator = Global> {
@@ -91,6 +104,14 @@ pub enum Edit<A: Allocator = Global> {
         name: Vec<u8, A>,
         /// The word: a value that is not empty, without a blank outside a reference.
         word: Vec<u8, A>,
+    },
+    /// Changes each assignment of a variable, as one edit. It is refused where the change does nothing
+    /// to any of them, and where it would be refused for one of those that it changes.
+    ChangeValues {
+        /// The name of the variable.
+        name: Vec<u8, A>,
+        /// What is done to each value.
+        change: ValueChange<A>,
     },
     /// Puts in the line of an assignment.
     AddAssign {

@@ -18,7 +18,7 @@ pub enum Address<'a> {
 }
 
 /// The address of an edit, or of its place. A new line at the end has no address, and neither has a
-/// rename.
+/// rename or a change of all values of a name.
 pub fn address_of<A: Allocator>(edit: &Edit<A>) -> Option<Address<'_>>
     ensures { address_seen result ≡ address (edit_of edit.now) }
 {
@@ -38,7 +38,7 @@ pub fn address_of<A: Allocator>(edit: &Edit<A>) -> Option<Address<'_>>
         | Edit::InsertRecipe { nth, target, .. }
         | Edit::SetRecipeByText { nth, target, .. }
         | Edit::RemoveRecipeByText { nth, target, .. } => Some(Address::Rule(*nth, target)),
-        Edit::RenameTarget { .. } => None,
+        Edit::ChangeValues { .. } | Edit::RenameTarget { .. } => None,
     }
 }
 

@@ -5,17 +5,17 @@ ghost use Rattle.mk_class.specs.Arguments.{is_command, is_name, is_target, is_va
 ghost use Rattle.mk_class.specs.Keywords.{is_reserved_word};
 ghost use Rattle.mk_class.specs.ListTests.{is_empty};
 ghost use Rattle.mk_class.specs.RecipePrefix.{is_prefix_name};
-ghost use Rattle.mk_edit_language.specs.ArgumentCauses.{Tested, are_targets, are_words, bad_argument, first_failed, is_place, is_value_word, names, place_names, place_targets, targets};
+ghost use Rattle.mk_edit_language.specs.ArgumentCauses.{Tested, are_targets, are_words, bad_argument, change_test, first_failed, is_place, is_value_word, names, place_names, place_targets, targets};
 ghost use Rattle.mk_edit_language.specs.declared.refusal.Field.TheVariants.{Line, Old, Prereqs, Target, Targets};
 ghost use Rattle.mk_lines.specs.Units.{units};
 ghost use Rattle.mk_lines.specs.Words.{is_gap, words_in};
-ghost use Rattle.mk_edit_language.specs.EditViews.{edit_of, place_of};
+ghost use Rattle.mk_edit_language.specs.EditViews.{edit_of, place_of, value_change_of};
 ghost use Rattle.mk_edit_language.specs.declared.refusal.Field.TheVariants as field;
 ghost use Rattle.mk_edit_parts.specs.AddressViews.{field_refusal};
 
 use crate::text::is_prefix_name;
 use mk_class::{is_command, is_name, is_reserved_word, is_target, is_value, is_word};
-use mk_edit_language::{Edit, Field, Place};
+use mk_edit_language::{Edit, Field, Place, ValueChange};
 use mk_lines::{split_first_unit, split_first_word};
 use std::alloc::Allocator;
 
@@ -34,6 +34,7 @@ pub fn bad_field<A: Allocator>(edit: &Edit<A>) -> Option<Field>
         Edit::AddWord { name, word, .. } | Edit::RemoveWord { name, word, .. } => {
             bad_name_or(name, Field::Word, is_value_word(word))
         }
+        Edit::ChangeValues { name, change } => bad_change(name, change),
         Edit::RemoveAssign { name, .. } => failed(Field::Name, is_name(name)),
         Edit::AddRule {
             targets,
@@ -123,6 +124,22 @@ fn bad_name_or(name: &[u8], other: Field, passes: bool) -> Option<Field>
         ≡ first_failed (Tested field.Name (is_name name.now) ∷ Tested other passes ∷ []) }
 {
     first_failed(Field::Name, is_name(name), other, passes)
+}
+
+// The first field that fails its test, of the name of a variable and the text of a change of its
+// values.
+fn bad_change<A: Allocator>(name: &[u8], change: &ValueChange<A>) -> Option<Field>
+    ensures { field_refusal result
+        ≡ first_failed (Tested field.Name (is_name name.now)
+        ∷ change_test (value_change_of change.now) ∷ []) }
+{
+    match change {
+        ValueChange::Set(value) => bad_name_or(name, Field::Value, is_value(value)),
+        ValueChange::Append(text) => bad_name_or(name, Field::Value, is_tail(text)),
+        ValueChange::Add(word) | ValueChange::Remove(word) => {
+            bad_name_or(name, Field::Word, is_value_word(word))
+        }
+    }
 }
 
 // Whether a text may go behind a value: it is a value, and not empty.
@@ -227,6 +244,7 @@ pub fn is_reserved<A: Allocator>(edit: &Edit<A>) -> bool
         | Edit::AppendValue { name, .. }
         | Edit::AddWord { name, .. }
         | Edit::RemoveWord { name, .. }
+        | Edit::ChangeValues { name, .. }
         | Edit::RemoveAssign { name, .. } => is_prefix_name(name),
         Edit::AddAssign { place, name, .. } => is_prefix_name(name) || is_reserved_place(place),
         Edit::AddRule { place, targets, .. } => has_reserved_word(targets)

@@ -170,18 +170,18 @@ pub fn check_refused<'a>(
     check(!asks, "a refused edit asks for no memory")
 }
 
-/// Checks a rename of a makefile that is refused after its walk has come to a line that holds the
-/// old word. It asks for memory to note this line. That is refused, and so is all that it might ask
+/// Checks an edit of several lines that is refused after its walk has come to a line that it would
+/// change. It asks for memory to note this line. That is refused, and so is all that it might ask
 /// for then; but the refusal is the one with ample memory, and the document is the same. Where all
 /// that holds, the allocator refuses no growth afterwards.
-pub fn check_refused_rename<'a>(
+pub fn check_refused_late<'a>(
     heap: Heap<'a>,
     makefile: &[u8],
     edit: Result<Edit<Heap<'a>>, AllocError>,
     refusal: Refusal,
 ) -> Result<(), Fail> {
     let asks = asks_in_vain(heap, makefile, edit, refusal)?;
-    check(asks, "the rename asks for memory")
+    check(asks, "the edit asks for memory")
 }
 
 /// Whether an edit that is refused asks for memory before, where each growth is refused.

@@ -3,8 +3,21 @@
 
 use crate::checks::Heap;
 use mk_class::Flavor;
-use mk_edit::{Edit, Place, RuleSeparator};
+use mk_edit::{Edit, Place, RuleSeparator, ValueChange};
 use std::alloc::AllocError;
+
+/// What is done to each value of a name.
+#[derive(Clone, Copy)]
+pub enum Kind {
+    /// Another value.
+    Set,
+    /// A text put after it.
+    Append,
+    /// A word put after it.
+    Add,
+    /// A word taken out of it.
+    Remove,
+}
 
 /// Gives a variable another value.
 pub fn set_value<'a>(
@@ -56,6 +69,24 @@ pub fn remove_word<'a>(
         name: Vec::from_slice(heap, name)?,
         word: Vec::from_slice(heap, word)?,
     })
+}
+
+/// Changes all values of a variable: `kind` makes the change from its text.
+pub fn change_values<'a>(
+    heap: Heap<'a>,
+    name: &[u8],
+    kind: Kind,
+    text: &[u8],
+) -> Result<Edit<Heap<'a>>, AllocError> {
+    let name = Vec::from_slice(heap, name)?;
+    let text = Vec::from_slice(heap, text)?;
+    let change = match kind {
+        Kind::Set => ValueChange::Set(text),
+        Kind::Append => ValueChange::Append(text),
+        Kind::Add => ValueChange::Add(text),
+        Kind::Remove => ValueChange::Remove(text),
+    };
+    Ok(Edit::ChangeValues { name, change })
 }
 
 /// Puts the line of an assignment at the end.

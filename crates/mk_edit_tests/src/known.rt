@@ -4,9 +4,9 @@ ghost use Rattle.mk_tree.specs.Documents.{IsFaithful};
 
 use crate::checks::{Heap, check};
 use crate::edits::{
-    add_assign, add_prereq, add_recipe, add_rule, add_word, append_value, insert_recipe,
-    remove_assign, remove_prereq, remove_recipe, remove_rule, remove_word, rename_target,
-    set_recipe, set_recipe_by_text, set_value,
+    Kind, add_assign, add_prereq, add_recipe, add_rule, add_word, append_value, change_values,
+    insert_recipe, remove_assign, remove_prereq, remove_recipe, remove_rule, remove_word,
+    rename_target, set_recipe, set_recipe_by_text, set_value,
 };
 use mk_class::{Context, Flavor, Meter};
 use mk_edit::{Edit, RuleSeparator, plan_with};
@@ -77,16 +77,19 @@ fn is_same(left: Sought, right: Sought) -> bool {
         && is_same_place(left.end, right.end)
 }
 
-// ---- what is known for a rename
+// ---- what is known for a rename, or for a change of all values of a name
 
-// Whether a line that is no recipe line has a word, by itself or before a colon.
+// Whether a line that is no recipe line has a word, by itself or before a colon or a `=`.
 fn holds(line: &[u8], word: &[u8]) -> bool {
     if line.starts_with(b"\t") {
         return false;
     }
     let mut rest = line.strip_suffix(b"\n").unwrap_or(line);
     while let Some((first, after)) = split_first_word(rest) {
-        if first == word || first.strip_suffix(b":") == Some(word) {
+        let is_name = first
+            .strip_prefix(word)
+            .is_some_and(|value| value.starts_with(b"="));
+        if is_name || first == word || first.strip_suffix(b":") == Some(word) {
             return true;
         }
         rest = after;
@@ -104,7 +107,7 @@ fn context_before<'a>(heap: Heap<'a>, doc: &Doc<Heap<'a>>, at: usize) -> Result<
     Ok(end.context)
 }
 
-// Checks the windows that are known for a rename by a walk over all lines: the context before each is
+// Checks the windows that are known for an edit by a walk over all lines: the context before each is
 // the one there, no line outside of them has either word, and the last one reaches the end.
 fn check_windows<'a>(
     heap: Heap<'a>,
@@ -150,6 +153,9 @@ fn check_known<'a>(
         (Known::Windows(windows), Edit::RenameTarget { from, to }) => {
             check_windows(heap, doc, windows, (from, to))
         }
+        (Known::Windows(windows), Edit::ChangeValues { name, .. }) => {
+            check_windows(heap, doc, windows, (name, name))
+        }
         _ => Err(Fail::from("nothing is known")),
     }
 }
@@ -185,6 +191,8 @@ fn check_all<'a>(heap: Heap<'a>, indexed: &mut IndexedDoc<Heap<'a>>) -> Result<(
     check_before(heap, indexed, remove_rule(heap, b"new"))?;
     check_before(heap, indexed, remove_rule(heap, b"tail"))?;
     check_before(heap, indexed, add_assign(heap, b"E", Flavor::Simple, b"7"))?;
+    check_before(heap, indexed, change_values(heap, b"A", Kind::Set, b"7"))?;
+    check_before(heap, indexed, change_values(heap, b"D", Kind::Set, b"7"))?;
     check_before(heap, indexed, rename_target(heap, b"mid", b"new"))?;
     check_before(heap, indexed, rename_target(heap, b"center", b"tail"))?;
     check_before(heap, indexed, rename_target(heap, b"s", b"w"))
@@ -231,6 +239,13 @@ fn what_is_known_after_each_edit_of_a_line_is_what_a_walk_finds(
     check_after(&heap, &mut indexed, append_value(&heap, b"M", b"2"))?;
     check_after(&heap, &mut indexed, add_word(&heap, b"M", b"3"))?;
     check_after(&heap, &mut indexed, remove_word(&heap, b"M", b"2"))?;
+    let append = change_values(&heap, b"B", Kind::Append, b"2");
+    check_after(&heap, &mut indexed, append)?;
+    check_before(
+        &heap,
+        &mut indexed,
+        change_values(&heap, b"B", Kind::Add, b"7"),
+    )?;
     check_after(&heap, &mut indexed, add_prereq(&heap, true, b"mid", b"new"))?;
     check_after(&heap, &mut indexed, remove_prereq(&heap, b"all", b"x"))?;
     check_after(&heap, &mut indexed, set_recipe(&heap, b"tail", 1, b"other"))?;

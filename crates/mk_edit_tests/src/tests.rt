@@ -3,12 +3,12 @@
 ghost use Rattle.mk_patch.specs.Moves.{FitMoves};
 
 use crate::checks::{
-    Heap, check_accepted, check_refused, check_refused_rename, document, growths_of_plan,
+    Heap, check_accepted, check_refused, check_refused_late, document, growths_of_plan,
 };
 use crate::edits::{
-    add_assign, add_prereq, add_recipe, add_rule, add_word, append_value, insert_recipe,
-    remove_assign, remove_prereq, remove_recipe, remove_recipe_by_text, remove_rule, remove_word,
-    rename_target, set_recipe, set_recipe_by_text, set_value,
+    Kind, add_assign, add_prereq, add_recipe, add_rule, add_word, append_value, change_values,
+    insert_recipe, remove_assign, remove_prereq, remove_recipe, remove_recipe_by_text, remove_rule,
+    remove_word, rename_target, set_recipe, set_recipe_by_text, set_value,
 };
 use mk_class::{Flavor, Meter};
 use mk_edit::{Edit, Field, Refusal, RuleSeparator, plan};
@@ -54,6 +54,53 @@ fn a_word_is_taken_out_of_a_value(rt: HostRuntime) -> Result<(), Fail> {
     check_accepted(&heap, makefile, edit, b"F = -O2 \\\n    -g\n")?;
     let edit = remove_word(&heap, b"F", b"-g");
     check_accepted(&heap, b"F = -g # c\n", edit, b"F = # c\n")
+}
+
+#[test]
+fn each_value_of_a_name_is_set(rt: HostRuntime) -> Result<(), Fail> {
+    let heap = Watched::new(rt.alloc());
+    let edit = change_values(&heap, b"CC", Kind::Set, b"clang");
+    let makefile = b"CC = gcc-very-long # c\nX = 1\nCC := clang\nCC ?= a\n";
+    let expected = b"CC = clang # c\nX = 1\nCC := clang\nCC ?= clang\n";
+    check_accepted(&heap, makefile, edit, expected)?;
+    let edit = change_values(&heap, b"CC", Kind::Set, b"");
+    check_accepted(&heap, makefile, edit, b"CC = # c\nX = 1\nCC := \nCC ?= \n")
+}
+
+#[test]
+fn a_text_is_appended_to_each_value_of_a_name(rt: HostRuntime) -> Result<(), Fail> {
+    let heap = Watched::new(rt.alloc());
+    let edit = change_values(&heap, b"X", Kind::Append, b"b");
+    check_accepted(
+        &heap,
+        b"X = a\nifdef Y\nX =\nendif\nX += c",
+        edit,
+        b"X = a b\nifdef Y\nX =b\nendif\nX += c b",
+    )
+}
+
+#[test]
+fn a_word_is_put_after_each_value_of_a_name_without_it(rt: HostRuntime) -> Result<(), Fail> {
+    let heap = Watched::new(rt.alloc());
+    let edit = change_values(&heap, b"F", Kind::Add, b"-g");
+    check_accepted(
+        &heap,
+        b"F = -O2 # c\nF += -g\nG = 1\nF += -W \\\n -V\n",
+        edit,
+        b"F = -O2 -g # c\nF += -g\nG = 1\nF += -W \\\n -V -g\n",
+    )
+}
+
+#[test]
+fn a_word_is_taken_out_of_each_value_of_a_name(rt: HostRuntime) -> Result<(), Fail> {
+    let heap = Watched::new(rt.alloc());
+    let edit = change_values(&heap, b"F", Kind::Remove, b"-g");
+    check_accepted(
+        &heap,
+        b"F = -g -O2 -g # c\nF += a$\nF += -O2 \\\n -g\nF += -g\n",
+        edit,
+        b"F = -O2 # c\nF += a$\nF += -O2\nF += \n",
+    )
 }
 
 #[test]
@@ -231,7 +278,7 @@ fn a_recipe_prefix_refuses_edits(rt: HostRuntime) -> Result<(), Fail> {
     check_refused(&heap, makefile, edit, Refusal::RecipePrefix)?;
     let edit = rename_target(&heap, b"all", b"tidy");
     let makefile = b".RECIPEPREFIX = t\nall: a\n".as_slice();
-    check_refused_rename(&heap, makefile, edit, Refusal::RecipePrefix)
+    check_refused_late(&heap, makefile, edit, Refusal::RecipePrefix)
 }
 
 #[test]
@@ -241,7 +288,7 @@ fn a_line_has_to_be_there_once(rt: HostRuntime) -> Result<(), Fail> {
     check_refused(&heap, b"a: b\nb:\n", edit, Refusal::NoSuch)?;
     // its word is only a prerequisite
     let edit = rename_target(&heap, b"c", b"d");
-    check_refused_rename(&heap, b"a: c\n", edit, Refusal::NoSuch)?;
+    check_refused_late(&heap, b"a: c\n", edit, Refusal::NoSuch)?;
     let edit = set_value(&heap, b"CC", b"z");
     let makefile = b"ifdef A\nCC=x\nelse\nCC=y\nendif\n".as_slice();
     check_refused(&heap, makefile, edit, Refusal::Ambiguous(2))
@@ -262,7 +309,7 @@ fn prerequisites_and_recipe_lines_are_absent_or_there_already(rt: HostRuntime) -
 fn a_taken_name_is_refused(rt: HostRuntime) -> Result<(), Fail> {
     let heap = Watched::new(rt.alloc());
     let edit = rename_target(&heap, b"a", b"b");
-    check_refused_rename(&heap, b"a: b\nb:\n", edit, Refusal::Taken)
+    check_refused_late(&heap, b"a: b\nb:\n", edit, Refusal::Taken)
 }
 
 #[test]
@@ -275,6 +322,38 @@ fn shared_and_split_rules_are_refused(rt: HostRuntime) -> Result<(), Fail> {
     check_refused(&heap, makefile, edit, Refusal::Straddles)?;
     let edit = add_recipe(&heap, b"foo", b"y");
     check_refused(&heap, makefile, edit, Refusal::Straddles)
+}
+
+#[test]
+fn changes_of_all_values_are_refused(rt: HostRuntime) -> Result<(), Fail> {
+    let heap = Watched::new(rt.alloc());
+    let edit = change_values(&heap, b"F", Kind::Append, b"");
+    check_refused(&heap, b"F = x\n", edit, Refusal::BadArgument(Field::Value))?;
+    let edit = change_values(&heap, b"F", Kind::Remove, b"a b");
+    check_refused(&heap, b"F = x\n", edit, Refusal::BadArgument(Field::Word))?;
+    let edit = change_values(&heap, b".RECIPEPREFIX", Kind::Set, b"x");
+    check_refused(&heap, b"F = x\n", edit, Refusal::Reserved)?;
+    let edit = change_values(&heap, b"G", Kind::Set, b"x");
+    check_refused(&heap, b"F = x\n", edit, Refusal::NoSuch)?;
+    let edit = change_values(&heap, b"F", Kind::Add, b"-g");
+    check_refused(&heap, b"F = -g\nF += -W -g\n", edit, Refusal::Already)?;
+    let edit = change_values(&heap, b"F", Kind::Remove, b"-g");
+    check_refused(&heap, b"F = -O2\nF += -W\n", edit, Refusal::Absent)
+}
+
+#[test]
+fn a_change_of_all_values_is_refused_for_one_that_it_changes(rt: HostRuntime) -> Result<(), Fail> {
+    let heap = Watched::new(rt.alloc());
+    // the walk has noted a line before it comes to the open value
+    let edit = change_values(&heap, b"F", Kind::Append, b"x");
+    let makefile = b"F = -g\nF += $(foo\n".as_slice();
+    check_refused_late(&heap, makefile, edit, Refusal::OpenValue)?;
+    let edit = change_values(&heap, b"F", Kind::Add, b"-g");
+    check_refused_late(&heap, b"F = a$\\\n\n", edit, Refusal::OpenValue)?;
+    // the prefix is told before the values
+    let edit = change_values(&heap, b"F", Kind::Append, b"x");
+    let makefile = b"F = $(foo\n.RECIPEPREFIX ?= >\n".as_slice();
+    check_refused_late(&heap, makefile, edit, Refusal::RecipePrefix)
 }
 
 #[test]

@@ -1,5 +1,5 @@
 //! What can be undone and redone, up to a depth.
-ghost use Rattle.std.specs.Prelude.{◌≡◌, ◌<◌, ◌⊎◌, ◌↔◌, true, [], ◌∷◌, length, take, IfOk, OnOk, OnErr, IfErr, IsOk, IsTrue, Err};
+ghost use Rattle.std.specs.Prelude.{◌≡◌, ◌<◌, ◌⊎◌, ◌↔◌, true, false, [], ◌∷◌, length, take, IfOk, OnOk, OnErr, IfErr, IsOk, IsTrue, Err};
 ghost use Rattle.mk_history.specs.Chain.{IsChain, Moves};
 ghost use Rattle.mk_history.specs.Stacks.{IsBadDepth};
 
@@ -59,6 +59,22 @@ impl<C, A: Allocator> Model for History<C, A> {
     ghost invariant = { λ h.
         (h.undone.capacity ≡ h.done.capacity)
         × (length h.done.items + length h.undone.items ≤ h.done.capacity) };
+}
+
+impl<C, A: Allocator> History<C, A> {
+    /// Whether there is a change to undo, within the depth. Takes no memory.
+    pub fn can_undo(&self) -> bool
+        ensures { (result ≡ false) ↔ (self.now.done ≡ []) }
+    {
+        !self.done.is_empty()
+    }
+
+    /// Whether there is a change to redo. Takes no memory.
+    pub fn can_redo(&self) -> bool
+        ensures { (result ≡ false) ↔ (self.now.undone ≡ []) }
+    {
+        !self.undone.is_empty()
+    }
 }
 
 impl<C: Change + Drop, A: Allocator> History<C, A> {

@@ -7,9 +7,9 @@ ghost use Rattle.mk_tree.specs.UnreadPrefixes.{IsEndOf};
 ghost use Rattle.mk_edit_language.specs.EditViews.{edit_of};
 ghost use Rattle.mk_edit_parts.specs.AddressViews.{address_seen};
 ghost use Rattle.mk_edit_parts.specs.Seeking.{IsKnownOf, IsLineKnown, IsSought};
-ghost use Rattle.mk_edit_parts.specs.Windows.{AreWindows, IsKnown, concerns_rename, first_place};
+ghost use Rattle.mk_edit_parts.specs.Windows.{AreWindows, IsKnown, concerns_name, concerns_rename, first_place};
 ghost use Rattle.mk_edit_language.specs.Edits as edits;
-ghost use Rattle.mk_edit_language.specs.Edits.{RenameTarget};
+ghost use Rattle.mk_edit_language.specs.Edits.{ChangeValues, RenameTarget};
 ghost use Rattle.mk_patch.specs.Moves.{FitMoves, after_moves};
 ghost use Rattle.mk_index.specs.Effects.{IsBehind, IsKnownFor};
 
@@ -81,6 +81,10 @@ impl<A: Allocator + Copy> Finder<A> {
             self.expect_renames();
             self.make_due(alloc, doc);
             return windows_known(self.for_rename(alloc, doc, from, to));
+        }
+        if let Edit::ChangeValues { name, .. } = edit {
+            self.make_due(alloc, doc);
+            return windows_known(self.for_values(alloc, doc, name));
         }
         let address = address_of(edit);
         if address.is_some() {
@@ -205,6 +209,24 @@ impl<A: Allocator + Copy> Finder<A> {
         windows
     }
 
+    // The windows that the index tells for a change of all values of a name. The index is dropped where
+    // one is dropped that tells of an address.
+    fn for_values(&mut self, alloc: A, doc: &Doc<A>, name: &[u8]) -> Option<Vec<Window, A>>
+        requires faithful { IsFaithful doc.now }
+        requires right { IsKnownFor doc.now self.old }
+        ensures windows { IfSome result (λ windows.
+            AreWindows (concerns_name name.now) first_place doc.now windows.items) }
+        ensures right { IsKnownFor doc.now self.new }
+    {
+        let mut index = self.index.take()?;
+        index.refresh(doc).ok()?;
+        let windows = index.for_address(alloc, doc, Some(Address::Variable(None, name)));
+        if windows.is_some() || !index.is_worn() {
+            self.index = Some(index);
+        }
+        windows
+    }
+
     /// Follows a patch that is made of the document next: the index is kept, and where the document
     /// ends is forgotten. Takes no memory.
     pub fn follow(&mut self, patch: &Patch<A>)
@@ -284,11 +306,14 @@ fn line_known<A: Allocator>(sought: Option<Sought>) -> Known<A>
     }
 }
 
-// What is known for a rename by its windows, if there are any.
+// What is known by the windows for a rename or a change of all values of a name, if there are any.
 fn windows_known<A: Allocator>(windows: Option<Vec<Window, A>>) -> Known<A>
-    ensures { (old new : List ℕ) (lines : List LocatedLine)
+    ensures rename { (old new : List ℕ) (lines : List LocatedLine)
         → IfSome windows (λ w. AreWindows (concerns_rename old new) first_place lines w.items)
         → IsKnown (RenameTarget old new) lines result }
+    ensures values { (name : List ℕ) (change : edits.ValueChange) (lines : List LocatedLine)
+        → IfSome windows (λ w. AreWindows (concerns_name name) first_place lines w.items)
+        → IsKnown (ChangeValues name change) lines result }
 {
     match windows {
         Some(windows) => Known::Windows(windows),

@@ -8,7 +8,7 @@ ghost use Rattle.mk_tree.specs.LocatedLines.{LocatedLine, context_after_located_
 ghost use Rattle.mk_tree.specs.Origins.{lines_between};
 ghost use Rattle.mk_edit_parts.specs.AddressViews.{address_seen};
 ghost use Rattle.mk_edit_parts.specs.Seeking.{IsKnownOf};
-ghost use Rattle.mk_edit_parts.specs.Windows.{AreWindows, concerns_rename, first_place};
+ghost use Rattle.mk_edit_parts.specs.Windows.{AreWindows, concerns, concerns_rename, first_place};
 ghost use Rattle.mk_patch.specs.Moves.{FitMoves, after_moves};
 ghost use Rattle.mk_index.specs.Blocks.{AreBlocks, AreLinesMentioned, HaveListedLines, IsCarried, IsExpected, PassesInMarked, blocks_of, lines_in};
 ghost use Rattle.mk_index.specs.Walks.{HasWindows, IsRefreshed};
@@ -238,8 +238,25 @@ impl<A: Allocator + Copy> Index<A> {
         ensures known { IsKnownOf (address_seen address.entry) doc.now result }
         ensures same { self.new ≡ self.old }
     {
-        let windows = self.windows(alloc, doc, UNREAD, key_of(address))?;
+        let windows = self.for_address(alloc, doc, address)?;
         Some(seek_within(doc, &windows, address))
+    }
+
+    /// Windows of the document, outside of which no line concerns an address. `None` if these are
+    /// unknown.
+    pub fn for_address(
+        &mut self,
+        alloc: A,
+        doc: &Doc<A>,
+        address: Option<Address>,
+    ) -> Option<Vec<Window, A>>
+        requires faithful { IsFaithful doc.now }
+        requires index { IsFreshIndexOf doc.now self.old }
+        ensures windows { IfSome result (λ windows.
+            AreWindows (concerns (address_seen address.entry)) first_place doc.now windows.items) }
+        ensures same { self.new ≡ self.old }
+    {
+        self.windows(alloc, doc, UNREAD, key_of(address))
     }
 
     /// Windows of the document, outside of which no line concerns the rename of a word to another.

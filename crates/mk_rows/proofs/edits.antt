@@ -5,3 +5,4 @@ mod RandomEdits
 mod RandomRecipes
 mod CornerEdits
 mod WordEdits
+mod EveryValue

@@ -2,3 +2,4 @@ pub mod TableLemmas
 pub mod ReadLemmas
 pub mod WrittenLemmas
 pub mod SayingLemmas
+pub mod AllLemmas

@@ -3,13 +3,15 @@
 use Rattle.std.specs.Prelude.{ℕ, true, false, if◌then◌else◌, List, Option, Some, None, option_map, codes}
 use Rattle.std.specs.Str.{bytes_eq}
 use Rattle.mk_class.specs.declared.assignment.Flavor.{Flavor}
-use Rattle.mk_edit_language.specs.Edits.{Place, Bottom, BeforeVar, AfterVar, BeforeRule, Edit, SetValue, AppendValue, AddWord, RemoveWord, AddAssign, RemoveAssign, AddRule, RemoveRule, AddPrereq, RemovePrereq, AddRecipe, SetRecipe, RemoveRecipe, InsertRecipe, SetRecipeByText, RemoveRecipeByText, RenameTarget}
+use Rattle.mk_edit_language.specs.Edits.{Place, Bottom, BeforeVar, AfterVar, BeforeRule, Edit, SetValue, AppendValue, AddWord, RemoveWord, AddAssign, RemoveAssign, AddRule, RemoveRule, AddPrereq, RemovePrereq, AddRecipe, SetRecipe, RemoveRecipe, InsertRecipe, SetRecipeByText, RemoveRecipeByText, RenameTarget, ChangeValues, ValueChange, Set, Append, Add, Remove}
 use Rattle.mk_edit_language.specs.declared.edit.RuleSeparator.{RuleSeparator}
 use Rattle.mk_history.specs.Machine.{Command, Apply}
 use Rattle.mk_script.specs.Lines.{Saying, Plain, Try, Or}
 use Rattle.mk_script.specs.FieldReading.{is_blank, first_field, one_field, two_fields, three_fields}
 use Rattle.mk_script.specs.NumberReading.{number}
-use Rattle.mk_script.specs.WordReading.{named, calls, edit_words, places, operators, separators}
+use Rattle.mk_script.specs.WordReading.{named, calls, edit_words, value_words, places, operators, separators}
+use Rattle.mk_script.specs.declared.word.ChangeWord.{ChangeWord}
+use Rattle.mk_script.specs.declared.word.ChangeWord.TheVariants as change
 use Rattle.mk_script.specs.declared.word.EditWord.{EditWord}
 use Rattle.mk_script.specs.declared.word.EditWord.TheVariants as word
 use Rattle.mk_script.specs.declared.word.PlaceWord.{PlaceWord}
@@ -129,6 +131,24 @@ edit_by_word nth (Some word.Rename) rest = rename_target_of nth rest
 abbrev pub edit : (nth : Option ℕ) → (first rest : List ℕ) → Option Edit
 edit nth first rest = edit_by_word nth (named edit_words first) rest
 
+-- ---- edits of every assignment of a name
+
+-- the change that a word says, with the text after the name
+abbrev pub change_with : ChangeWord → (text : List ℕ) → ValueChange
+change_with change.Set text = Set text
+change_with change.Append text = Append text
+change_with change.Add text = Add text
+change_with change.Drop text = Remove text
+
+abbrev pub change_by_word : Option ChangeWord → (rest : List ℕ) → Option Edit
+change_by_word None rest = None
+change_by_word (Some word) rest = of_two (λ name text. ChangeValues name (change_with word text)) rest
+
+-- an edit, from what follows `all`
+abbrev pub edit_after_all : Option (List ℕ × List ℕ) → Option Edit
+edit_after_all None = None
+edit_after_all (Some p) = change_by_word (named value_words p.0) p.1
+
 -- ---- commands
 
 abbrev pub numbered_edit : (nth : ℕ) → Option (List ℕ × List ℕ) → Option Edit
@@ -144,10 +164,14 @@ abbrev pub edit_after_nth : Option (List ℕ × List ℕ) → Option Edit
 edit_after_nth None = None
 edit_after_nth (Some p) = edit_after_number (number p.0) p.1
 
--- an edit, from its first field, with or without `nth` and a number before it
+-- an edit, from its first field; before its word `nth` and a number may stand, or `all`
 abbrev pub addressed_edit : (first rest : List ℕ) → Option Edit
 addressed_edit first rest =
-    if bytes_eq first (codes "nth") then edit_after_nth (first_field rest) else edit None first rest
+    if bytes_eq first (codes "nth")
+    then edit_after_nth (first_field rest)
+    else if bytes_eq first (codes "all")
+    then edit_after_all (first_field rest)
+    else edit None first rest
 
 -- the call that was named, if one was; otherwise an edit
 abbrev pub call_or_edit : Option (Command Edit) → (first rest : List ℕ) → Option (Command Edit)

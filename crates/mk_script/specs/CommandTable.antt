@@ -2,7 +2,7 @@
 -- Told in docs/EDITS.md, "The script".
 use Rattle.std.specs.Prelude.{◌≡◌, ℕ, Bool, true, false, List, [], ◌∷◌, ◌++◌, Option, Some, None, codes}
 use Rattle.mk_class.specs.OperatorTexts.{operator_text}
-use Rattle.mk_edit_language.specs.Edits.{Place, Bottom, BeforeVar, AfterVar, BeforeRule, Edit, SetValue, AppendValue, AddWord, RemoveWord, AddAssign, RemoveAssign, AddRule, RemoveRule, AddPrereq, RemovePrereq, AddRecipe, SetRecipe, RemoveRecipe, InsertRecipe, SetRecipeByText, RemoveRecipeByText, RenameTarget}
+use Rattle.mk_edit_language.specs.Edits.{Place, Bottom, BeforeVar, AfterVar, BeforeRule, Edit, SetValue, AppendValue, AddWord, RemoveWord, AddAssign, RemoveAssign, AddRule, RemoveRule, AddPrereq, RemovePrereq, AddRecipe, SetRecipe, RemoveRecipe, InsertRecipe, SetRecipeByText, RemoveRecipeByText, RenameTarget, ChangeValues, ValueChange, Set, Append, Add, Remove}
 use Rattle.mk_edit_language.specs.NewLines.{rule_separator_text}
 use Rattle.mk_history.specs.Machine.{Command, Apply, Undo, Redo, Begin, End, Cancel}
 use Rattle.mk_script.specs.Numbers.{IsNumber}
@@ -33,6 +33,13 @@ nth_of_place (BeforeRule nth target) = nth
 abbrev pub depend_word : (order : Bool) → List ℕ
 depend_word false = codes "depend"
 depend_word true = codes "depend-order"
+
+-- the words of a change of each assignment's value: those of the edit of one assignment
+abbrev pub change_words : (name : List ℕ) → ValueChange → List (List ℕ)
+change_words name (Set value) = codes "set" ∷ name ∷ value ∷ []
+change_words name (Append value) = codes "append" ∷ name ∷ value ∷ []
+change_words name (Add word) = codes "add" ∷ name ∷ word ∷ []
+change_words name (Remove word) = codes "drop" ∷ name ∷ word ∷ []
 
 -- ---- the table
 
@@ -75,6 +82,7 @@ IsCommand fields (Apply (SetRecipeByText nth target old line)) =
 IsCommand fields (Apply (RemoveRecipeByText nth target old)) =
     IsAfterNth nth fields (codes "recipe-remove" ∷ target ∷ old ∷ [])
 IsCommand fields (Apply (RenameTarget old new)) = fields ≡ codes "rename" ∷ old ∷ new ∷ []
+IsCommand fields (Apply (ChangeValues name change)) = fields ≡ codes "all" ∷ change_words name change
 IsCommand fields Undo = fields ≡ codes "undo" ∷ []
 IsCommand fields Redo = fields ≡ codes "redo" ∷ []
 IsCommand fields Begin = fields ≡ codes "begin" ∷ []

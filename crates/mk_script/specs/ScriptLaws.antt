@@ -1,10 +1,10 @@
 -- Laws of lines and of scripts. Each law is the contract of a public function.
 -- Told in docs/PROOFS.md, "Scripts (mk_script)".
-use Rattle.std.specs.Prelude.{◌≡◌, ◌⊎◌, ℕ, ◌≤◌, List, [], ◌∷◌, ◌++◌, map, Option, Some, None}
-use Rattle.mk_edit_language.specs.Edits.{Edit, SetValue, AppendValue, AddWord, RemoveWord, AddAssign, RemoveAssign, AddRule, RemoveRule, AddPrereq, RemovePrereq, AddRecipe, SetRecipe, RemoveRecipe, InsertRecipe, SetRecipeByText, RemoveRecipeByText, RenameTarget}
+use Rattle.std.specs.Prelude.{◌≡◌, ◌⊎◌, ◌↔◌, ℕ, ◌≤◌, List, [], ◌∷◌, ◌++◌, map, Option, Some, None, codes}
+use Rattle.mk_edit_language.specs.Edits.{Edit, SetValue, AppendValue, AddWord, RemoveWord, AddAssign, RemoveAssign, AddRule, RemoveRule, AddPrereq, RemovePrereq, AddRecipe, SetRecipe, RemoveRecipe, InsertRecipe, SetRecipeByText, RemoveRecipeByText, RenameTarget, ChangeValues}
 use Rattle.mk_history.specs.Machine.{Command, Apply}
 use Rattle.mk_script.specs.Fields.{quoted, HasFields}
-use Rattle.mk_script.specs.CommandTable.{nth_of_place}
+use Rattle.mk_script.specs.CommandTable.{nth_of_place, IsCommand}
 use Rattle.mk_script.specs.Lines.{IsSkipped, Saying, Plain, Try, Or, Says}
 use Rattle.mk_script.specs.Scripts.{CommandAt, Step, Alone, IsScript, HasNoCommand}
 use Rattle.mk_script.specs.ScriptsOfCommands.{IsScriptOfCommands, IsFaultOfCommands}
@@ -58,6 +58,7 @@ HasNumbersOfScripts (InsertRecipe nth target number line) =
 HasNumbersOfScripts (SetRecipeByText nth target old line) = CanBeWritten nth
 HasNumbersOfScripts (RemoveRecipeByText nth target old) = CanBeWritten nth
 HasNumbersOfScripts (RenameTarget old new) = Unit {0}
+HasNumbersOfScripts (ChangeValues name change) = Unit {0}
 
 -- a command whose numbers a script can write
 abbrev pub HasNumbers : Command Edit → Type 0
@@ -72,6 +73,23 @@ HasLine (Or e) = HasNumbersOfScripts e
 -- Each thing that a line may say has a line.
 abbrev pub EachSayingHasALine : Type 0
 EachSayingHasALine = (saying : Saying) → HasLine saying → (line : List ℕ) × Says line saying
+
+-- the edits of every assignment of a name
+abbrev pub IsOfEveryLine : Command Edit → Type 0
+IsOfEveryLine (Apply (ChangeValues name change)) = Unit {0}
+IsOfEveryLine command = ⊥
+
+-- the first of some fields is this word
+abbrev pub BeginWith : (word : List ℕ) → (fields : List (List ℕ)) → Type 0
+BeginWith word [] = ⊥
+BeginWith word (field ∷ fields) = field ≡ word
+
+-- `all` is the first field of the edits of every assignment of a name, and of no other command. So
+-- where no command of a script begins with it, each is one of the others, alone or behind `try` or
+-- `or`.
+abbrev pub AllBeginsItsEdits : Type 0
+AllBeginsItsEdits = (fields : List (List ℕ)) (command : Command Edit) → IsCommand fields command
+    → BeginWith (codes "all") fields ↔ IsOfEveryLine command
 
 -- ---- scripts
 

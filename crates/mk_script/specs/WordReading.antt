@@ -10,6 +10,8 @@ use Rattle.mk_edit_language.specs.NewLines.{rule_separator_text}
 use Rattle.mk_edit_language.specs.declared.edit.RuleSeparator.{RuleSeparator}
 use Rattle.mk_edit_language.specs.declared.edit.RuleSeparator.TheVariants.{Single, Double}
 use Rattle.mk_history.specs.Machine.{Command, Undo, Redo, Begin, End, Cancel}
+use Rattle.mk_script.specs.declared.word.ChangeWord.{ChangeWord}
+use Rattle.mk_script.specs.declared.word.ChangeWord.TheVariants as change
 use Rattle.mk_script.specs.declared.word.EditWord.{EditWord}
 use Rattle.mk_script.specs.declared.word.EditWord.TheVariants as word
 use Rattle.mk_script.specs.declared.word.PlaceWord.{PlaceWord}
@@ -37,6 +39,12 @@ edit_words =
     ∷ (word.RecipeSet, codes "recipe-set") ∷ (word.RecipeDel, codes "recipe-del")
     ∷ (word.RecipeInsert, codes "recipe-insert") ∷ (word.RecipeReplace, codes "recipe-replace")
     ∷ (word.RecipeRemove, codes "recipe-remove") ∷ (word.Rename, codes "rename") ∷ []
+
+-- the words of the edits before which `all` may stand
+abbrev pub value_words : List (ChangeWord × List ℕ)
+value_words =
+    (change.Set, codes "set") ∷ (change.Append, codes "append") ∷ (change.Add, codes "add")
+    ∷ (change.Drop, codes "drop") ∷ []
 
 -- the first words of places
 abbrev pub places : List (PlaceWord × List ℕ)

@@ -1,5 +1,5 @@
 //! A command: a call of a session that is one word, or an edit, before which `nth` and a number may
-//! stand.
+//! stand, or `all`.
 ghost use Rattle.std.specs.Prelude.{◌≡◌};
 ghost use Rattle.mk_command.specs.CommandViews.{command_of};
 ghost use Rattle.mk_edit_language.specs.EditViews.{edit_of};
@@ -8,7 +8,7 @@ ghost use Rattle.mk_script.specs.CommandReading.{addressed_edit, call_or_edit, e
 ghost use Rattle.mk_script.specs.WordReading.{calls, named};
 ghost use Rattle.mk_script.specs.ReaderAnswers.{IsRead, begins_comment, is_skipped};
 
-use crate::edit::read_edit;
+use crate::edit::{read_change_values, read_edit};
 use crate::fault::LineFault;
 use crate::field::Field;
 use crate::fields::{first_field, is_blank};
@@ -71,7 +71,7 @@ pub(crate) fn read_edit_line<A: Allocator + Copy>(
     read_addressed(alloc, word, rest)
 }
 
-// The edit of a line, from its first word, which may be `nth`, and what follows that word.
+// The edit of a line, from its first word, which may be `nth` or `all`, and what follows that word.
 fn read_addressed<A: Allocator + Copy>(
     alloc: A,
     word: Field<'_>,
@@ -79,11 +79,15 @@ fn read_addressed<A: Allocator + Copy>(
 ) -> Result<Edit<A>, LineFault>
     ensures { IsRead edit_of (addressed_edit (field_text word.entry) rest.now) result }
 {
-    if !word.is(b"nth") {
-        return read_edit(alloc, None, word, rest);
+    if word.is(b"nth") {
+        let (number, rest) = first_field(rest)?;
+        let nth = number_of(number)?;
+        let (word, rest) = first_field(rest)?;
+        read_edit(alloc, Some(nth), word, rest)
+    } else if word.is(b"all") {
+        let (word, rest) = first_field(rest)?;
+        read_change_values(alloc, word, rest)
+    } else {
+        read_edit(alloc, None, word, rest)
     }
-    let (number, rest) = first_field(rest)?;
-    let nth = number_of(number)?;
-    let (word, rest) = first_field(rest)?;
-    read_edit(alloc, Some(nth), word, rest)
 }

@@ -4,18 +4,21 @@
 //! once each: memory is asked for only if there is an edit.
 ghost use Rattle.std.specs.Prelude.{◌≡◌, IfOk, true, false};
 ghost use Rattle.mk_edit_language.specs.Edits as edits;
-ghost use Rattle.mk_edit_language.specs.EditViews.{edit_of, place_of};
+ghost use Rattle.mk_edit_language.specs.EditViews.{edit_of, place_of, value_change_of};
 ghost use Rattle.mk_script.specs.SeenFields.{field_text};
-ghost use Rattle.mk_script.specs.CommandReading.{add_assign_after, edit, of_one, of_three, of_two, place_at_front, numbered_line_after, remove_recipe_after, rename_target_of, add_rule_after};
+ghost use Rattle.mk_script.specs.CommandReading.{add_assign_after, change_by_word, change_with, edit, of_one, of_three, of_two, place_at_front, numbered_line_after, remove_recipe_after, rename_target_of, add_rule_after};
 ghost use Rattle.mk_script.specs.FieldReading.{three_fields, two_fields};
+ghost use Rattle.mk_script.specs.WordReading.{named, value_words};
 ghost use Rattle.mk_script.specs.ReaderAnswers.{IsFound, IsRead, place_and_rest, written_place};
 
 use crate::fault::{LineFault, NotThere};
 use crate::field::Field;
 use crate::fields::{first_field, one_field, three_fields, two_fields};
 use crate::number::number_of;
-use crate::word::{EditWord, PlaceWord, edit_word, flavor, place_word, rule_separator};
-use mk_edit_language::{Edit, Place};
+use crate::word::{
+    ChangeWord, EditWord, PlaceWord, change_word, edit_word, flavor, place_word, rule_separator,
+};
+use mk_edit_language::{Edit, Place, ValueChange};
 use std::alloc::{AllocError, Allocator};
 
 /// A place whose text is still in the line.
@@ -398,4 +401,38 @@ fn read_rename<A: Allocator + Copy>(
     let from = from.to_vec(alloc)?;
     let to = to.to_vec(alloc)?;
     Ok(Edit::RenameTarget { from, to })
+}
+
+/// The edit of every assignment of a name, from the word behind `all` and the fields after it.
+///
+/// # Errors
+///
+/// `NotACommand` if they make no such edit; `NoMemory` if they make one, and a growth was refused.
+pub(crate) fn read_change_values<A: Allocator + Copy>(
+    alloc: A,
+    word: Field<'_>,
+    rest: &[u8],
+) -> Result<Edit<A>, LineFault>
+    ensures { IsRead edit_of (change_by_word (named value_words (field_text word.entry)) rest.now) result }
+{
+    let Some(word) = change_word(word) else {
+        return Err(LineFault::NotACommand);
+    };
+    let (name, text) = two_fields(rest)?;
+    let name = name.to_vec(alloc)?;
+    let text = text.to_vec(alloc)?;
+    let change = change_with(word, text);
+    Ok(Edit::ChangeValues { name, change })
+}
+
+// The change that a word says, with the text after the name.
+fn change_with<A: Allocator>(word: ChangeWord, text: Vec<u8, A>) -> ValueChange<A>
+    ensures { value_change_of result ≡ change_with word text.items }
+{
+    match word {
+        ChangeWord::Set => ValueChange::Set(text),
+        ChangeWord::Append => ValueChange::Append(text),
+        ChangeWord::Add => ValueChange::Add(text),
+        ChangeWord::Drop => ValueChange::Remove(text),
+    }
 }

@@ -1,5 +1,5 @@
 //! Laws that hold for every script, each as the contract of a function that does nothing.
-ghost use Rattle.mk_script.specs.ScriptLaws.{CommandsAreSteps, EachSayingHasALine, EachScriptIsRead, FaultsWithoutAlternativesStay, FieldsAreOne, FirstFaultIsOne, LineSaysOneThing, NoScriptIsBoth, SkippedLineSaysNothing, StepsAreOne, WrittenFieldsAreRead};
+ghost use Rattle.mk_script.specs.ScriptLaws.{AllBeginsItsEdits, CommandsAreSteps, EachSayingHasALine, EachScriptIsRead, FaultsWithoutAlternativesStay, FieldsAreOne, FirstFaultIsOne, LineSaysOneThing, NoScriptIsBoth, SkippedLineSaysNothing, StepsAreOne, WrittenFieldsAreRead};
 
 /// A line has at most one list of fields, and any fields have a line.
 pub fn lines_and_fields()
@@ -14,6 +14,13 @@ pub fn lines_and_commands()
     ensures one { LineSaysOneThing }
     ensures skipped { SkippedLineSaysNothing }
     ensures written { EachSayingHasALine }
+{}
+
+/// A command begins with `all` exactly if it is the edit of every assignment of a name. So a script
+/// in which no command begins with it, alone or behind `try` or `or`, has none of these edits: each
+/// of its commands is one of the others.
+pub fn commands_of_every_line_begin_with_all()
+    ensures { AllBeginsItsEdits }
 {}
 
 /// A script has steps, or a first line that is no command. It does not have both, and it has at

@@ -3,7 +3,7 @@
 ghost use Rattle.std.specs.Prelude.{◌≡◌, option_map};
 ghost use Rattle.mk_command.specs.CommandViews.{command_of};
 ghost use Rattle.mk_script.specs.SeenFields.{field_text};
-ghost use Rattle.mk_script.specs.WordReading.{calls, edit_words, named, operators, places, separators};
+ghost use Rattle.mk_script.specs.WordReading.{calls, edit_words, named, operators, places, separators, value_words};
 
 use crate::field::Field;
 use mk_class::Flavor;
@@ -50,6 +50,19 @@ pub(crate) enum EditWord {
     RecipeRemove,
     /// `rename`.
     Rename,
+}
+
+/// The words of edits before which `all` may stand.
+#[derive(Clone, Copy, Debug)]
+pub(crate) enum ChangeWord {
+    /// `set`.
+    Set,
+    /// `append`.
+    Append,
+    /// `add`.
+    Add,
+    /// `drop`.
+    Drop,
 }
 
 /// The first words of places.
@@ -105,6 +118,23 @@ pub(crate) fn edit_word(word: Field<'_>) -> Option<EditWord>
         Some(EditWord::RecipeRemove)
     } else if word.is(b"rename") {
         Some(EditWord::Rename)
+    } else {
+        None
+    }
+}
+
+/// The edit of every assignment that a word behind `all` stands for.
+pub(crate) fn change_word(word: Field<'_>) -> Option<ChangeWord>
+    ensures { result ≡ named value_words (field_text word.entry) }
+{
+    if word.is(b"set") {
+        Some(ChangeWord::Set)
+    } else if word.is(b"append") {
+        Some(ChangeWord::Append)
+    } else if word.is(b"add") {
+        Some(ChangeWord::Add)
+    } else if word.is(b"drop") {
+        Some(ChangeWord::Drop)
     } else {
         None
     }

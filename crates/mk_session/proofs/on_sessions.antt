@@ -3,3 +3,4 @@ pub mod StepLemmas
 pub mod CallLemmas
 pub mod AnswerLemmas
 pub mod RefusalLemmas
+pub mod CallerLemmas

@@ -4,6 +4,9 @@ pub mod Sessions
 pub use Rattle.mk_command.specs.CommandViews
 -- What a session stores
 pub mod StoredSessions
+-- Calls in turn
+pub mod InTurn
 -- Any calls
 pub mod Calls
 pub mod SessionLaws
+pub mod CallerLaws

@@ -21,7 +21,10 @@ impl<A: Allocator + Copy> Session<A> {
             Command::Undo => self.undo(),
             Command::Redo => self.redo(),
             Command::Begin => self.begin(),
-            Command::End => self.end(),
+            Command::End => match self.end() {
+                Ok(_) => Ok(()),
+                Err(refusal) => Err(refusal),
+            },
             Command::Cancel => self.cancel(),
         }
     }

@@ -2,7 +2,9 @@
 //! does nothing.
 //!
 //! They are about what is seen of a session, and about calls with their replies, as the contracts
-//! of [`Session`](crate::Session)'s calls say.
+//! of [`Session`](crate::Session)'s calls say. The last ones are for callers: they take the clauses
+//! `done` of a few calls, and say what the text is then.
+ghost use Rattle.mk_session.specs.CallerLaws.{AnEditCanBeUndone, BeginOpensAGroup, CancelShowsTheBeginning, CancelTakesBackAllEdits, EditsStayInTheirGroup, RedoMakesAgain, UndoTakesBackAGroup, UndoTakesBackAllEdits, UndoTakesBackARedo, UndoTakesBackAnEdit};
 ghost use Rattle.mk_session.specs.SessionLaws.{GrantedEditsAreMade, OtherCallsChangeNothing, ReplaysWhatStands, UndoingAllGivesTheFirstText};
 
 /// After any calls, a session shows what the session machine shows: its bytes are those of the text
@@ -23,4 +25,36 @@ pub fn undoing_all_gives_the_first_text()
 pub fn edits_are_made_or_nothing_changes()
     ensures made { GrantedEditsAreMade }
     ensures kept { OtherCallsChangeNothing }
+{}
+
+/// For a program that tries an edit and takes it back: after an edit outside a group, an undo shows
+/// the text before the edit. The undo is granted, unless the depth is 0, which no session has that
+/// was opened.
+pub fn undo_takes_back_an_edit()
+    ensures text { UndoTakesBackAnEdit }
+    ensures granted { AnEditCanBeUndone }
+{}
+
+/// An undo and a redo take each other back: the second of them is granted, and what is seen is what
+/// was seen before the first.
+pub fn undo_and_redo_take_each_other_back()
+    ensures redo { RedoMakesAgain }
+    ensures undo { UndoTakesBackARedo }
+{}
+
+/// For a program that makes the calls of a group one by one, in a loop too: a group that has begun
+/// at a text stays open over each edit. Its cancel shows that text, and so does an undo right after
+/// its end, if it has edits.
+pub fn groups_lead_back()
+    ensures begun { BeginOpensAGroup }
+    ensures stays { EditsStayInTheirGroup }
+    ensures cancelled { CancelShowsTheBeginning }
+    ensures undone { UndoTakesBackAGroup }
+{}
+
+/// The same of the calls of a group together: a cancel shows the text before the group, and so does
+/// one undo after a group that has edits.
+pub fn groups_are_taken_back()
+    ensures cancelled { CancelTakesBackAllEdits }
+    ensures undone { UndoTakesBackAllEdits }
 {}

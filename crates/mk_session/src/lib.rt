@@ -13,5 +13,6 @@ pub mod laws;
 pub mod session;
 
 pub use command::Command;
-pub use mk_edit::{Detail, Edit, Field, Place, Refusal, RuleSeparator};
+pub use mk_class::Flavor;
+pub use mk_edit::{Detail, Edit, Field, Place, Refusal, RuleSeparator, ValueChange};
 pub use session::Session;

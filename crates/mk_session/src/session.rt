@@ -1,5 +1,5 @@
 //! A makefile that is edited.
-ghost use Rattle.std.specs.Prelude.{◌≡◌, ◌≤◌, ◌+◌, ◌^◌, ◌<◌, ◌↔◌, Ok, Err, IfOk, IfErr, IsOkUnless, OnOk, OnErr, length, is_some, Some, None};
+ghost use Rattle.std.specs.Prelude.{◌≡◌, ◌≤◌, ◌+◌, ◌^◌, ◌<◌, ◌↔◌, Ok, Err, IfOk, IfErr, IsOkUnless, OnOk, OnErr, length, is_ok, is_some, nat_lt, Some, None};
 ghost use Rattle.mk_lines.specs.Limits.{max_text};
 ghost use Rattle.mk_tree.specs.Counting.{AreCounted};
 ghost use Rattle.mk_tree.specs.Documents.{IsFaithful, IsFaithfulTo, IsTooDeep};
@@ -269,13 +269,15 @@ impl<A: Allocator + Copy> Session<A> {
         Ok(())
     }
 
-    /// Ends the group. From now on its edits count as one; a group without edits leaves nothing to
-    /// undo. It reads no line and takes no memory.
+    /// Ends the group, and answers whether it has edits. From now on they count as one; a group
+    /// without edits leaves nothing to undo, so an undo after it takes back what was made before. It
+    /// reads no line and takes no memory.
     ///
     /// # Errors
     ///
     /// [`Refusal::NoGroup`] if no group is open.
-    pub fn end(&mut self) -> Result<(), Refusal>
+    pub fn end(&mut self) -> Result<bool, Refusal>
+        ensures has_edits { IfOk result (λ has_edits. has_edits ≡ nat_lt 0 self.old.shown.pending) }
         ensures done { OnOk result (answer End self.old.shown ≡ Ok self.new.shown) }
         ensures refused { IfErr result (λ refusal.
             IsRefusedBy (answer End self.old.shown) refusal) }
@@ -287,8 +289,10 @@ impl<A: Allocator + Copy> Session<A> {
         };
         if !group.is_empty() {
             self.history.push(group);
+            Ok(true)
+        } else {
+            Ok(false)
         }
-        Ok(())
     }
 
     /// Takes back the edits of the group and ends the group. These edits have dropped what could be
@@ -315,12 +319,28 @@ impl<A: Allocator + Copy> Session<A> {
 }
 
 impl<A: Allocator> Session<A> {
-    /// The document: the lines that the text has when it is parsed anew. Takes no memory.
+    /// The document: the lines that the text has when it is parsed anew. What
+    /// [`Doc::write_to`] writes of it is the text. Takes no memory.
     pub fn doc(&self) -> &Doc<A>
         ensures text { IsFaithfulTo result.now self.now.shown.text }
         ensures own { IsFaithful result.now }
+        ensures bytes { located_text result.now ≡ self.now.shown.text }
     {
         self.doc.doc()
+    }
+
+    /// Whether [`Session::undo`] would take something back now. Takes no memory.
+    pub fn can_undo(&self) -> bool
+        ensures { result ≡ is_ok (answer Undo self.now.shown) }
+    {
+        !self.has_open_group() && self.history.can_undo()
+    }
+
+    /// Whether [`Session::redo`] would make something again now. Takes no memory.
+    pub fn can_redo(&self) -> bool
+        ensures { result ≡ is_ok (answer Redo self.now.shown) }
+    {
+        !self.has_open_group() && self.history.can_redo()
     }
 
     /// Whether a group is open. Nothing can be undone or redone until the group ends. Takes no

@@ -1,7 +1,7 @@
 //! Commands drawn at random: many of them fit the texts of the tests, and many do not.
 use crate::numbers::Numbers;
 use mk_class::Flavor;
-use mk_session::{Command, Edit, Place, RuleSeparator};
+use mk_session::{Command, Edit, Place, RuleSeparator, ValueChange};
 use std::alloc::AllocError;
 
 const NAMES: [&[u8]; 8] = [
@@ -73,7 +73,7 @@ fn variable_edit(rt: &HostRuntime, numbers: &mut Numbers) -> Result<Edit, AllocE
     let nth = nth(numbers);
     let name = numbers.one_of(rt, &NAMES)?;
     let value = numbers.one_of(rt, &VALUES)?;
-    Ok(match numbers.below(6) {
+    Ok(match numbers.below(8) {
         0 => Edit::SetValue { nth, name, value },
         1 => Edit::AppendValue { nth, name, value },
         2 => Edit::AddWord {
@@ -92,8 +92,22 @@ fn variable_edit(rt: &HostRuntime, numbers: &mut Numbers) -> Result<Edit, AllocE
             flavor: flavor(numbers),
             value,
         },
-        _ => Edit::RemoveAssign { nth, name },
+        5 => Edit::RemoveAssign { nth, name },
+        _ => Edit::ChangeValues {
+            name,
+            change: change(numbers, value),
+        },
     })
+}
+
+// A change of all values of a name.
+fn change(numbers: &mut Numbers, text: Vec<u8>) -> ValueChange {
+    match numbers.below(4) {
+        0 => ValueChange::Set(text),
+        1 => ValueChange::Append(text),
+        2 => ValueChange::Add(text),
+        _ => ValueChange::Remove(text),
+    }
 }
 
 fn flavor(numbers: &mut Numbers) -> Flavor {

@@ -1,9 +1,32 @@
 //! Edits with their texts copied into memory of an allocator.
 //!
-//! Each means the only assignment of its name, or the only rule of its target.
+//! Each means the only assignment of its name, or the only rule of its target, unless it says that it
+//! means each assignment.
 use mk_class::Flavor;
-use mk_session::{Edit, Place, RuleSeparator};
+use mk_session::{Edit, Place, RuleSeparator, ValueChange};
 use std::alloc::{AllocError, Allocator};
+
+/// Gives each assignment of a variable another value.
+pub fn set_values<A: Allocator + Copy>(
+    alloc: A,
+    name: &[u8],
+    value: &[u8],
+) -> Result<Edit<A>, AllocError> {
+    let name = Vec::from_slice(alloc, name)?;
+    let change = ValueChange::Set(Vec::from_slice(alloc, value)?);
+    Ok(Edit::ChangeValues { name, change })
+}
+
+/// Puts a word after each value of a variable that does not have it.
+pub fn add_words<A: Allocator + Copy>(
+    alloc: A,
+    name: &[u8],
+    word: &[u8],
+) -> Result<Edit<A>, AllocError> {
+    let name = Vec::from_slice(alloc, name)?;
+    let change = ValueChange::Add(Vec::from_slice(alloc, word)?);
+    Ok(Edit::ChangeValues { name, change })
+}
 
 /// Gives a variable another value.
 pub fn set_value<A: Allocator + Copy>(

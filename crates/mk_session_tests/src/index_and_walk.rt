@@ -39,6 +39,7 @@ const CALLS: &[Step] = &[
     Step::AppendValue(b"M", b"3"),
     Step::AddWord(b"M", b"4"),
     Step::RemoveWord(b"M", b"2"),
+    Step::AddWords(b"B", b"2"),
     Step::AddAssign(b"D", b"5"),
     Step::AddRule(b"new", b"mid"),
     Step::AddOrderPrereq(b"mid", b"new"),
@@ -67,13 +68,16 @@ const CALLS: &[Step] = &[
 ];
 
 // Edits of each kind. Some of them are refused after some of the calls.
-const EDITS: [Step; 21] = [
+const EDITS: [Step; 24] = [
     Step::SetValue(b"A", b"7"),
     Step::SetValue(b"B", b"7"),
     Step::SetValue(b"C", b"7"),
     Step::AppendValue(b"M", b"7"),
     Step::AddWord(b"M", b"4"),
     Step::RemoveWord(b"M", b"3"),
+    Step::SetValues(b"B", b"7"),
+    Step::AddWords(b"B", b"2"),
+    Step::SetValues(b"D", b"7"),
     Step::AddAssign(b"E", b"7"),
     Step::RemoveAssign(b"D"),
     Step::AddRule(b"last", b"a"),

@@ -13,6 +13,7 @@
 //!   are refused; the memory that edits take.
 //! - `long_documents`, `index_and_walk`: sessions over documents that are long enough for an index;
 //!   each edit by an index, beside the same edit by a walk over all lines.
+//! - `told_steps`: what a session tells of its steps.
 #![tactic(auto)]
 
 #[cfg(test)]
@@ -45,3 +46,5 @@ mod taken_memory;
 mod text_machine;
 #[cfg(test)]
 mod texts;
+#[cfg(test)]
+mod told_steps;

@@ -177,7 +177,7 @@ pub const GROUP_ROWS: [Row; 7] = [
 ];
 
 // Lines that are read again, and lines that are not.
-const REREAD_ROWS: [Row; 5] = [
+const REREAD_ROWS: [Row; 6] = [
     Row {
         name: "a rename reads each line that it changes, and undo and redo read none",
         depth: 100,
@@ -197,6 +197,29 @@ const REREAD_ROWS: [Row; 5] = [
             ),
         ],
         rereads: 3,
+    },
+    Row {
+        name: "a change of all values reads each line that it changes, and undo and redo read none",
+        depth: 100,
+        text: b"F = -O2 -g\nG = 1\nF += -W\nF += -V\n",
+        steps: &[
+            (
+                Step::AddWords(b"F", b"-g"),
+                Ok(b"F = -O2 -g\nG = 1\nF += -W -g\nF += -V -g\n"),
+            ),
+            (Step::Undo, Ok(b"F = -O2 -g\nG = 1\nF += -W\nF += -V\n")),
+            (
+                Step::Redo,
+                Ok(b"F = -O2 -g\nG = 1\nF += -W -g\nF += -V -g\n"),
+            ),
+            (Step::AddWords(b"F", b"-g"), Err(Refusal::Already)),
+            (Step::AddWords(b"H", b"-g"), Err(Refusal::NoSuch)),
+            (
+                Step::SetValues(b"F", b"-g"),
+                Ok(b"F = -g\nG = 1\nF += -g\nF += -g\n"),
+            ),
+        ],
+        rereads: 5,
     },
     Row {
         name: "a rename reads a line with two of its words once",

@@ -1,8 +1,8 @@
 //! Calls of a session as constants, each with its answer, and sessions that are asked for them.
 use crate::edits::{
-    add_assign, add_order_prereq, add_recipe, add_rule, add_word, append_value, insert_recipe,
-    remove_assign, remove_prereq, remove_recipe, remove_recipe_by_text, remove_rule, remove_word,
-    rename_target, set_recipe, set_recipe_by_text, set_value,
+    add_assign, add_order_prereq, add_recipe, add_rule, add_word, add_words, append_value,
+    insert_recipe, remove_assign, remove_prereq, remove_recipe, remove_recipe_by_text, remove_rule,
+    remove_word, rename_target, set_recipe, set_recipe_by_text, set_value, set_values,
 };
 use crate::texts::is_as_parsed;
 use mk_lines::Fault;
@@ -21,6 +21,10 @@ pub enum Step {
     AddWord(&'static [u8], &'static [u8]),
     /// Name and word.
     RemoveWord(&'static [u8], &'static [u8]),
+    /// Name and value, for each assignment.
+    SetValues(&'static [u8], &'static [u8]),
+    /// Name and word, for each assignment.
+    AddWords(&'static [u8], &'static [u8]),
     /// Name and value.
     AddAssign(&'static [u8], &'static [u8]),
     /// Name.
@@ -65,6 +69,8 @@ impl Step {
             Step::AppendValue(name, value) => append_value(alloc, name, value),
             Step::AddWord(name, word) => add_word(alloc, name, word),
             Step::RemoveWord(name, word) => remove_word(alloc, name, word),
+            Step::SetValues(name, value) => set_values(alloc, name, value),
+            Step::AddWords(name, word) => add_words(alloc, name, word),
             Step::AddAssign(name, value) => add_assign(alloc, name, value),
             Step::RemoveAssign(name) => remove_assign(alloc, name),
             Step::AddRule(targets, prereqs) => add_rule(alloc, targets, prereqs),

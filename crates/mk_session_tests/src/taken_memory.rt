@@ -164,6 +164,8 @@ fn bytes_of_edit(
 
 const RULE: (&[u8], &[u8]) = (b"all:\n", b"\tx\n");
 
+const VALUES: (&[u8], &[u8]) = (b"X = 1\n", b"X += 1\n");
+
 const RULES: (&[u8], &[u8]) = (b"all:\n", b"b: all\n");
 
 #[test]
@@ -174,6 +176,8 @@ fn an_edit_of_many_lines_takes_memory_for_each_of_them(rt: HostRuntime) -> Resul
         assert!(rt; unrule <= most, "unrule: {unrule}");
         let rename = bytes_of_edit(&rt, RULES, count, Step::RenameTarget(b"all", b"tidy"))?;
         assert!(rt; rename <= most, "rename: {rename}");
+        let all = bytes_of_edit(&rt, VALUES, count, Step::SetValues(b"X", b"2"))?;
+        assert!(rt; all <= most, "all set: {all}");
     }
     Ok(())
 }

@@ -84,7 +84,8 @@ only a prerequisite, use `undepend` and `depend` in place of `rename`.
 
 const AMBIGUOUS: &str = "\
 Several assignments or several rules that are read have this name, and no `nth` says which one is
-meant. Or several recipe lines of the rule have the text OLD. The report says how many there are.
+meant, and no `all` that all are. Or several recipe lines of the rule have the text OLD. The report
+says how many there are.
 
 Example: over
     ifdef DEBUG
@@ -99,14 +100,15 @@ is reported as
 
 Say which one: `nth 2 set CC clang`. The name may be that of PLACE:
 `nth 2 assign after-var CC X = 1`. `mkedit vars` and `mkedit rules` list them in order, and
-assignments for targets do not count. There is no `nth all`: write one line for each. For a recipe
+assignments for targets do not count. Or change all of them: `all set CC clang`. `all` may stand
+before `set`, `append`, `add` and `drop`; for another command write one line for each. For a recipe
 line use `recipe-set` or `recipe-del`, which go by number.
 ";
 
 const ABSENT: &str = "\
-The word to take out is no prerequisite of the rule, or no word of the value; the rule has no K-th
-recipe line, or none whose text is OLD. For `recipe-insert` K may be one more than the number of
-recipe lines.
+The word to take out is no prerequisite of the rule, or no word of the value, and with `all` of no
+value of the name; the rule has no K-th recipe line, or none whose text is OLD. For `recipe-insert` K
+may be one more than the number of recipe lines.
 
 Example: over
     hello: main.o
@@ -120,7 +122,8 @@ and no edit reaches it. Edit it by hand.
 ";
 
 const ALREADY: &str = "\
-The word stands already in the list of prerequisites, or in the value, to which the command adds it.
+The word stands already in the list of prerequisites, or in the value, to which the command adds
+it, and with `all` in each value of the name.
 
 Example: over
     hello: main.o
@@ -184,7 +187,8 @@ The value to append to has a reference that is not closed, or ends in a lone `$`
 backslash. The new text would become a part of that reference, or would be read together with that
 byte. With `add`, the value may not end in a fold either. `drop` is refused in both
 cases too; and where the word directly before one that would go ends in a backslash, or in a blank
-that belongs to a `$` or a backslash: what follows could be read together with that end.
+that belongs to a `$` or a backslash: what follows could be read together with that end. With `all`
+one such value is enough, if it would be changed.
 
 Example: over
     SOURCES = $(wildcard *.c

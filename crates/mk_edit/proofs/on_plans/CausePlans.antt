@@ -60,7 +60,7 @@ removal-leaning ls e s b i h k =
 -- ---- TooLong, by how many bytes the spans put in and take out
 
 -- a test with as much added on both sides
-same_test : (a b c d : ℕ) → b + c ≡ d → nat_lt a b ≡ nat_lt (a + c) d
+pub same_test : (a b c d : ℕ) → b + c ≡ d → nat_lt a b ≡ nat_lt (a + c) d
 same_test a b c d h = go (nat_lt a b) refl
   where
     go : (q : Bool) → nat_lt a b ≡ q → nat_lt a b ≡ nat_lt (a + c) d

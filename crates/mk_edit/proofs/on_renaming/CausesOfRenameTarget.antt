@@ -85,7 +85,7 @@ reserved-first t ls e r b h =
 -- ---- the causes after those of the fields
 
 -- two lists of causes that say the same do so after one more cause
-after-cause : (o : Option Refusal) (cs ds : List (Option Refusal)) → first_cause cs ≡ first_cause ds → first_cause (o ∷ cs) ≡ first_cause (o ∷ ds)
+pub after-cause : (o : Option Refusal) (cs ds : List (Option Refusal)) → first_cause cs ≡ first_cause ds → first_cause (o ∷ cs) ≡ first_cause (o ∷ ds)
 after-cause None cs ds h = h
 after-cause (Some r) cs ds h = refl
 

@@ -56,15 +56,15 @@ line-can : (o n : List ℕ) (c : Context) (l m : ClassedLine) → class_of c l.b
 line-can o n c l m h R few_old few_new low =
     let e : renamed_text o n (located_line l) ≡ m.bytes = line-rewritten c l o n R.rest m.bytes h R.old_line R.new_line in
     let same : line_renamed o n c (located_line l) ≡ located_line m =
-    ap (λ b. located_line (line_in c b)) e ∙ ap (λ (k : Class Cell). located_line (record { bytes = m.bytes; class = k })) R.class in
+    ap (λ b. located_line (line_in c b)) e ∙ ap (λ (k : Class Cell). located_line (record { bytes = m.bytes; class = k })) R.in_place.class in
     record {
       words = few-words c l o h few_old;
       apart = line-apart c l o n R.rest h R.old_line;
       fits = subst (λ z. length z ≤ max_text) (sym e) few_new;
-      one = subst (λ z. logical_lines z ≡ z ∷ []) (sym e) R.one_line;
+      one = subst (λ z. logical_lines z ≡ z ∷ []) (sym e) R.in_place.one_line;
       defines = low;
       plain = λ z.
-          let p = R.plain (sym (holds-renamed c l o n h) ∙ z) in
+          let p = R.in_place.plain (sym (holds-renamed c l o n h) ∙ z) in
           (plain-located l (not-conditional l.class p.0), subst IsPlain (sym same) (plain-located m (not-conditional m.class p.1)));
     }
 
@@ -77,8 +77,8 @@ line-becomes o n c l m h R =
     go : (b : Bool) → is_renamed o n l ≡ b → line_where b (line_renamed o n c (located_line l)) (located_line l) ≡ located_line m
     go true z =
         ap (λ b. located_line (line_in c b)) (line-rewritten c l o n R.rest m.bytes h R.old_line R.new_line)
-        ∙ ap (λ (k : Class Cell). located_line (record { bytes = m.bytes; class = k })) R.class
-    go false z = ap located_line (sym (R.same z))
+        ∙ ap (λ (k : Class Cell). located_line (record { bytes = m.bytes; class = k })) R.in_place.class
+    go false z = ap located_line (sym (R.in_place.same z))
 
 -- ---- all lines
 

@@ -33,12 +33,12 @@ with_step p at None = p
 with_step p at (Some x) = record p { moves = p.moves ++ Exchange at x ∷ [] }
 
 -- what one line adds, where it is exchanged or is not
-record IsAdded (is_exchanged : Bool) (at : ℕ) (x : LocatedLine) (rest : List Move) (now after : MovesWithRoom) : Type 0 where
-  room : after.room ≡ now.room
-  number : length after.moves ≡ length now.moves + (if is_exchanged then 1 else 0)
-  moves : after.moves ++ rest ≡ now.moves ++ before_moves is_exchanged (Exchange at x) rest
+pub record IsAdded (is_exchanged : Bool) (at : ℕ) (x : LocatedLine) (rest : List Move) (now after : MovesWithRoom) : Type 0 where
+  pub room : after.room ≡ now.room
+  pub number : length after.moves ≡ length now.moves + (if is_exchanged then 1 else 0)
+  pub moves : after.moves ++ rest ≡ now.moves ++ before_moves is_exchanged (Exchange at x) rest
 
-added : (b : Bool) (at : ℕ) (x : LocatedLine) (rest : List Move) (now after : MovesWithRoom) → after ≡ with_step now at (if b then Some x else None) → IsAdded b at x rest now after
+pub added : (b : Bool) (at : ℕ) (x : LocatedLine) (rest : List Move) (now after : MovesWithRoom) → after ≡ with_step now at (if b then Some x else None) → IsAdded b at x rest now after
 added true at x rest now after e = record {
   room = ap (λ (z : MovesWithRoom). z.room) e;
   number = ap (λ (z : MovesWithRoom). length z.moves) e ∙ length-append now.moves (Exchange at x ∷ []);
@@ -51,7 +51,7 @@ added false at x rest now after e = record {
 }
 
 -- what a meter tells with the lines ahead, after the first of them
-counted-on : (m k one ahead left total : ℕ) → ahead ≡ one + left → AreCounted m one k → min (m + ahead) (2 ^ 64 - 1) ≡ min total (2 ^ 64 - 1) → min (k + left) (2 ^ 64 - 1) ≡ min total (2 ^ 64 - 1)
+pub counted-on : (m k one ahead left total : ℕ) → ahead ≡ one + left → AreCounted m one k → min (m + ahead) (2 ^ 64 - 1) ≡ min total (2 ^ 64 - 1) → min (k + left) (2 ^ 64 - 1) ≡ min total (2 ^ 64 - 1)
 counted-on m k one ahead left total number counted h = omega (arith, number, counted, h)
 
 -- what a walk tells of the line that it hands out

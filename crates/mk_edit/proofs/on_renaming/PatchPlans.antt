@@ -64,9 +64,9 @@ module _ (t : Turn) (o n : List ℕ) where
 -- ---- the turns part the lines that hold the word
 
 -- what the two tests of a line say of the test whether it holds the word
-record ArePartedTests (first second whole : Bool) : Type 0 where
-  both : second ≡ true → (first ≡ false) × (whole ≡ true)
-  one : second ≡ false → first ≡ whole
+pub record ArePartedTests (first second whole : Bool) : Type 0 where
+  pub both : second ≡ true → (first ≡ false) × (whole ≡ true)
+  pub one : second ≡ false → first ≡ whole
 
 parted : (w b n : ℕ) → (is_turn_of turn.Longer w b n ≡ true → nat_lt 0 w ≡ true) → ArePartedTests (is_turn_of turn.NoLonger w b n) (is_turn_of turn.Longer w b n) (nat_lt 0 w)
 parted w b n some = go (nat_lt b (w * n)) (nat_lt 0 w) some
@@ -85,11 +85,11 @@ parted w b n some = go (nat_lt b (w * n)) (nat_lt 0 w) some
 
 -- ---- one line in the two turns, where these are the line after the rename and the line before it
 
-differ-line : (q : Bool) (x l : LocatedLine) (cs : List Bool) (olds news : List LocatedLine) → (q ≡ true → IsPlain l × IsPlain x) → DifferWhereChosen cs olds news → DifferWhereChosen (q ∷ cs) (l ∷ olds) (line_where q x l ∷ news)
+pub differ-line : (q : Bool) (x l : LocatedLine) (cs : List Bool) (olds news : List LocatedLine) → (q ≡ true → IsPlain l × IsPlain x) → DifferWhereChosen cs olds news → DifferWhereChosen (q ∷ cs) (l ∷ olds) (line_where q x l ∷ news)
 differ-line true x l cs olds news f i = let p = f refl in (p.0, p.1, i)
 differ-line false x l cs olds news f i = (refl, i)
 
-differ-again : (p q h : Bool) (x l : LocatedLine) (cs : List Bool) (olds news : List LocatedLine) → ArePartedTests p q h → (h ≡ true → IsPlain l × IsPlain x) → DifferWhereChosen cs olds news
+pub differ-again : (p q h : Bool) (x l : LocatedLine) (cs : List Bool) (olds news : List LocatedLine) → ArePartedTests p q h → (h ≡ true → IsPlain l × IsPlain x) → DifferWhereChosen cs olds news
     → DifferWhereChosen (q ∷ cs) (line_where p x l ∷ olds) (line_where h x l ∷ news)
 differ-again p true h x l cs olds news T f i =
     let b = T.both refl in
@@ -99,11 +99,11 @@ differ-again p true h x l cs olds news T f i =
     (old, new, i)
 differ-again p false h x l cs olds news T f i = (ap (λ z. line_where z x l) (T.one refl), i)
 
-shorter-line : (p : Bool) (x l : LocatedLine) → (p ≡ true → length x.bytes ≤ length l.bytes) → length (line_where p x l).bytes ≤ length l.bytes
+pub shorter-line : (p : Bool) (x l : LocatedLine) → (p ≡ true → length x.bytes ≤ length l.bytes) → length (line_where p x l).bytes ≤ length l.bytes
 shorter-line true x l f = f refl
 shorter-line false x l f = omega arith
 
-longer-line : (p q h : Bool) (x l : LocatedLine) → ArePartedTests p q h → (q ≡ true → length l.bytes ≤ length x.bytes) → length (line_where p x l).bytes ≤ length (line_where h x l).bytes
+pub longer-line : (p q h : Bool) (x l : LocatedLine) → ArePartedTests p q h → (q ≡ true → length l.bytes ≤ length x.bytes) → length (line_where p x l).bytes ≤ length (line_where h x l).bytes
 longer-line p true h x l T f =
     let b = T.both refl in
     let old : length (line_where p x l).bytes ≡ length l.bytes = ap (λ z. length (line_where z x l).bytes) b.0 in
@@ -111,7 +111,7 @@ longer-line p true h x l T f =
     omega (arith, old, new, f refl)
 longer-line p false h x l T f = let e : length (line_where p x l).bytes ≡ length (line_where h x l).bytes = ap (λ z. length (line_where z x l).bytes) (T.one refl) in omega (arith, e)
 
-one-of_two : (p q h : Bool) → ArePartedTests p q h → (if p then 1 else 0) + (if q then 1 else 0) ≡ (if h then 1 else 0)
+pub one-of_two : (p q h : Bool) → ArePartedTests p q h → (if p then 1 else 0) + (if q then 1 else 0) ≡ (if h then 1 else 0)
 one-of_two p true h T =
     let b = T.both refl in
     ap (λ z. (if z then 1 else 0) + 1) b.0 ∙ ap (λ z. if z then 1 else 0) (sym b.1)

@@ -19,11 +19,11 @@ use Rattle.mk_edit.proofs.on_renaming.SizesOfWords.{taken-replacing, put-replaci
 
 -- ---- some replacements, and then others
 
-taken-append : (a b : List Replacement) → bytes_taken (a ++ b) ≡ bytes_taken a + bytes_taken b
+pub taken-append : (a b : List Replacement) → bytes_taken (a ++ b) ≡ bytes_taken a + bytes_taken b
 taken-append [] b = omega arith
 taken-append (r ∷ a) b = omega (arith, taken-append a b)
 
-put-append : (a b : List Replacement) → bytes_put (a ++ b) ≡ bytes_put a + bytes_put b
+pub put-append : (a b : List Replacement) → bytes_put (a ++ b) ≡ bytes_put a + bytes_put b
 put-append [] b = omega arith
 put-append (r ∷ a) b = omega (arith, put-append a b)
 

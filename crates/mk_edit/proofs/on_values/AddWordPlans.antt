@@ -17,7 +17,8 @@ use Rattle.mk_tree.specs.LocatedLines.{LocatedLine, located_text}
 use Rattle.mk_edit_language.specs.Edits.{Edit, AddWord}
 use Rattle.mk_edit_language.specs.Addresses.{Variable, address, found}
 use Rattle.mk_edit_language.specs.Stretches.{this_line}
-use Rattle.mk_edit_language.specs.RuleCauses.{class_found, assignment_passes, has_value_word, already}
+use Rattle.mk_edit_language.specs.ValueWords.{assignment_passes, has_value_word}
+use Rattle.mk_edit_language.specs.RuleCauses.{class_found, already}
 use Rattle.mk_edit_language.specs.LineCauses.{has_open_value, ends_in_fold, open_value}
 use Rattle.mk_edit_language.specs.Causes.{where_holds}
 use Rattle.mk_edit_language.specs.Refusals.{spans}

@@ -1,18 +1,12 @@
 -- An edit that appends to a closed value puts a text in the place of an empty range of a line.
-use Rattle.std.proofs.Common.{◌≡◌, refl, sym, ap, ◌∙◌, subst, arith, ℕ, ◌+◌, ◌<◌, List, [], ◌∷◌, ◌++◌, Bool, true, false, if◌then◌else◌, not, map, length, append_assoc, take, drop, Option, Some, None, option_map}
+use Rattle.std.proofs.Common.{◌≡◌, refl, sym, ap, ◌∙◌, subst, arith, ℕ, ◌+◌, ◌<◌, List, [], ◌∷◌, ◌++◌, Bool, true, false, if◌then◌else◌, not, length, append_assoc, take, drop, Option, Some, option_map}
 use Rattle.std.specs.Prelude.{slice_get, Err}
-use Rattle.mk_lines.specs.Lists.{concat}
 use Rattle.mk_lines.specs.Cells.{Cell, joined_byte}
-use Rattle.mk_lines.specs.Units.{is_closed, units}
-use Rattle.mk_lines.proofs.on_units.UnitLemmas.{is_closed-map}
-use Rattle.mk_lines.specs.Words.{words_in}
+use Rattle.mk_lines.specs.Units.{is_closed}
 use Rattle.mk_lines.specs.declared.split.Span.{Span}
 use Rattle.mk_class.specs.ListTests.{is_empty}
-use Rattle.mk_class.specs.Texts.{word_texts}
-use Rattle.mk_class.specs.TextClasses.{itself}
 use Rattle.mk_class.specs.Assignments.{Assignment}
 use Rattle.mk_class.specs.Classes.{Class}
-use Rattle.mk_class.specs.Classes.Class.{Assign}
 use Rattle.mk_class.specs.LocatedClasses.{located_class}
 use Rattle.mk_class.specs.ClassedLines.{classed_lines}
 use Rattle.mk_tree.specs.Documents.{IsFaithful, text_of}
@@ -31,40 +25,20 @@ use Rattle.mk_edit_language.specs.declared.refusal.Refusal.TheVariants.{OpenValu
 use Rattle.mk_edit_language.proofs.on_values.SetValueLemmas.{not_prefix}
 use Rattle.mk_edit_parts.specs.Found.{IsAddressed, IsPlaceOf}
 use Rattle.mk_edit_parts.specs.LineRanges.{value_range_located}
-use Rattle.mk_edit_parts.proofs.on_prerequisites.WordRangeLemmas.{part-words}
 use Rattle.mk_edit.specs.ValueEdits.{IsAppendValue, value_text_located, space_after}
 use Rattle.mk_edit_parts.specs.declared.seek.Found.{Found}
 use Rattle.mk_edit_parts.proofs.CauseLemmas.{passed, holds, refused}
 use Rattle.mk_edit.proofs.on_plans.CausePlans.{addressed-own}
 use Rattle.mk_edit.specs.RangeEdits.{IsRangeEdit, end_of, PutsAfterValue}
-use Rattle.mk_edit.proofs.on_values.ValuePlaces.{IsValueRange, IsValuePlace, value-place, assignment-located, variable-place}
+use Rattle.mk_edit.proofs.on_values.OwnLines.{IsValueText, own_line, own-text}
+use Rattle.mk_edit.proofs.on_values.ValuePlaces.{IsValueRange, IsValuePlace, value-place, variable-place}
 
 -- ---- the text of the value
 
--- the text of an assignment's value tells whether the value is empty, whether it is closed, and its words
-pub record IsValueText (a : Assignment Cell) (text : List ℕ) : Type 0 where
-  pub empty_is : is_empty text ≡ is_empty a.value
-  pub closed_is : is_closed (λ b. b) text ≡ is_closed joined_byte (concat a.value)
-  pub words_are : words_in text ≡ word_texts joined_byte a.value
-
-empty-units : (us : List (List Cell)) (text : List ℕ) → text ≡ map joined_byte (concat us) → units itself text ≡ map (map joined_byte) us → is_empty text ≡ is_empty us
-empty-units [] text h k = ap is_empty h
-empty-units (u ∷ us) (b ∷ text) h k = refl
-empty-units (u ∷ us) [] h k = absurd (cc)
-
 pub value-text : (ls : List LocatedLine) (nth : Option ℕ) (n : List ℕ) (f : Found) (l : LocatedLine) (b : Bool) (r : Span) (text : List ℕ) → (P : IsValuePlace ls nth n f l b r) → text ≡ value_text_located l → IsValueText P.assigned text
 value-text ls nth n f l b r text P h =
-    let a = P.assigned in
-    let m = P.spot.line.bytes in
-    let seen : l ≡ record { bytes = m; class = located_class joined_byte (Assign a None) } = P.line_is ∙ ap (λ (q : Class Cell). record { bytes = m; class = located_class joined_byte q }) P.class_is in
-    let V = (assignment-located f.context m a P.here).value in
-    let shown : text ≡ value_text_located (record { bytes = m; class = located_class joined_byte (Assign a None) }) = h ∙ ap value_text_located seen in
-    let is : text ≡ map joined_byte (concat a.value) = shown ∙ V.text_is in
-    record {
-      empty_is = empty-units a.value text is (ap (units itself) shown ∙ V.units_are);
-      closed_is = ap (is_closed (λ b. b)) is ∙ is_closed-map joined_byte (λ b. b) (concat a.value);
-      words_are = ap words_in shown ∙ part-words _ _ _ _ a.value V;
-    }
+    let seen : l ≡ own_line P.spot.line.bytes P.assigned = P.line_is ∙ ap (λ (q : Class Cell). record { bytes = P.spot.line.bytes; class = located_class joined_byte q }) P.class_is in
+    own-text f.context P.spot.line.bytes P.assigned P.here text (h ∙ ap value_text_located seen)
 
 -- what is known of the line at a place is known of it wherever it is seen
 pub puts-after : (e : Edit) (ls : List LocatedLine) (f : Found) (v : List ℕ) (l : LocatedLine) (text : List ℕ) → f.at < length ls → IsPlaceOf ls f → Some l ≡ slice_get ls f.at → text ≡ value_text_located l
@@ -106,7 +80,7 @@ spaced : (b : Bool) (v : List ℕ) → (if b then v else 32 ∷ v) ≡ (if b the
 spaced true v = refl
 spaced false v = refl
 
-append_value_span-range : (l : List ℕ) (a : Assignment Cell) (v text : List ℕ) (at : ℕ) (r : Span) → IsValueRange l a false r → IsValueText a text
+pub append_value_span-range : (l : List ℕ) (a : Assignment Cell) (v text : List ℕ) (at : ℕ) (r : Span) → IsValueRange l a false r → IsValueText a text
     → append_value_span v at a ≡ record { start = at + r.end; end = at + r.end; new = space_after text ++ v }
 append_value_span-range l a v text at r R T =
     let i : value_end at a ≡ at + r.end = omega (arith, R.end_is) in

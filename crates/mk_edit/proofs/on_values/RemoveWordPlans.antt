@@ -1,32 +1,25 @@
 -- A word of a value less: its causes by what the code asks, and its plan.
-use Rattle.std.proofs.Common.{◌≡◌, refl, sym, ap, ◌∙◌, subst, arith, ℕ, ◌<◌, ◌≤◌, ◌||◌, not, List, [], ◌∷◌, ◌++◌, append_assoc, Bool, true, false, if◌then◌else◌, length, Option, Some, None, option_map}
+use Rattle.std.proofs.Common.{◌≡◌, refl, sym, ap, ◌∙◌, subst, arith, ℕ, ◌<◌, ◌≤◌, ◌||◌, not, List, [], ◌∷◌, ◌++◌, Bool, true, false, if◌then◌else◌, length, Option, Some, None, option_map}
 use Rattle.std.specs.Prelude.{Ok, Err, slice_get}
 use Rattle.std.proofs.lemmas.List.{append-nil}
 use Rattle.mk_lines.specs.Limits.{max_text}
-use Rattle.mk_lines.specs.PhysicalLines.{line_end, line_end_bytes, without_line_end}
+use Rattle.mk_lines.specs.PhysicalLines.{line_end, line_end_bytes}
 use Rattle.mk_lines.specs.Lists.{concat}
-use Rattle.mk_lines.specs.Cells.{Cell, joined_byte, raw_text, line_cells}
-use Rattle.mk_lines.specs.CellFaults.{has_stray}
-use Rattle.mk_lines.specs.Pieces.{Piece, Keep, Replace, new_bytes, old_bytes, old_cells, replacements}
+use Rattle.mk_lines.specs.Cells.{Cell, joined_byte}
+use Rattle.mk_lines.specs.Pieces.{Piece, Keep, Replace, new_bytes, old_bytes, replacements}
 use Rattle.mk_lines.specs.Units.{is_closed}
 use Rattle.mk_lines.specs.Words.{words_in}
-use Rattle.mk_lines.proofs.on_lists.ListLemmas.{concat-append}
-use Rattle.mk_lines.proofs.on_lists.PieceLemmas.{raw_text-old_cells, old_cells-append}
-use Rattle.mk_lines.proofs.on_cells.CellLemmas.{raw_text-cells}
-use Rattle.mk_lines.proofs.on_lines.LineEndLemmas.{without_line_end-line_end}
 use Rattle.mk_class.specs.ListTests.{is_empty}
 use Rattle.mk_class.specs.Texts.{is_one_of}
-use Rattle.mk_class.specs.Assignments.{Assignment, before_value}
+use Rattle.mk_class.specs.Assignments.{Assignment}
 use Rattle.mk_class.specs.Classes.{Class}
 use Rattle.mk_class.specs.Classes.Class.{Assign}
 use Rattle.mk_class.specs.LocatedClasses.{located_class, located_assignment}
 use Rattle.mk_class.specs.ClassedLines.{ClassedLine, classed_lines}
 use Rattle.mk_class.specs.declared.assignment.Assignment as assignment
 use Rattle.mk_class.specs.declared.class.Class.TheVariants as variants
-use Rattle.mk_class.proofs.on_classes.ClassLemmas.{has_stray-left, has_stray-right}
-use Rattle.mk_class.proofs.on_assignments.AssignmentLineLemmas.{AssignParts}
 use Rattle.mk_tree.specs.Documents.{IsFaithful, text_of}
-use Rattle.mk_tree.specs.LocatedLines.{LocatedLine, located_line, located_text, size_of}
+use Rattle.mk_tree.specs.LocatedLines.{LocatedLine, located_text, size_of}
 use Rattle.mk_tree.proofs.on_changes.Sizes.{size_of-text}
 use Rattle.mk_tree.proofs.on_changes.SpansInLines.{replacements-append}
 use Rattle.mk_edit_language.specs.Edits.{Edit, RemoveWord}
@@ -35,32 +28,29 @@ use Rattle.mk_edit_language.specs.Lengths.{bytes_put}
 use Rattle.mk_edit_language.specs.Stretches.{this_line}
 use Rattle.mk_edit_language.specs.EditSpans.{spans_of, where_found}
 use Rattle.mk_edit_language.specs.ValueSpans.{value_start, set_value_span, value_spans, assignment_spans}
-use Rattle.mk_edit_language.specs.ValueWords.{LedWord, led_words, staying, from_first_word, first_gaps, pieces_after, remove_word_pieces, remove_word_spans}
+use Rattle.mk_edit_language.specs.ValueWords.{assignment_passes, has_value_word, LedWord, led_words, staying, first_gaps, pieces_after, remove_word_pieces, remove_word_spans}
 use Rattle.mk_edit_language.specs.WordPieces.{is_word_of}
-use Rattle.mk_edit_language.specs.RuleCauses.{class_found, assignment_passes, has_value_word, absent}
+use Rattle.mk_edit_language.specs.RuleCauses.{class_found, absent}
 use Rattle.mk_edit_language.specs.LineCauses.{has_open_value, bares_end, bares_end_among, open_value, too_long}
 use Rattle.mk_edit_language.specs.Causes.{where_holds}
 use Rattle.mk_edit_language.specs.Refusals.{spans}
 use Rattle.mk_edit_language.specs.declared.refusal.Refusal.TheVariants.{Absent, OpenValue}
 use Rattle.mk_edit_language.proofs.on_lines.ClassParts.{raw_width-append}
 use Rattle.mk_edit_language.proofs.on_values.SetValueLemmas.{not_prefix}
-use Rattle.mk_edit_language.proofs.on_values.AppendValueLemmas.{value-units}
-use Rattle.mk_edit_language.proofs.on_values.WordParts.{IsPart, value-led}
-use Rattle.mk_edit_language.proofs.on_values.RemoveWordLemmas.{remove_word-old}
 use Rattle.mk_edit_parts.specs.Found.{IsAddressed, IsPlaceOf}
 use Rattle.mk_edit_parts.specs.LineRanges.{value_range_located}
 use Rattle.mk_edit_parts.specs.SeenAssignments.{IsAssignmentSeen, HasAssignment, IsAssignmentAt, IsAssignmentLine}
 use Rattle.mk_edit_parts.specs.ValuePieces.{line_without_pieces}
 use Rattle.mk_edit_parts.specs.declared.seek.Found.{Found}
 use Rattle.mk_edit_parts.proofs.CauseLemmas.{passed, holds}
-use Rattle.mk_edit_parts.proofs.on_values.ValueCells.{assign-parts, assign-no_stray}
 use Rattle.mk_edit.specs.ValueEdits.{IsRemoveWord, value_text_located}
 use Rattle.mk_edit.proofs.on_plans.CausePlans.{never-long}
 use Rattle.mk_edit.proofs.on_plans.LinePlans.{IsReplaced}
 use Rattle.mk_edit.proofs.on_prerequisites.WordPlans.{IsWordEdit, words-replaced, PutNothing, nothing-put, nothing-append}
 use Rattle.mk_edit.proofs.on_recipes.OwnCauses.{own-refused, own-accepted}
 use Rattle.mk_edit.proofs.on_values.AppendValuePlans.{value-text}
-use Rattle.mk_edit.proofs.on_values.ValuePlaces.{IsValuePlace, IsVariablePlace, value-place, variable-place, assignment-located}
+use Rattle.mk_edit.proofs.on_values.OwnLines.{own_line, own_rest, own-seen, own-whole}
+use Rattle.mk_edit.proofs.on_values.ValuePlaces.{IsValuePlace, IsVariablePlace, value-place, variable-place}
 
 -- ---- the pieces
 
@@ -81,27 +71,15 @@ nothing-first w (l ∷ ls) = go (is_word_of w l.word) (nothing-first w ls)
     go true h = (refl, h)
     go false h = nothing-after w ls
 
-line-nothing : (w : List ℕ) (a : Assignment Cell) (r : List Cell) → PutNothing (line_without_pieces w a r)
+pub line-nothing : (w : List ℕ) (a : Assignment Cell) (r : List Cell) → PutNothing (line_without_pieces w a r)
 line-nothing w a r = go (is_empty (staying w (led_words a.value)))
   where
     go : (b : Bool) → PutNothing (if b then Replace (concat (a.value ++ a.after)) [] ∷ Keep r ∷ [] else remove_word_pieces w (led_words a.value) ++ Keep (concat a.after ++ r) ∷ [])
     go true = (refl, tt)
     go false = nothing-append (remove_word_pieces w (led_words a.value)) (Keep (concat a.after ++ r) ∷ []) (nothing-first w (led_words a.value)) tt
 
--- the pieces are the whole line
-line-old : (w : List ℕ) (a : Assignment Cell) (r : List Cell) → from_first_word (led_words a.value) ≡ a.value → old_cells (line_without_pieces w a r) ≡ concat (before_value a) ++ (concat a.value ++ (concat a.after ++ r))
-line-old w a r h = ap (λ z. concat (before_value a) ++ z) (go (is_empty (staying w (led_words a.value))))
-  where
-    go : (b : Bool) → old_cells (if b then Replace (concat (a.value ++ a.after)) [] ∷ Keep r ∷ [] else remove_word_pieces w (led_words a.value) ++ Keep (concat a.after ++ r) ∷ []) ≡ concat a.value ++ (concat a.after ++ r)
-    go true =
-        ap (λ z. concat (a.value ++ a.after) ++ z) (append-nil r)
-        ∙ (ap (λ z. z ++ r) (concat-append a.value a.after) ∙ append_assoc (concat a.value) (concat a.after) r)
-    go false =
-        old_cells-append (remove_word_pieces w (led_words a.value)) (Keep (concat a.after ++ r) ∷ [])
-        ∙ (ap (λ z. z ++ ((concat a.after ++ r) ++ [])) (remove_word-old w (led_words a.value) ∙ ap concat h) ∙ ap (λ z. concat a.value ++ z) (append-nil (concat a.after ++ r)))
-
 -- the replacements of the pieces are the spans of the value
-line-spans : (at : ℕ) (w : List ℕ) (a : Assignment Cell) (r : List Cell) → remove_word_spans w at a ≡ replacements at (line_without_pieces w a r)
+pub line-spans : (at : ℕ) (w : List ℕ) (a : Assignment Cell) (r : List Cell) → remove_word_spans w at a ≡ replacements at (line_without_pieces w a r)
 line-spans at w a r = go (is_empty (staying w (led_words a.value)))
   where
     go : (b : Bool) → (if b then set_value_span [] at a ∷ [] else replacements (value_start at a) (remove_word_pieces w (led_words a.value)))
@@ -120,37 +98,21 @@ WordPlace ls nth n f l = IsValuePlace ls nth n f l false (value_range_located fa
 word-place : (ls : List LocatedLine) (nth : Option ℕ) (n w : List ℕ) (f : Found) (l : LocatedLine) → IsFaithful ls → IsAddressed (RemoveWord nth n w) ls f → Some l ≡ slice_get ls f.at → WordPlace ls nth n f l
 word-place ls nth n w f l h A g = value-place ls nth n f l false (value_range_located false l) h A.is_there A.is_one (not_prefix n A.not_reserved) A.meant g refl
 
--- the parts of the line, and the cells after the assignment
-line-parts : (ls : List LocatedLine) (nth : Option ℕ) (n : List ℕ) (f : Found) (l : LocatedLine) → (P : WordPlace ls nth n f l) → AssignParts P.spot.line.bytes P.assigned
-line-parts ls nth n f l P = assign-parts f.context P.spot.line.bytes P.assigned None P.here
-
+-- the cells after the assignment
 abbrev line_rest : (ls : List LocatedLine) (nth : Option ℕ) (n : List ℕ) (f : Found) (l : LocatedLine) → WordPlace ls nth n f l → List Cell
-line_rest ls nth n f l P = concat (line-parts ls nth n f l P).rest
+line_rest ls nth n f l P = own_rest f.context P.spot.line.bytes P.assigned P.here
 
 -- the line is an assignment's
 line-class : (ls : List LocatedLine) (nth : Option ℕ) (n : List ℕ) (f : Found) (l : LocatedLine) → (P : WordPlace ls nth n f l) → l.class ≡ variants.Assign (located_assignment 0 P.assigned) None
 line-class ls nth n f l P = ap (λ (z : LocatedLine). z.class) P.line_is ∙ ap (located_class joined_byte) P.class_is
-
--- the cells of the line
-line-cells : (ls : List LocatedLine) (nth : Option ℕ) (n : List ℕ) (f : Found) (l : LocatedLine) → (P : WordPlace ls nth n f l)
-    → line_cells P.spot.line.bytes ≡ concat (before_value P.assigned) ++ (concat P.assigned.value ++ (concat P.assigned.after ++ line_rest ls nth n f l P))
-line-cells ls nth n f l P =
-    let a = P.assigned in
-    let p = line-parts ls nth n f l P in
-    p.cells_are ∙ ap (λ z. concat (before_value a) ++ (concat a.value ++ z)) (concat-append a.after p.rest)
 
 line-seen : (ls : List LocatedLine) (nth : Option ℕ) (n : List ℕ) (f : Found) (l : LocatedLine) (at : assignment.Assignment) → (P : WordPlace ls nth n f l) → IsAssignmentAt l at
     → IsAssignmentSeen l at P.assigned (line_rest ls nth n f l P)
 line-seen ls nth n f l at P q =
     let m = P.spot.line.bytes in
     let a = P.assigned in
-    let same : variants.Assign at q.prefix ≡ variants.Assign (located_assignment 0 a) None = sym q.class_is ∙ line-class ls nth n f l P in
-    let offsets : at ≡ located_assignment 0 a = cc in
-    let bytes : m ≡ l.bytes = sym (ap (λ (z : LocatedLine). z.bytes) P.line_is) in
-    let own : IsAssignmentSeen (located_line P.spot.line) (located_assignment 0 a) a (line_rest ls nth n f l P) =
-    record { cells_are = line-cells ls nth n f l P; offsets_are = refl; located = assignment-located f.context m a P.here } in
-    subst (λ z. IsAssignmentSeen l z a (line_rest ls nth n f l P)) (sym offsets)
-    (subst (λ (z : LocatedLine). IsAssignmentSeen z (located_assignment 0 a) a (line_rest ls nth n f l P)) (sym P.line_is) own)
+    let seen : l ≡ own_line m a = P.line_is ∙ ap (λ (k : Class Cell). record { bytes = m; class = located_class joined_byte k }) P.class_is in
+    subst (λ (z : LocatedLine). IsAssignmentSeen z at a (line_rest ls nth n f l P)) (sym seen) (own-seen f.context m a P.here at (subst (λ (z : LocatedLine). IsAssignmentAt z at) seen q))
 
 -- ---- the causes
 
@@ -177,27 +139,13 @@ causes ls nth n w f l text P h =
           ∙ ap (λ ws. where_holds (not (is_closed (λ b. b) text) || bares_end_among w ws) OpenValue) (sym T.words_are));
     }
 
-closed-if : (c b : Bool) → (not c || b) ≡ false → c ≡ true
+pub closed-if : (c b : Bool) → (not c || b) ≡ false → c ≡ true
 closed-if true b h = refl
 closed-if false b h = absurd (cc)
 
 value-closed : (ls : List LocatedLine) (nth : Option ℕ) (n w : List ℕ) (f : Found) (l : LocatedLine) (text : List ℕ) → (P : WordPlace ls nth n f l) → text ≡ value_text_located l → keeps_word text w ≡ false
     → is_closed joined_byte (concat P.assigned.value) ≡ true
 value-closed ls nth n w f l text P h q = sym (value-text ls nth n f l false _ text P h).closed_is ∙ closed-if (is_closed (λ b. b) text) (bares_end_among w (words_in text)) q
-
--- the words of a closed value, with the blanks and folds between them, are the value
-value-whole : (ls : List LocatedLine) (nth : Option ℕ) (n : List ℕ) (f : Found) (l : LocatedLine) → (P : WordPlace ls nth n f l) → is_closed joined_byte (concat P.assigned.value) ≡ true
-    → from_first_word (led_words P.assigned.value) ≡ P.assigned.value
-value-whole ls nth n f l P c =
-    let m = P.spot.line.bytes in
-    let a = P.assigned in
-    let p = line-parts ls nth n f l P in
-    let k = value-units m a p in
-    let B = concat (before_value a) in
-    let Q = concat (a.after ++ p.rest) in
-    let clean : has_stray (B ++ (concat a.value ++ Q)) ≡ false = subst (λ z. has_stray z ≡ false) p.cells_are (assign-no_stray f.context m a None P.here) in
-    let part : IsPart a.value = record { units_are = k.units_are; closed = c; no_hash = k.no_hash; no_stray = has_stray-left (concat a.value) Q (has_stray-right B (concat a.value ++ Q) clean) } in
-    (value-led a.value part p.is.are_value.begins p.is.are_value.ends).whole
 
 -- ---- the whole
 
@@ -273,19 +221,15 @@ remove_word nth n w ls f h A = record {
     edit l g c =
         let P = there l g in
         let m = P.spot.line.bytes in
-        let r = line_rest ls nth n f l P in
         let ps = pieces l g in
         let bytes : l.bytes ≡ m = ap (λ (z : LocatedLine). z.bytes) P.line_is in
-        let cells : line_cells m ≡ old_cells ps = line-cells ls nth n f l P ∙ sym (line-old w P.assigned r (value-whole ls nth n f l P c)) in
-        let whole : m ≡ old_bytes ps ++ line_end_bytes (line_end m) =
-        sym (without_line_end-line_end m) ∙ ap (λ z. z ++ line_end_bytes (line_end m)) (sym (raw_text-cells (without_line_end m)) ∙ (ap raw_text cells ∙ raw_text-old_cells ps)) in
         record {
           spot = P.spot;
           place_is = P.place_is;
           touched_is = ap (option_map this_line) P.found_is;
           left_is = λ rs. refl;
           spans_are = spans-are l g;
-          whole = whole ∙ ap (λ z. old_bytes ps ++ line_end_bytes (line_end z)) (sym bytes);
+          whole = own-whole f.context m P.assigned P.here w c ∙ ap (λ z. old_bytes ps ++ line_end_bytes (line_end z)) (sym bytes);
         }
 
 pub remove_word-of : (w : List ℕ) (e : Edit) (ls : List LocatedLine) (f : Found) → IsFaithful ls → IsRemoveWord e w → IsAddressed e ls f → IsRemoveWordOf w e ls f

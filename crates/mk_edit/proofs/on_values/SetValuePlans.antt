@@ -24,14 +24,14 @@ use Rattle.mk_edit.proofs.on_plans.RangePlans.{IsRangeEdit}
 use Rattle.mk_edit.proofs.on_values.ValuePlaces.{IsValueRange, value-place}
 
 -- a text is empty where it has no bytes
-is_empty-length : (v : List ℕ) → is_empty v ≡ (length v == 0)
+pub is_empty-length : (v : List ℕ) → is_empty v ≡ (length v == 0)
 is_empty-length [] = refl
 is_empty-length (b ∷ v) = sym (ne_eqb (suc (length v)) 0 (λ e. absurd (omega (arith, e))))
 
 -- ---- SetValue
 
 -- the span of the edit is the range of the value
-set_value_span-range : (l : List ℕ) (a : Assignment Cell) (v : List ℕ) (at : ℕ) (r : Span) → IsValueRange l a (is_empty v) r
+pub set_value_span-range : (l : List ℕ) (a : Assignment Cell) (v : List ℕ) (at : ℕ) (r : Span) → IsValueRange l a (is_empty v) r
     → set_value_span v at a ≡ record { start = at + r.start; end = at + r.end; new = v }
 set_value_span-range l a [] at r R =
     let i : at + raw_width (before_value a) ≡ at + r.start = omega (arith, R.start_is) in

@@ -49,7 +49,7 @@ assignment-located c l a h =
     let same : P.0 ≡ a = cc in
     subst (λ (z : Assignment Cell). IsAssignmentLocated (line_cells l) (located_assignment 0 a) [] z) same P.2
 
-value-range : (c : Context) (l : List ℕ) (a : Assignment Cell) (b : Bool) → class_of c l ≡ Assign a None
+pub value-range : (c : Context) (l : List ℕ) (a : Assignment Cell) (b : Bool) → class_of c l ≡ Assign a None
     → IsValueRange l a b (value_range_located b (record { bytes = l; class = located_class joined_byte (Assign a None) }))
 value-range c l a b h =
     let P = assignment-located c l a h in

@@ -1,10 +1,11 @@
 -- The reading law of every edit.
-use Rattle.mk_edit_language.specs.Edits.{Edit, SetValue, AppendValue, AddWord, RemoveWord, AddAssign, RemoveAssign, AddRule, RemoveRule, AddPrereq, RemovePrereq, AddRecipe, SetRecipe, RemoveRecipe, InsertRecipe, SetRecipeByText, RemoveRecipeByText, RenameTarget}
+use Rattle.mk_edit_language.specs.Edits.{Edit, SetValue, AppendValue, AddWord, RemoveWord, ChangeValues, AddAssign, RemoveAssign, AddRule, RemoveRule, AddPrereq, RemovePrereq, AddRecipe, SetRecipe, RemoveRecipe, InsertRecipe, SetRecipeByText, RemoveRecipeByText, RenameTarget}
 use Rattle.mk_edit_language.specs.EditLaws.{ReadsAsChanged}
 use Rattle.mk_edit_language.proofs.on_values.LastFoldLemmas.{set_value-reads}
 use Rattle.mk_edit_language.proofs.on_values.AppendValueLemmas.{append_value-reads}
 use Rattle.mk_edit_language.proofs.on_values.AddWordLemmas.{add_word-reads}
 use Rattle.mk_edit_language.proofs.on_values.RemoveWordLemmas.{remove_word-reads}
+use Rattle.mk_edit_language.proofs.on_changes.ChangeValuesLemmas.{change_values-reads}
 use Rattle.mk_edit_language.proofs.on_new_lines.AddAssignLemmas.{add_assign-reads}
 use Rattle.mk_edit_language.proofs.on_removals.RemoveAssignLemmas.{remove_assign-reads}
 use Rattle.mk_edit_language.proofs.on_new_lines.AddRuleLemmas.{add_rule-reads}
@@ -21,6 +22,7 @@ edits-read (SetValue nth n v) = set_value-reads nth n v
 edits-read (AppendValue nth n v) = append_value-reads nth n v
 edits-read (AddWord nth n w) = add_word-reads nth n w
 edits-read (RemoveWord nth n w) = remove_word-reads nth n w
+edits-read (ChangeValues n c) = change_values-reads n c
 edits-read (AddAssign p n f v) = add_assign-reads p n f v
 edits-read (RemoveAssign nth n) = remove_assign-reads nth n
 edits-read (AddRule p ts c ws) = add_rule-reads p ts c ws

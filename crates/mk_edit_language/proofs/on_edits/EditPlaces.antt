@@ -7,7 +7,7 @@ use Rattle.mk_class.specs.ClassedLines.{ClassedLine}
 use Rattle.mk_tree.specs.RecipeLines.{recipe_run, after_recipe}
 use Rattle.mk_tree.proofs.on_changes.RecipeRunLemmas.{recipe_run-after}
 use Rattle.mk_tree.specs.LineTexts.{StandingLine}
-use Rattle.mk_edit_language.specs.Edits.{Place, Bottom, BeforeVar, AfterVar, BeforeRule, Edit, SetValue, AppendValue, AddWord, RemoveWord, AddAssign, RemoveAssign, AddRule, RemoveRule, AddPrereq, RemovePrereq, AddRecipe, SetRecipe, RemoveRecipe, InsertRecipe, SetRecipeByText, RemoveRecipeByText, RenameTarget}
+use Rattle.mk_edit_language.specs.Edits.{Place, Bottom, BeforeVar, AfterVar, BeforeRule, Edit, SetValue, AppendValue, AddWord, RemoveWord, ChangeValues, AddAssign, RemoveAssign, AddRule, RemoveRule, AddPrereq, RemovePrereq, AddRecipe, SetRecipe, RemoveRecipe, InsertRecipe, SetRecipeByText, RemoveRecipeByText, RenameTarget}
 use Rattle.mk_edit_language.specs.Spots.{nth_of}
 use Rattle.mk_edit_language.specs.Addresses.{Address, Variable, Rule, assigns, is_rule_for, found}
 use Rattle.mk_edit_language.specs.Stretches.{Stretch, this_line, before_line, after_line, bottom, whole_rule, after_rule, recipe_spots, recipe_gaps, recipe_gap, recipe_found, text_number, place_found, insertion, removal, IsStretchOf}
@@ -97,6 +97,7 @@ insertion-stretch ls (SetValue nth n v) s h = absurd (cc)
 insertion-stretch ls (AppendValue nth n v) s h = absurd (cc)
 insertion-stretch ls (AddWord nth n w) s h = absurd (cc)
 insertion-stretch ls (RemoveWord nth n w) s h = absurd (cc)
+insertion-stretch ls (ChangeValues n c) s h = absurd (cc)
 insertion-stretch ls (RemoveAssign nth n) s h = absurd (cc)
 insertion-stretch ls (RemoveRule nth g) s h = absurd (cc)
 insertion-stretch ls (AddPrereq o nth g w) s h = absurd (cc)
@@ -117,6 +118,7 @@ removal-stretch ls (SetValue nth n v) s h = absurd (cc)
 removal-stretch ls (AppendValue nth n v) s h = absurd (cc)
 removal-stretch ls (AddWord nth n w) s h = absurd (cc)
 removal-stretch ls (RemoveWord nth n w) s h = absurd (cc)
+removal-stretch ls (ChangeValues n c) s h = absurd (cc)
 removal-stretch ls (AddAssign p n f v) s h = absurd (cc)
 removal-stretch ls (AddRule p ts c ws) s h = absurd (cc)
 removal-stretch ls (AddPrereq o nth g w) s h = absurd (cc)

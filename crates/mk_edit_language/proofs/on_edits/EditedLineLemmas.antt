@@ -12,7 +12,7 @@ use Rattle.mk_class.specs.ClassedLines.{classed, classed_lines}
 use Rattle.mk_tree.specs.Documents.{text_of, context_of, AreUnconditional}
 use Rattle.mk_tree.specs.LineTexts.{line_in}
 use Rattle.mk_tree.proofs.on_documents.LinesInText.{line-in_text}
-use Rattle.mk_edit_language.specs.Edits.{Edit, SetValue, AppendValue, AddWord, RemoveWord, AddAssign, RemoveAssign, AddRule, RemoveRule, AddPrereq, RemovePrereq, AddRecipe, SetRecipe, RemoveRecipe, InsertRecipe, SetRecipeByText, RemoveRecipeByText, RenameTarget}
+use Rattle.mk_edit_language.specs.Edits.{Edit, SetValue, AppendValue, AddWord, RemoveWord, ChangeValues, AddAssign, RemoveAssign, AddRule, RemoveRule, AddPrereq, RemovePrereq, AddRecipe, SetRecipe, RemoveRecipe, InsertRecipe, SetRecipeByText, RemoveRecipeByText, RenameTarget}
 use Rattle.mk_edit_language.specs.Stretches.{Stretch, insertion, touched_by}
 use Rattle.mk_edit_language.specs.EditedLines.{respanned_bytes, edited_bytes, edited_lines}
 use Rattle.mk_edit_language.specs.Refusals.{spans, text_after}
@@ -41,6 +41,7 @@ place-kept t (RemoveRecipe nth g k) rs s p h = edits-keep (RemoveRecipe nth g k)
 place-kept t (InsertRecipe nth g k c) rs s p h = edits-keep (InsertRecipe nth g k c) t rs h
 place-kept t (SetRecipeByText nth g o c) rs s p h = edits-keep (SetRecipeByText nth g o c) t rs h
 place-kept t (RemoveRecipeByText nth g o) rs s p h = edits-keep (RemoveRecipeByText nth g o) t rs h
+place-kept t (ChangeValues n c) rs s p h = absurd (cc)
 place-kept t (RenameTarget o n) rs s p h = absurd (cc)
 
 -- what is known of an edit by the lines that it touches

@@ -1,9 +1,10 @@
 -- Each edit leaves the lines that its spans do not touch.
-use Rattle.mk_edit_language.specs.Edits.{Edit, SetValue, AppendValue, AddWord, RemoveWord, AddAssign, RemoveAssign, AddRule, RemoveRule, AddPrereq, RemovePrereq, AddRecipe, SetRecipe, RemoveRecipe, InsertRecipe, SetRecipeByText, RemoveRecipeByText, RenameTarget}
+use Rattle.mk_edit_language.specs.Edits.{Edit, SetValue, AppendValue, AddWord, RemoveWord, ChangeValues, AddAssign, RemoveAssign, AddRule, RemoveRule, AddPrereq, RemovePrereq, AddRecipe, SetRecipe, RemoveRecipe, InsertRecipe, SetRecipeByText, RemoveRecipeByText, RenameTarget}
 use Rattle.mk_edit_language.specs.OutsideLaws.{LeavesOthers}
 use Rattle.mk_edit_language.proofs.on_edits.KeptByEdits.{set_value-keeps, append_value-keeps, add_word-keeps, remove_word-keeps, add_assign-keeps, remove_assign-keeps, add_rule-keeps, remove_rule-keeps, add_prereq-keeps, remove_prereq-keeps, add_recipe-keeps, set_recipe-keeps, remove_recipe-keeps, insert_recipe-keeps}
 use Rattle.mk_edit_language.proofs.on_edits.KeptByText.{set_recipe_by_text-keeps, remove_recipe_by_text-keeps}
 use Rattle.mk_edit_language.proofs.on_edits.KeptByRenameTargetLemmas.{rename_target-keeps}
+use Rattle.mk_edit_language.proofs.on_edits.KeptByChangeValuesLemmas.{change_values-keeps}
 
 -- each edit leaves these lines, by the law of its kind
 pub edits-keep : (edit : Edit) → LeavesOthers edit
@@ -11,6 +12,7 @@ edits-keep (SetValue nth n v) = set_value-keeps nth n v
 edits-keep (AppendValue nth n v) = append_value-keeps nth n v
 edits-keep (AddWord nth n w) = add_word-keeps nth n w
 edits-keep (RemoveWord nth n w) = remove_word-keeps nth n w
+edits-keep (ChangeValues n c) = change_values-keeps n c
 edits-keep (AddAssign p n f v) = add_assign-keeps p n f v
 edits-keep (RemoveAssign nth n) = remove_assign-keeps nth n
 edits-keep (AddRule p ts c ws) = add_rule-keeps p ts c ws

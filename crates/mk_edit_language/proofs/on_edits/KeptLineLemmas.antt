@@ -38,6 +38,15 @@ one-line : (c : Context) (m : ClassedLine) (b : List ℕ) → m.bytes ≡ b → 
 one-line c m b h k =
     ap (λ (q : Class Cell). record { bytes = m.bytes; class = q } ∷ []) (sym k) ∙ ap (λ z. record { bytes = z; class = class_of c z } ∷ []) h
 
+-- a line in the place of one, whose spans alone were replaced in the text
+pub line-respanned : (t : List ℕ) (rs : List Replacement) (A : List ClassedLine) (l : ClassedLine) (B : List ClassedLine) (m : ClassedLine) → classed_lines t ≡ A ++ l ∷ B
+    → classed_lines (replaced 0 t rs) ≡ A ++ m ∷ B → Rise (length (text_of A)) (length (text_of A) + length l.bytes) rs → m.bytes ≡ replaced (length (text_of A)) l.bytes rs
+line-respanned t rs A l B m w k r =
+    let at = length (text_of A) in
+    append_cancel_right m.bytes (replaced at l.bytes rs) (text_of B)
+    (append_cancel_left (text_of A) (m.bytes ++ text_of B) (replaced at l.bytes rs ++ text_of B)
+    (sym (line-in_text (replaced 0 t rs) A m B k).text ∙ (ap (λ q. replaced 0 q rs) (line-in_text t A l B w).text ∙ Rise-within (text_of A) l.bytes (text_of B) rs r)))
+
 line-kept : (t : List ℕ) (e : Edit) (rs : List Replacement) (s : StandingLine) (m : ClassedLine) → spans t e ≡ Ok rs → touched_by (classed_lines t) e ≡ Some (this_line s) → IsSpotOf (classed_lines t) s
     → classed_lines (replaced 0 t rs) ≡ s.above ++ m ∷ s.below
     → Rise (length (text_of s.above)) (length (text_of s.above) + length s.line.bytes) rs
@@ -46,12 +55,7 @@ line-kept : (t : List ℕ) (e : Edit) (rs : List Replacement) (s : StandingLine)
     → AreOthersKept t e rs
 line-kept t e rs s m h p w k r i d c z u v =
     let at = length (text_of s.above) in
-    let bytes : m.bytes ≡ respanned_bytes (this_line s) rs =
-    append_cancel_right m.bytes (replaced at s.line.bytes rs) (text_of s.below)
-    (append_cancel_left (text_of s.above) (m.bytes ++ text_of s.below) (replaced at s.line.bytes rs ++ text_of s.below)
-    (sym (line-in_text (replaced 0 t rs) s.above m s.below k).text
-    ∙ (ap (λ q. replaced 0 q rs) (line-in_text t s.above s.line s.below w).text ∙ Rise-within (text_of s.above) s.line.bytes (text_of s.below) rs r)))
-    ∙ ap (λ q. replaced at q rs) (sym (append-nil s.line.bytes)) in
+    let bytes : m.bytes ≡ respanned_bytes (this_line s) rs = line-respanned t rs s.above s.line s.below m w k r ∙ ap (λ q. replaced at q rs) (sym (append-nil s.line.bytes)) in
     let class : class_of (context_of s.above) m.bytes ≡ m.class = (line-in_text (replaced 0 t rs) s.above m s.below k).class in
     let lines : classed_lines (text_after t e) ≡ s.above ++ m ∷ s.below = ap (λ q. classed_lines (text_by t q)) h ∙ k in
     record {

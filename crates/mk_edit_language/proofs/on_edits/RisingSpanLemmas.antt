@@ -1,7 +1,7 @@
 -- Spans that stand in order, apart and within a text, and the text cut at them: pieces that stay, and pieces that are replaced.
-use Rattle.std.proofs.Common.{◌≡◌, refl, sym, ap, ◌∙◌, subst, arith, ℕ, List, [], ◌∷◌, ◌++◌, map, length, length-append, take, drop, ◌+◌, ◌-◌, ◌≤◌}
-use Rattle.std.proofs.lemmas.List.{append-nil, take-append-drop, length-take-le, length-drop}
-use Rattle.std.proofs.Math.Seq.{drop-append-add}
+use Rattle.std.proofs.Common.{◌≡◌, refl, sym, ap, ◌∙◌, subst, arith, ℕ, List, [], ◌∷◌, ◌++◌, map, append_assoc, length, length-append, take, drop, ◌+◌, ◌-◌, ◌≤◌}
+use Rattle.std.proofs.lemmas.List.{append-nil, take-append-drop, take-append-le, drop-append-le, length-take-le, length-drop}
+use Rattle.std.proofs.Math.Seq.{take-append-add, drop-append-add}
 use Rattle.mk_lines.specs.Cells.{Byte, raw_text}
 use Rattle.mk_lines.proofs.on_cells.CellLemmas.{raw_text-bytes}
 use Rattle.mk_lines.proofs.on_lists.PieceLemmas.{replaced-pieces}
@@ -39,7 +39,7 @@ record AreCut (at : ℕ) (t : List ℕ) (rs : List Replacement) : Type 0 where
   new : new_bytes pieces ≡ replaced at t rs
   ranges : replacements at pieces ≡ rs
 
-same_replacement : (s e s' e' : ℕ) (v : List ℕ) (rs qs : List Replacement) → s ≡ s' → e ≡ e' → rs ≡ qs
+pub same_replacement : (s e s' e' : ℕ) (v : List ℕ) (rs qs : List Replacement) → s ≡ s' → e ≡ e' → rs ≡ qs
     → record { start = s; end = e; new = v } ∷ rs ≡ record { start = s'; end = e'; new = v } ∷ qs
 same_replacement s e s' e' v rs qs h k i = rw (h, k, i) refl
 
@@ -93,6 +93,36 @@ Rise-within p w q rs h =
     let c = cut (length p) (length p + length w) w rs h refl in
     ap (λ z. replaced 0 (p ++ (z ++ q)) rs) (sym c.old)
     ∙ (ap (replaced 0 (p ++ (old_bytes c.pieces ++ q))) (sym c.ranges) ∙ (replaced-pieces p c.pieces q ∙ ap (λ z. p ++ (z ++ q)) c.new))
+
+-- ---- two texts, one after the other
+
+-- replacements in the second text alone
+replaced-second : (a b : ℕ) (x y : List ℕ) (qs : List Replacement) → Rise (a + length x) b qs → replaced a (x ++ y) qs ≡ x ++ replaced (a + length x) y qs
+replaced-second a b x y [] h = refl
+replaced-second a b x y (q ∷ qs) h =
+    let n = a + length x in
+    let s : q.start - a ≡ length x + (q.start - n) = omega (arith, h.0) in
+    let e : q.end - a ≡ length x + (q.end - n) = omega (arith, h.0, h.1) in
+    let front : take (q.start - a) (x ++ y) ≡ x ++ take (q.start - n) y = ap (λ z. take z (x ++ y)) s ∙ take-append-add x y (q.start - n) in
+    let back : drop (q.end - a) (x ++ y) ≡ drop (q.end - n) y = ap (λ z. drop z (x ++ y)) e ∙ drop-append-add x y (q.end - n) in
+    ap (λ z. z ++ (q.new ++ replaced q.end (drop (q.end - a) (x ++ y)) qs)) front
+    ∙ (ap (λ z. (x ++ take (q.start - n) y) ++ (q.new ++ replaced q.end z qs)) back ∙ append_assoc x (take (q.start - n) y) (q.new ++ replaced q.end (drop (q.end - n) y) qs))
+
+-- replacements in each of the two
+pub replaced-append : (a b : ℕ) (x y : List ℕ) (rs qs : List Replacement) → Rise a (a + length x) rs → Rise (a + length x) b qs → replaced a (x ++ y) (rs ++ qs) ≡ replaced a x rs ++ replaced (a + length x) y qs
+replaced-append a b x y [] qs h k = replaced-second a b x y qs k
+replaced-append a b x y (r ∷ rs) qs h k =
+    let n = r.start - a in
+    let m = r.end - a in
+    let last : r.end ≤ a + length x = Rise-from_to r.end (a + length x) rs h.2 in
+    let front : take n (x ++ y) ≡ take n x = take-append-le n x y (omega (arith, h.0, h.1, last)) in
+    let back : drop m (x ++ y) ≡ drop m x ++ y = drop-append-le m x y (omega (arith, h.0, h.1, last)) in
+    let left : length (drop m x) ≡ length x - m = length-drop m x in
+    let end : r.end + length (drop m x) ≡ a + length x = omega (arith, h.0, h.1, last, left) in
+    let I = replaced-append r.end b (drop m x) y rs qs (subst (λ z. Rise r.end z rs) (sym end) h.2) (subst (λ z. Rise z b qs) (sym end) k) in
+    let rest : replaced r.end (drop m x ++ y) (rs ++ qs) ≡ replaced r.end (drop m x) rs ++ replaced (a + length x) y qs = I ∙ ap (λ z. replaced r.end (drop m x) rs ++ replaced z y qs) end in
+    let apart : take n x ++ (r.new ++ (replaced r.end (drop m x) rs ++ replaced (a + length x) y qs)) ≡ (take n x ++ (r.new ++ replaced r.end (drop m x) rs)) ++ replaced (a + length x) y qs = simp append_assoc in
+    ap (λ z. z ++ (r.new ++ replaced r.end (drop m (x ++ y)) (rs ++ qs))) front ∙ (ap (λ z. take n x ++ (r.new ++ replaced r.end z (rs ++ qs))) back ∙ (ap (λ z. take n x ++ (r.new ++ z)) rest ∙ apart))
 
 -- ---- which replacements rise
 

@@ -30,7 +30,7 @@ use Rattle.mk_tree.specs.Documents.{text_of, context_of}
 use Rattle.mk_tree.proofs.on_documents.LinesInText.{line-in_text, run-in_text, AreClassed, AreClassed-class, AreClassed-tail, AreClassed-lines}
 use Rattle.mk_tree.proofs.on_documents.DocumentLemmas.{text_of-classed_lines}
 use Rattle.mk_tree.specs.LineTexts.{StandingLine}
-use Rattle.mk_edit_language.specs.Edits.{Edit, SetValue, AppendValue, AddWord, RemoveWord, AddAssign, RemoveAssign, AddRule, RemoveRule, AddPrereq, RemovePrereq, AddRecipe, SetRecipe, RemoveRecipe, InsertRecipe, SetRecipeByText, RemoveRecipeByText, RenameTarget}
+use Rattle.mk_edit_language.specs.Edits.{ValueChange, Set, Append, Add, Remove, Edit, SetValue, AppendValue, AddWord, RemoveWord, ChangeValues, AddAssign, RemoveAssign, AddRule, RemoveRule, AddPrereq, RemovePrereq, AddRecipe, SetRecipe, RemoveRecipe, InsertRecipe, SetRecipeByText, RemoveRecipeByText, RenameTarget}
 use Rattle.mk_edit_language.specs.Addresses.{Variable, Rule, found}
 use Rattle.mk_edit_language.specs.Stretches.{Stretch, insertion, removal, recipe_found, IsStretchOf, text_number}
 use Rattle.mk_edit_language.specs.NewLines.{new_line_span}
@@ -39,7 +39,8 @@ use Rattle.mk_edit_language.specs.ValueWords.{LedWord, led_words_among, led_word
 use Rattle.mk_edit_language.proofs.on_values.RemoveWordLemmas.{remove_word-old}
 use Rattle.mk_edit_language.specs.WordPieces.{add_pieces, remove_pieces, rename_pieces, renamed_pieces, header_pieces, kept, put_last, prerequisite_text, removed_words, renamed_words}
 use Rattle.mk_edit_language.proofs.on_prerequisites.WordsRemoved.{removed-old_cells}
-use Rattle.mk_edit_language.specs.EditSpans.{removed_span, header_spans, word_spans, renamed_spans, recipe_span, where_found, spans_of}
+use Rattle.mk_edit_language.specs.ValueChanges.{is_class_changed, change_spans, changed_line_spans}
+use Rattle.mk_edit_language.specs.EditSpans.{removed_span, header_spans, word_spans, spans_in_lines, renamed_line_spans, recipe_span, where_found, spans_of}
 use Rattle.mk_edit_language.specs.Refusals.{spans, text_by, text_after}
 use Rattle.mk_edit_language.proofs.on_edits.Accepted.{accepted}
 use Rattle.mk_edit_language.specs.RisingSpans.{Rise, IsReplacedAt}
@@ -148,7 +149,7 @@ remove_word-rises w at a n h = go (is_empty (staying w (led_words a.value)))
         Rise-since at start (at + n) (replacements start ps) (Rise-until start (start + length (old_bytes ps)) (at + n) (replacements start ps) r most) (omega arith)
 
 -- spans that rise within a line, which begins at an offset and has n bytes, whatever its class
-abbrev RisesInLine : (ℕ → Class Cell → List Replacement) → Type 0
+abbrev pub RisesInLine : (ℕ → Class Cell → List Replacement) → Type 0
 RisesInLine f = (at n : ℕ) (k : Class Cell) → raw_width (part_units k) ≤ n → Rise at (at + n) (f at k)
 
 rise-values : (f : ℕ → Assignment Cell → List Replacement) → RiseInAssignment f → RisesInLine (assignment_spans f)
@@ -298,17 +299,46 @@ renamed-within o n Endif = omega arith
 renamed-within o n Directive = omega arith
 renamed-within o n Rough = omega arith
 
-rise-renamed : (o n : List ℕ) (c : Context) (ls : List ClassedLine) (at : ℕ) → AreClassed c ls → Rise at (at + length (text_of ls)) (renamed_spans o n at ls)
-rise-renamed o n c [] at h = omega arith
-rise-renamed o n c (l ∷ ls) at h =
-    let ps = renamed_pieces o n l.class in
+pub rise-renamed : (o n : List ℕ) → RisesInLine (renamed_line_spans o n)
+rise-renamed o n at m k h =
+    let ps = renamed_pieces o n k in
+    Rise-until at (at + old_length ps) (at + m) (replacements at ps) (Rise-pieces at ps) (omega (arith, h, renamed-within o n k))
+
+-- ---- changes of values
+
+change-rises : (c : ValueChange) → RiseInAssignment (change_spans c)
+change-rises (Set v) = set_value-rises v
+change-rises (Append v) = append_value-rises v
+change-rises (Add w) = append_value-rises w
+change-rises (Remove w) = remove_word-rises w
+
+pub rise-changed : (n : List ℕ) (c : ValueChange) → RisesInLine (changed_line_spans n c)
+rise-changed n c at m k h = go (is_class_changed n c k)
+  where
+    go : (b : Bool) → Rise at (at + m) (cond b (assignment_spans (change_spans c) at k) [])
+    go true = rise-values (change_spans c) (change-rises c) at m k h
+    go false = omega arith
+
+-- ---- several lines
+
+-- spans that rise within each line of some, in one that has a class of its own
+pub rise-in_line : (f : ℕ → Class Cell → List Replacement) → RisesInLine f → (c : Context) (l : ClassedLine) (ls : List ClassedLine) (at : ℕ) → AreClassed c (l ∷ ls) → Rise at (at + length l.bytes) (f at l.class)
+rise-in_line f g c l ls at h = g at (length l.bytes) l.class (subst (λ (z : Class Cell). raw_width (part_units z) ≤ length l.bytes) (AreClassed-class c l ls h) (parts-within c l.bytes))
+
+-- spans that rise within each line rise within all
+pub rise-lines : (f : ℕ → Class Cell → List Replacement) → RisesInLine f → (c : Context) (ls : List ClassedLine) (at : ℕ) → AreClassed c ls → Rise at (at + length (text_of ls)) (spans_in_lines f at ls)
+rise-lines f g c [] at h = omega arith
+rise-lines f g c (l ∷ ls) at h =
     let m = at + length l.bytes in
-    let short : raw_width (part_units l.class) ≤ length l.bytes = subst (λ (z : Class Cell). raw_width (part_units z) ≤ length l.bytes) (AreClassed-class c l ls h) (parts-within c l.bytes) in
-    let w = renamed-within o n l.class in
     let e : m + length (text_of ls) ≡ at + length (l.bytes ++ text_of ls) = omega (arith, length-append l.bytes (text_of ls)) in
-    Rise-append at m (at + length (l.bytes ++ text_of ls)) (replacements at ps) (renamed_spans o n m ls)
-    (Rise-until at (at + old_length ps) m (replacements at ps) (Rise-pieces at ps) (omega (arith, short, w)))
-    (subst (λ z. Rise m z (renamed_spans o n m ls)) e (rise-renamed o n (context_after c l.class) ls m (AreClassed-tail c l ls h)))
+    Rise-append at m (at + length (l.bytes ++ text_of ls)) (f at l.class) (spans_in_lines f m ls)
+    (rise-in_line f g c l ls at h)
+    (subst (λ z. Rise m z (spans_in_lines f m ls)) e (rise-lines f g (context_after c l.class) ls m (AreClassed-tail c l ls h)))
+
+rise-all_lines : (f : ℕ → Class Cell → List Replacement) → RisesInLine f → (t : List ℕ) → RiseIn t (spans_in_lines f 0 (classed_lines t))
+rise-all_lines f g t =
+    let ls = classed_lines t in
+    Rise-until 0 (0 + length (text_of ls)) (length t) (spans_in_lines f 0 ls) (rise-lines f g start ls 0 (AreClassed-lines t ls refl)) (omega (arith, ap length (text_of-classed_lines t)))
 
 -- ---- recipe lines
 
@@ -375,9 +405,8 @@ spans-rise t (SetRecipeByText nth g o c) =
     rise-found t (recipe_span c) (recipe_found ls nth g k) (λ s i. rise-recipe t c s (recipe_found-spot ls nth g k s i) (recipe_found-recipe ls nth g k s i))
 spans-rise t (RemoveRecipeByText nth g o) =
     rise-found t removed_span (removal (classed_lines t) (RemoveRecipeByText nth g o)) (λ s i. rise-removed t s (removal-stretch (classed_lines t) (RemoveRecipeByText nth g o) s i))
-spans-rise t (RenameTarget o n) =
-    let r = rise-renamed o n start (classed_lines t) 0 (AreClassed-lines t (classed_lines t) refl) in
-    Rise-until 0 (0 + length (text_of (classed_lines t))) (length t) (renamed_spans o n 0 (classed_lines t)) r (omega (arith, ap length (text_of-classed_lines t)))
+spans-rise t (ChangeValues n c) = rise-all_lines (changed_line_spans n c) (rise-changed n c) t
+spans-rise t (RenameTarget o n) = rise-all_lines (renamed_line_spans o n) (rise-renamed o n) t
 
 -- The law: of an accepted edit the spans rise within the text, and the bytes outside them are as before.
 pub only_spans-replaced : (t : List ℕ) (e : Edit) (rs : List Replacement) → spans t e ≡ Ok rs → IsReplacedAt t (text_after t e) rs

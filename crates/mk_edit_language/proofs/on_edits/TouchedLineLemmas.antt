@@ -6,7 +6,7 @@ use Rattle.mk_lines.specs.Pieces.{Replacement}
 use Rattle.mk_class.specs.ClassedLines.{classed_lines}
 use Rattle.mk_tree.specs.Documents.{text_of}
 use Rattle.mk_tree.specs.LineTexts.{StandingLine}
-use Rattle.mk_edit_language.specs.Edits.{Edit, SetValue, AppendValue, AddWord, RemoveWord, AddAssign, RemoveAssign, AddRule, RemoveRule, AddPrereq, RemovePrereq, AddRecipe, SetRecipe, RemoveRecipe, InsertRecipe, SetRecipeByText, RemoveRecipeByText, RenameTarget}
+use Rattle.mk_edit_language.specs.Edits.{Edit, SetValue, AppendValue, AddWord, RemoveWord, ChangeValues, AddAssign, RemoveAssign, AddRule, RemoveRule, AddPrereq, RemovePrereq, AddRecipe, SetRecipe, RemoveRecipe, InsertRecipe, SetRecipeByText, RemoveRecipeByText, RenameTarget}
 use Rattle.mk_edit_language.specs.Addresses.{Variable, Rule, found}
 use Rattle.mk_edit_language.specs.Stretches.{Stretch, this_line, bottom, insertion, removal, recipe_found, text_number, IsStretchOf}
 use Rattle.mk_edit_language.specs.NewLines.{new_line_span}
@@ -95,6 +95,7 @@ few-of_one t (RemoveRecipeByText nth g o) p =
     let k = text_number (classed_lines t) nth g o in
     few-found t (RemoveRecipeByText nth g o) removed_span (removal (classed_lines t) (RemoveRecipeByText nth g o))
     (λ s i. few-removed t (RemoveRecipeByText nth g o) s (removal-stretch (classed_lines t) (RemoveRecipeByText nth g o) s i) (one-gone (recipe_found (classed_lines t) nth g k) s i))
+few-of_one t (ChangeValues n c) p = absurd p
 few-of_one t (RenameTarget o n) p = absurd p
 
 -- The law: the spans of an accepted edit of one place stand within at most as many lines as the edit's size says.

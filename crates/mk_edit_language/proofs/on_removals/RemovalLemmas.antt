@@ -19,7 +19,7 @@ use Rattle.mk_tree.proofs.on_changes.RecipeRunLemmas.{recipe_run-after, recipe_r
 use Rattle.mk_tree.specs.Leaning.{AgreeButForFlag}
 use Rattle.mk_tree.proofs.on_changes.LeaningLemmas.{agrees-self, agrees-then}
 use Rattle.mk_tree.specs.LineTexts.{StandingLine}
-use Rattle.mk_edit_language.specs.Edits.{Edit, SetValue, AppendValue, AddWord, RemoveWord, AddAssign, RemoveAssign, AddRule, RemoveRule, AddPrereq, RemovePrereq, AddRecipe, SetRecipe, RemoveRecipe, InsertRecipe, SetRecipeByText, RemoveRecipeByText, RenameTarget}
+use Rattle.mk_edit_language.specs.Edits.{Edit, SetValue, AppendValue, AddWord, RemoveWord, ChangeValues, AddAssign, RemoveAssign, AddRule, RemoveRule, AddPrereq, RemovePrereq, AddRecipe, SetRecipe, RemoveRecipe, InsertRecipe, SetRecipeByText, RemoveRecipeByText, RenameTarget}
 use Rattle.mk_edit_language.specs.Stretches.{Stretch, removal, this_line, whole_rule, text_number}
 use Rattle.mk_edit_language.specs.EditSpans.{removed_span, where_found}
 use Rattle.mk_edit_language.specs.RuleCauses.{has_conditional}
@@ -174,4 +174,5 @@ removed-lines (RemoveRecipeByText nth g o) t rs s h k =
     let number = text_number (classed_lines t) nth g o in
     let h' = remove_by_number t g o nth rs h in
     ap (λ q. classed_lines (text_by t q)) (h ∙ sym h') ∙ remove_recipe-lines t g nth number rs s h' k
+removed-lines (ChangeValues n c) t rs s h k = absurd (cc)
 removed-lines (RenameTarget o n) t rs s h k = absurd (cc)

@@ -17,7 +17,8 @@ use Rattle.mk_edit_language.specs.Edits.{AddWord}
 use Rattle.mk_edit_language.specs.Addresses.{Variable, found}
 use Rattle.mk_edit_language.specs.ValueSpans.{append_value_span}
 use Rattle.mk_edit_language.specs.ArgumentCauses.{is_value_word}
-use Rattle.mk_edit_language.specs.RuleCauses.{class_found, assignment_passes}
+use Rattle.mk_edit_language.specs.ValueWords.{assignment_passes}
+use Rattle.mk_edit_language.specs.RuleCauses.{class_found}
 use Rattle.mk_edit_language.specs.LineCauses.{has_open_value, ends_in_fold}
 use Rattle.mk_edit_language.specs.Refusals.{spans, text_by, text_after}
 use Rattle.mk_edit_language.specs.Changes.{change}

@@ -1,5 +1,5 @@
 -- The assignment that an accepted edit of a variable means: a line of the text, of class Assign, that sets no recipe prefix.
-use Rattle.std.proofs.Common.{◌≡◌, refl, sym, ap, ◌∙◌, subst, ℕ, List, ◌∷◌, ◌++◌, Bool, true, false, Option, Some, None}
+use Rattle.std.proofs.Common.{◌≡◌, refl, sym, ap, ◌∙◌, subst, ℕ, List, [], ◌∷◌, ◌++◌, Bool, true, false, Option, Some, None}
 use Rattle.std.specs.Prelude.{nat_lt}
 use Rattle.mk_lines.specs.Cells.{Cell, joined_byte, line_cells}
 use Rattle.mk_lines.specs.Units.{units}
@@ -11,14 +11,16 @@ use Rattle.mk_class.specs.Classes.Class.{Endef, Body, Recipe, Opaque, Blank, Com
 use Rattle.mk_class.specs.Contexts.{Context}
 use Rattle.mk_class.specs.ClassTable.{class_of}
 use Rattle.mk_class.proofs.on_classes.ClassLemmas.{plain_class-assign, assign-plain_class, class_at-assign}
-use Rattle.mk_class.specs.ClassedLines.{classed_lines}
+use Rattle.mk_class.specs.ClassedLines.{ClassedLine, classed_lines}
 use Rattle.std.proofs.lemmas.Slice.Eq.{bytes_eq-Decides}
 use Rattle.mk_tree.specs.Documents.{context_of}
 use Rattle.mk_tree.proofs.on_documents.LinesInText.{line-in_text}
 use Rattle.mk_tree.specs.LineTexts.{StandingLine}
+use Rattle.mk_tree.specs.Items.{items_of_line}
 use Rattle.mk_edit_language.specs.Spots.{spots}
 use Rattle.mk_edit_language.specs.Addresses.{Variable, assigns, found}
 use Rattle.mk_edit_language.specs.AddressCauses.{is_missing, is_several}
+use Rattle.mk_edit_language.specs.Changes.{item_with_value}
 use Rattle.mk_edit_language.proofs.on_edits.Accepted.{spot-picked}
 use Rattle.mk_edit_language.proofs.on_lines.SpotLemmas.{picked-is}
 
@@ -62,6 +64,52 @@ assigns-named n (TargetAssign t) h = absurd (cc)
 assigns-named n Rough h = absurd (cc)
 assigns-named n (Header x) h = absurd (cc)
 
+-- a line that reads as an assignment assigns that name
+read-named : (k : Class Cell) (l : List ℕ) (a : Assignment Cell) (v : List ℕ) → items_of_line k l ≡ item_with_value a v ∷ [] → IsNamed (unit_text joined_byte a.name) k
+read-named (Assign b s) l a v h = record { assigned = b; sets = s; class_is = refl; name_is = cc }
+read-named Endef l a v h = absurd (cc)
+read-named (Body d) l a v h = absurd (cc)
+read-named Recipe l a v h = absurd (cc)
+read-named Opaque l a v h = absurd (cc)
+read-named Blank l a v h = absurd (cc)
+read-named Comment l a v h = absurd (cc)
+read-named (DefineHead p) l a v h = absurd (cc)
+read-named If l a v h = absurd (cc)
+read-named Else l a v h = absurd (cc)
+read-named Endif l a v h = absurd (cc)
+read-named Directive l a v h = absurd (cc)
+read-named (TargetAssign t) l a v h = absurd (cc)
+read-named Rough l a v h = absurd (cc)
+read-named (Header x) l a v h = absurd (cc)
+
+-- a line of class Assign that sets no recipe prefix
+pub record IsAssigned (l : ClassedLine) : Type 0 where
+  pub assigned : Assignment Cell
+  pub class_is : l.class ≡ Assign assigned None
+  pub no_prefix : is_prefix_name (unit_text joined_byte assigned.name) ≡ false
+
+assigned-there : (c : Context) (n : List ℕ) (l : ClassedLine) → class_of c l.bytes ≡ l.class → IsNamed n l.class → is_prefix_name n ≡ false → IsAssigned l
+assigned-there c n l h m f =
+    let g : is_prefix_name (unit_text joined_byte m.assigned.name) ≡ false = subst (λ z. is_prefix_name z ≡ false) (sym m.name_is) f in
+    let p : m.sets ≡ None = prefix-of_class c l.bytes m.assigned m.sets (h ∙ m.class_is) ∙ no_prefix-set (nat_lt 0 c.conditionals) m.assigned g in
+    record { assigned = m.assigned; class_is = m.class_is ∙ ap (Assign m.assigned) p; no_prefix = g }
+
+-- a line that assigns a name other than that of the prefix, in its context
+pub assigned-in_context : (c : Context) (n : List ℕ) (l : ClassedLine) → class_of c l.bytes ≡ l.class → assigns n l.class ≡ true → is_prefix_name n ≡ false → IsAssigned l
+assigned-in_context c n l h k f = assigned-there c n l h (assigns-named n l.class k) f
+
+named-assigned : (t n : List ℕ) (A : List ClassedLine) (l : ClassedLine) (B : List ClassedLine) → classed_lines t ≡ A ++ l ∷ B → IsNamed n l.class → is_prefix_name n ≡ false → IsAssigned l
+named-assigned t n A l B h m f = assigned-there (context_of A) n l (line-in_text t A l B h).class m f
+
+-- so is each line of a text that assigns a name other than that of the prefix
+pub assigned-by_name : (t n : List ℕ) (A : List ClassedLine) (l : ClassedLine) (B : List ClassedLine) → classed_lines t ≡ A ++ l ∷ B → assigns n l.class ≡ true → is_prefix_name n ≡ false → IsAssigned l
+assigned-by_name t n A l B h k f = named-assigned t n A l B h (assigns-named n l.class k) f
+
+-- and each that reads as an assignment of such a name
+pub assigned-by_item : (t : List ℕ) (A : List ClassedLine) (l : ClassedLine) (B : List ClassedLine) (a : Assignment Cell) (v : List ℕ) → classed_lines t ≡ A ++ l ∷ B
+    → items_of_line l.class l.bytes ≡ item_with_value a v ∷ [] → is_prefix_name (unit_text joined_byte a.name) ≡ false → IsAssigned l
+assigned-by_item t A l B a v h i f = named-assigned t (unit_text joined_byte a.name) A l B h (read-named l.class l.bytes a v i) f
+
 -- the assignment that an address means
 pub record FoundAssignment (t n : List ℕ) (nth : Option ℕ) : Type 0 where
   pub spot : StandingLine
@@ -77,15 +125,12 @@ pub assignment-found : (t n : List ℕ) (nth : Option ℕ) → is_missing nth (s
 assignment-found t n nth h k f =
     let s = spot-picked nth (spots (λ l. assigns n l.class) (classed_lines t)) h k in
     let q = picked-is (λ l. assigns n l.class) (classed_lines t) nth s.0 s.1 in
-    let m = assigns-named n s.0.line.class q.passes in
-    let L = line-in_text t s.0.above s.0.line s.0.below q.whole in
-    let g : is_prefix_name (unit_text joined_byte m.assigned.name) ≡ false = subst (λ z. is_prefix_name z ≡ false) (sym m.name_is) f in
-    let p : m.sets ≡ None = prefix-of_class (context_of s.0.above) s.0.line.bytes m.assigned m.sets (L.class ∙ m.class_is) ∙ no_prefix-set (nat_lt 0 (context_of s.0.above).conditionals) m.assigned g in
+    let m = assigned-by_name t n s.0.above s.0.line s.0.below q.whole q.passes f in
     record {
       spot = s.0;
       found_is = s.1;
       whole = q.whole;
       assigned = m.assigned;
-      class_is = m.class_is ∙ ap (Assign m.assigned) p;
-      no_prefix = g;
+      class_is = m.class_is;
+      no_prefix = m.no_prefix;
     }

@@ -40,9 +40,9 @@ use Rattle.mk_edit_language.specs.Edits.{RemoveWord}
 use Rattle.mk_edit_language.specs.Addresses.{Variable, found}
 use Rattle.mk_edit_language.specs.ValueSpans.{value_start, set_value_span}
 use Rattle.mk_edit_language.specs.WordPieces.{is_word_of}
-use Rattle.mk_edit_language.specs.ValueWords.{LedWord, led_words, staying, led_units, from_first_word, first_gaps, pieces_after, remove_word_pieces, remove_word_spans}
+use Rattle.mk_edit_language.specs.ValueWords.{assignment_passes, LedWord, led_words, staying, led_units, from_first_word, first_gaps, pieces_after, remove_word_pieces, remove_word_spans}
 use Rattle.mk_edit_language.specs.ArgumentCauses.{is_value_word}
-use Rattle.mk_edit_language.specs.RuleCauses.{class_found, assignment_passes}
+use Rattle.mk_edit_language.specs.RuleCauses.{class_found}
 use Rattle.mk_edit_language.specs.LineCauses.{has_open_value, bares_end, bares_end_among}
 use Rattle.mk_edit_language.specs.Refusals.{spans, text_by, text_after}
 use Rattle.mk_edit_language.specs.Changes.{change, item_with_value, value_without, value_set}

@@ -14,14 +14,15 @@ pub fn lengths_add_up()
     ensures { LengthsAddUp }
 {}
 
-/// The spans of an accepted edit, other than a rename, stand within lines that follow one another.
-/// These are at most as many lines as the edit's size says.
+/// The spans of an accepted edit, other than a rename and a change of every value of a name, stand
+/// within lines that follow one another. These are at most as many lines as the edit's size says.
 pub fn spans_touch_few_lines()
     ensures { SpansTouchFewLines }
 {}
 
-/// After an accepted edit, other than a rename, the lines are the lines above those that it
-/// touches, the edited lines with their bytes and their classes, and the lines below.
+/// After an accepted edit, other than a rename and a change of every value of a name, the lines are
+/// the lines above those that it touches, the edited lines with their bytes and their classes, and
+/// the lines below.
 ///
 /// If the edit takes lines out, there is no edited line. If it puts a line in, the edited line is
 /// the new line with the file's line end, and a last line above it without a line end gets one.
@@ -40,12 +41,12 @@ pub fn edited_lines_stand()
 /// that is removed is one line less; a rule that is removed takes with it the lines down to its
 /// last recipe line. The lines above and below are as before, with their classes.
 ///
-/// After a rename each line stands in its place, and is the line before with the new word in the
-/// place of each old one: it is one logical line, it has its class in the same context, and it is
-/// of no conditional if a word in it is renamed. The contexts between lines are as before. A line
-/// without a word to rename is the same, with its class, and at most as many lines differ as the
-/// rename costs. The spans stand within the other lines, and the greatest number of conditionals
-/// open at once is as before.
+/// A rename and a change of every value of a name change lines that may stand apart. After such an
+/// edit each line stands in its place, and is the line before with its spans replaced: it is one
+/// logical line, it has its class in the same context, and it is of no conditional if the edit
+/// changes it. The contexts between lines are as before. A line that the edit does not change is the
+/// same, with its class, and at most as many lines differ as the edit costs. The spans stand within
+/// the other lines, and the greatest number of conditionals open at once is as before.
 pub fn edits_keep_others()
     ensures { EditsKeepOthers }
 {}

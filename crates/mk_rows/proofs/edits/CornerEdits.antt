@@ -5,7 +5,8 @@ use Rattle.mk_class.specs.declared.assignment.Flavor.TheVariants.{Recursive, Sim
 use Rattle.mk_edit_language.specs.declared.edit.RuleSeparator.TheVariants.{Single, Double}
 use Rattle.mk_edit_language.specs.declared.refusal.Refusal.TheVariants.{BadArgument, Reserved, RecipePrefix, NoSuch, Ambiguous, Absent, Already, Taken, SharedRule, Straddles, OpenValue, OpenLine, OpenDefine, Leans}
 use Rattle.mk_edit_language.specs.Edits.{Bottom, BeforeVar, AfterVar, BeforeRule}
-use Rattle.mk_edit_language.specs.Edits.{SetValue, AppendValue, RemoveWord, AddAssign, RemoveAssign, AddRule, RemoveRule, AddPrereq, RemovePrereq, AddRecipe, SetRecipe, RemoveRecipe, RenameTarget}
+use Rattle.mk_edit_language.specs.Edits.{SetValue, AppendValue, RemoveWord, ChangeValues, AddAssign, RemoveAssign, AddRule, RemoveRule, AddPrereq, RemovePrereq, AddRecipe, SetRecipe, RemoveRecipe, RenameTarget}
+use Rattle.mk_edit_language.specs.Edits as edits
 use Rattle.mk_rows.proofs.edits.Outcomes.{account, span}
 use Rattle.mk_rows.proofs.edits.Outcomes.{Becomes, Accepted, NotMade}
 use Rattle.mk_edit_language.specs.declared.refusal.Field.TheVariants as field
@@ -4620,3 +4621,30 @@ row_drop_016 = refl
 
 row_drop_017 : account (codes "F = a\\\\ b z\n") (RemoveWord None (codes "F") (codes "z")) ≡ Accepted 1 1 (span 9 11 [] ∷ []) (Becomes (codes "F = a\\\\ b\n"))
 row_drop_017 = refl
+
+row_all_001 : account (codes "X = 1\nX =\\\n \\\n") (ChangeValues (codes "X") (edits.Set [])) ≡ Accepted 2 2 (span 4 5 [] ∷ span 12 13 [] ∷ []) (Becomes (codes "X = \nX =\\\n \n"))
+row_all_001 = refl
+
+row_all_002 : account (codes "F = -g $(a\nF = b\n") (ChangeValues (codes "F") (edits.Add (codes "-g"))) ≡ Accepted 1 1 (span 16 16 (codes " -g") ∷ []) (Becomes (codes "F = -g $(a\nF = b -g\n"))
+row_all_002 = refl
+
+row_all_003 : account (codes "F = -g b\nF = a\\\\ -g# c\n") (ChangeValues (codes "F") (edits.Remove (codes "-g"))) ≡ NotMade 2 OpenValue
+row_all_003 = refl
+
+row_all_004 : account (codes "F = -g a\nF = b\nF = c -g\n") (ChangeValues (codes "F") (edits.Remove (codes "-g"))) ≡ Accepted 2 2 (span 4 7 [] ∷ span 20 23 [] ∷ []) (Becomes (codes "F = a\nF = b\nF = c\n"))
+row_all_004 = refl
+
+row_all_005 : account (codes "F = a\nt: F = a\n") (ChangeValues (codes "F") (edits.Set (codes "b"))) ≡ Accepted 1 1 (span 4 5 (codes "b") ∷ []) (Becomes (codes "F = b\nt: F = a\n"))
+row_all_005 = refl
+
+row_all_006 : account (codes "ifdef A\nF = a\nelse\nF = b\nendif\ndefine D\nF = c\nendef\n") (ChangeValues (codes "F") (edits.Set (codes "x"))) ≡ Accepted 2 2 (span 12 13 (codes "x") ∷ span 23 24 (codes "x") ∷ []) (Becomes (codes "ifdef A\nF = x\nelse\nF = x\nendif\ndefine D\nF = c\nendef\n"))
+row_all_006 = refl
+
+row_all_007 : account (codes "F = a\nF = a\n") (ChangeValues (codes "F") (edits.Set (codes "a"))) ≡ Accepted 2 2 (span 4 5 (codes "a") ∷ span 10 11 (codes "a") ∷ []) (Becomes (codes "F = a\nF = a\n"))
+row_all_007 = refl
+
+row_all_008 : account (codes "F = -g\nF = -g\n") (ChangeValues (codes "F") (edits.Add (codes "-g"))) ≡ NotMade 0 Already
+row_all_008 = refl
+
+row_all_009 : account (codes "F = $(a\nF = b\n") (ChangeValues (codes "F") (edits.Append (codes "c"))) ≡ NotMade 2 OpenValue
+row_all_009 = refl

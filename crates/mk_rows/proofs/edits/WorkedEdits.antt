@@ -5,7 +5,8 @@ use Rattle.mk_class.specs.declared.assignment.Flavor.TheVariants.{Recursive, Sim
 use Rattle.mk_edit_language.specs.declared.edit.RuleSeparator.TheVariants.{Single, Double}
 use Rattle.mk_edit_language.specs.declared.refusal.Refusal.TheVariants.{BadArgument, Reserved, RecipePrefix, NoSuch, Ambiguous, Absent, Already, Taken, SharedRule, Straddles, OpenValue, OpenLine, OpenDefine, Leans}
 use Rattle.mk_edit_language.specs.Edits.{Bottom, BeforeVar, AfterVar, BeforeRule}
-use Rattle.mk_edit_language.specs.Edits.{SetValue, AppendValue, AddWord, RemoveWord, AddAssign, RemoveAssign, AddRule, RemoveRule, AddPrereq, RemovePrereq, AddRecipe, SetRecipe, RemoveRecipe, InsertRecipe, SetRecipeByText, RemoveRecipeByText, RenameTarget}
+use Rattle.mk_edit_language.specs.Edits.{SetValue, AppendValue, AddWord, RemoveWord, ChangeValues, AddAssign, RemoveAssign, AddRule, RemoveRule, AddPrereq, RemovePrereq, AddRecipe, SetRecipe, RemoveRecipe, InsertRecipe, SetRecipeByText, RemoveRecipeByText, RenameTarget}
+use Rattle.mk_edit_language.specs.Edits as edits
 use Rattle.mk_rows.proofs.edits.Outcomes.{outcome}
 use Rattle.mk_rows.proofs.edits.Outcomes.{Becomes, Refused}
 use Rattle.mk_edit_language.specs.declared.refusal.Field.TheVariants as field
@@ -498,3 +499,60 @@ row_recipe_remove_of_an_empty_line = refl
 
 row_recipe_replace_counts_a_line_by_its_whole_text : outcome (codes "c:\n\ttrue \n\ttrue\n") (SetRecipeByText None (codes "c") (codes "true") (codes "x")) ≡ Becomes (codes "c:\n\ttrue \n\tx\n")
 row_recipe_replace_counts_a_line_by_its_whole_text = refl
+
+row_all_set_changes_each_line : outcome (codes "X = a\nifdef A\nX := b # c\nendif\nX=c\nY = 1\n") (ChangeValues (codes "X") (edits.Set (codes "1"))) ≡ Becomes (codes "X = 1\nifdef A\nX := 1 # c\nendif\nX=1\nY = 1\n")
+row_all_set_changes_each_line = refl
+
+row_all_set_of_one_line : outcome (codes "X = a\n") (ChangeValues (codes "X") (edits.Set (codes "b"))) ≡ Becomes (codes "X = b\n")
+row_all_set_of_one_line = refl
+
+row_all_append_writes_to_each_line : outcome (codes "F = -g # c\nF += \\\n -O2\nF =\n") (ChangeValues (codes "F") (edits.Append (codes "-W"))) ≡ Becomes (codes "F = -g -W # c\nF += \\\n -O2 -W\nF =-W\n")
+row_all_append_writes_to_each_line = refl
+
+row_all_add_leaves_the_lines_that_have_the_word : outcome (codes "F = -g\nF += -O2\noverride F = $(A -g)\n") (ChangeValues (codes "F") (edits.Add (codes "-g"))) ≡ Becomes (codes "F = -g\nF += -O2 -g\noverride F = $(A -g) -g\n")
+row_all_add_leaves_the_lines_that_have_the_word = refl
+
+row_all_add_where_each_line_has_the_word_is_refused : outcome (codes "F = -g\nF += -O2 -g\n") (ChangeValues (codes "F") (edits.Add (codes "-g"))) ≡ Refused Already
+row_all_add_where_each_line_has_the_word_is_refused = refl
+
+row_all_drop_leaves_the_lines_that_lack_the_word : outcome (codes "F = -g \\\n  -O2\nF += -O3\nF += -W -g # c\n") (ChangeValues (codes "F") (edits.Remove (codes "-g"))) ≡ Becomes (codes "F = -O2\nF += -O3\nF += -W # c\n")
+row_all_drop_leaves_the_lines_that_lack_the_word = refl
+
+row_all_drop_where_no_line_has_the_word_is_refused : outcome (codes "F = -O2\nF += -O3\n") (ChangeValues (codes "F") (edits.Remove (codes "-g"))) ≡ Refused Absent
+row_all_drop_where_no_line_has_the_word_is_refused = refl
+
+row_all_drop_empties_a_value : outcome (codes "F = -g # c\nF += -g\n") (ChangeValues (codes "F") (edits.Remove (codes "-g"))) ≡ Becomes (codes "F = # c\nF += \n")
+row_all_drop_empties_a_value = refl
+
+row_all_set_of_a_name_that_no_line_has_is_refused : outcome (codes "X = 1\nt: F = 2\n") (ChangeValues (codes "F") (edits.Set (codes "1"))) ≡ Refused NoSuch
+row_all_set_of_a_name_that_no_line_has_is_refused = refl
+
+row_all_set_leaves_assignments_for_targets : outcome (codes "X = 1\nt: X = 2\nX = 3\n") (ChangeValues (codes "X") (edits.Set (codes "4"))) ≡ Becomes (codes "X = 4\nt: X = 2\nX = 4\n")
+row_all_set_leaves_assignments_for_targets = refl
+
+row_all_append_to_one_open_value_is_refused : outcome (codes "F = a\nF += $(b\nF += c\n") (ChangeValues (codes "F") (edits.Append (codes "d"))) ≡ Refused OpenValue
+row_all_append_to_one_open_value_is_refused = refl
+
+row_all_drop_asks_no_line_that_it_leaves : outcome (codes "F = -g a\nF += $(b\nF += a\\\\\n") (ChangeValues (codes "F") (edits.Remove (codes "-g"))) ≡ Becomes (codes "F = a\nF += $(b\nF += a\\\\\n")
+row_all_drop_asks_no_line_that_it_leaves = refl
+
+row_all_drop_after_backslashes_is_refused : outcome (codes "F = -g\nF += a\\\\ -g# c\n") (ChangeValues (codes "F") (edits.Remove (codes "-g"))) ≡ Refused OpenValue
+row_all_drop_after_backslashes_is_refused = refl
+
+row_all_add_to_a_value_that_ends_in_a_fold_is_refused : outcome (codes "F = b\nF += a$\\\n\n") (ChangeValues (codes "F") (edits.Add (codes "b"))) ≡ Refused OpenValue
+row_all_add_to_a_value_that_ends_in_a_fold_is_refused = refl
+
+row_all_set_of_the_recipe_prefix_is_refused : outcome (codes ".RECIPEPREFIX = >\n.RECIPEPREFIX = @\n") (ChangeValues (codes ".RECIPEPREFIX") (edits.Set (codes "%"))) ≡ Refused Reserved
+row_all_set_of_the_recipe_prefix_is_refused = refl
+
+row_all_below_a_prefix_that_is_not_read_is_refused : outcome (codes "ifdef A\n.RECIPEPREFIX = >\nendif\nX = 1\n") (ChangeValues (codes "X") (edits.Set (codes "2"))) ≡ Refused RecipePrefix
+row_all_below_a_prefix_that_is_not_read_is_refused = refl
+
+row_all_of_a_variable_named_all : outcome (codes "all = 1\nall = 2\nall: x\n") (ChangeValues (codes "all") (edits.Set (codes "all"))) ≡ Becomes (codes "all = all\nall = all\nall: x\n")
+row_all_of_a_variable_named_all = refl
+
+row_all_set_at_the_end_without_a_line_end : outcome (codes "X = 1\nX = \\\n2") (ChangeValues (codes "X") (edits.Set (codes "3"))) ≡ Becomes (codes "X = 3\nX = \\\n3")
+row_all_set_at_the_end_without_a_line_end = refl
+
+row_all_set_with_lines_that_end_in_cr_lf : outcome (codes "X = 1\r\nX = 2 \\\r\n 3\r\n") (ChangeValues (codes "X") (edits.Set (codes "4"))) ≡ Becomes (codes "X = 4\r\nX = 4\r\n")
+row_all_set_with_lines_that_end_in_cr_lf = refl

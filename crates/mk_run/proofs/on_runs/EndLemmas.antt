@@ -11,7 +11,7 @@ use Rattle.mk_session.specs.Sessions.{answer, IsRefusedBy}
 use Rattle.mk_run.specs.Runs.{ended, shown_or}
 
 -- what `end` of a session leaves
-pub ended-is : (result : Result (Unit {0}) Refusal) (old new : Shown (List ℕ)) → OnOk result (answer End old ≡ Ok new) → IfErr result (λ r. IsRefusedBy (answer End old) r) → OnErr result (new ≡ old) → new ≡ ended old
+pub ended-is : {X : Type 0} (result : Result X Refusal) (old new : Shown (List ℕ)) → OnOk result (answer End old ≡ Ok new) → IfErr result (λ r. IsRefusedBy (answer End old) r) → OnErr result (new ≡ old) → new ≡ ended old
 ended-is (Ok u) old new done refused same = sym (ap (shown_or old) done)
 ended-is (Err r) old new done refused same = go (answer End old) refl refused
   where

@@ -5,7 +5,8 @@ use Rattle.std.specs.Fmt.{digits}
 use Rattle.mk_class.specs.declared.assignment.Flavor.TheVariants.{Recursive, Simple}
 use Rattle.mk_edit_language.specs.declared.edit.RuleSeparator.TheVariants.{Single}
 use Rattle.mk_edit_language.specs.Edits.{Bottom, BeforeVar}
-use Rattle.mk_edit_language.specs.Edits.{SetValue, AppendValue, AddWord, AddAssign, RemoveAssign, AddRule, RemoveRule, AddPrereq, RemovePrereq, AddRecipe, SetRecipe, RemoveRecipe, SetRecipeByText, RenameTarget}
+use Rattle.mk_edit_language.specs.Edits.{SetValue, AppendValue, AddWord, AddAssign, RemoveAssign, AddRule, RemoveRule, AddPrereq, RemovePrereq, AddRecipe, SetRecipe, RemoveRecipe, SetRecipeByText, RenameTarget, ChangeValues}
+use Rattle.mk_edit_language.specs.Edits as edits
 use Rattle.mk_history.specs.Machine.{Apply, Undo, Redo, Begin, End, Cancel}
 use Rattle.mk_history.specs.Shown.{shown_opened}
 use Rattle.mk_script.specs.Scripts.{Step}
@@ -191,3 +192,24 @@ row_add_of_two_words_is_refused = refl
 row_recipe_replace_tests_the_old_text : came_to false 100 (codes "c:\n\ta\n") (on_line 1 (Apply (SetRecipeByText None (codes "c") (codes "a\\") (codes "x"))) ∷ []) ≡ ends (Refused 1) (codes "1: refused 1 BadArgument old\n") None
 unfolding digits
 row_recipe_replace_tests_the_old_text = refl
+
+row_all_set_of_the_value_that_is_there : came_to true 100 (codes "X = 1\nX = 2\n") (on_line 1 (Apply (ChangeValues (codes "X") (edits.Set (codes "1")))) ∷ on_line 2 Undo ∷ on_line 3 Undo ∷ []) ≡ ends (Refused 1) (codes "3: refused 16 NothingToUndo\n") (Some (codes "X = 1\nX = 2\n"))
+unfolding digits
+row_all_set_of_the_value_that_is_there = refl
+
+row_all_tests_its_fields : came_to true 100 (codes "F = 1\nF = 2\n") (on_line 1 (Apply (ChangeValues (codes "F") (edits.Set (codes "a ")))) ∷ on_line 2 (Apply (ChangeValues (codes "F") (edits.Append []))) ∷ on_line 3 (Apply (ChangeValues (codes "F") (edits.Add (codes "a b")))) ∷ on_line 4 (Apply (ChangeValues (codes "$(F)") (edits.Remove (codes "a")))) ∷ []) ≡ ends (Refused 4) (codes "1: refused 1 BadArgument value\n2: refused 1 BadArgument value\n3: refused 1 BadArgument word\n4: refused 1 BadArgument name\n") (Some (codes "F = 1\nF = 2\n"))
+unfolding digits
+row_all_tests_its_fields = refl
+
+row_all_is_one_edit_for_undo_and_redo : came_to false 100 (codes "X = 1\nX = 2\nX = 3\n") (on_line 1 (Apply (ChangeValues (codes "X") (edits.Set (codes "9")))) ∷ on_line 2 Undo ∷ on_line 3 Redo ∷ on_line 4 (Apply (ChangeValues (codes "X") (edits.Append (codes "8")))) ∷ on_line 5 Undo ∷ []) ≡ ends Done [] (Some (codes "X = 9\nX = 9\nX = 9\n"))
+row_all_is_one_edit_for_undo_and_redo = refl
+
+row_all_is_one_edit_of_the_depth : came_to true 1 (codes "X = 1\nX = 2\n") (on_line 1 (Apply (ChangeValues (codes "X") (edits.Set (codes "3")))) ∷ on_line 2 (Apply (ChangeValues (codes "X") (edits.Set (codes "4")))) ∷ on_line 3 Undo ∷ on_line 4 Undo ∷ []) ≡ ends (Refused 1) (codes "4: refused 16 NothingToUndo\n") (Some (codes "X = 3\nX = 3\n"))
+unfolding digits
+row_all_is_one_edit_of_the_depth = refl
+
+row_all_in_a_group : came_to false 100 (codes "X = 1\nX = 2\nY = 1\n") (on_line 1 Begin ∷ on_line 2 (Apply (ChangeValues (codes "X") (edits.Set (codes "3")))) ∷ on_line 3 (Apply (SetValue None (codes "Y") (codes "2"))) ∷ on_line 4 Cancel ∷ on_line 5 (Apply (ChangeValues (codes "X") (edits.Set (codes "4")))) ∷ []) ≡ ends Done [] (Some (codes "X = 4\nX = 4\nY = 1\n"))
+row_all_in_a_group = refl
+
+row_all_and_the_edit_of_one_of_the_lines : came_to false 100 (codes "X = 1\nX = 2\n") (on_line 1 (Apply (SetValue (Some 2) (codes "X") (codes "3"))) ∷ on_line 2 (Apply (ChangeValues (codes "X") (edits.Append (codes "a")))) ∷ on_line 3 (Apply (RemoveAssign (Some 1) (codes "X"))) ∷ on_line 4 (Apply (ChangeValues (codes "X") (edits.Set (codes "4")))) ∷ []) ≡ ends Done [] (Some (codes "X = 4\n"))
+row_all_and_the_edit_of_one_of_the_lines = refl

@@ -5,7 +5,8 @@ use Rattle.bstr.specs.Text.{line_len, lines_from}
 use Rattle.mk_class.specs.declared.assignment.Flavor.TheVariants.{Recursive, Simple, PosixSimple, Immediate, Conditional, Append, Shell}
 use Rattle.mk_edit_language.specs.declared.edit.RuleSeparator.TheVariants.{Single, Double}
 use Rattle.mk_edit_language.specs.Edits.{Bottom, BeforeVar, AfterVar, BeforeRule}
-use Rattle.mk_edit_language.specs.Edits.{SetValue, AppendValue, AddAssign, RemoveAssign, AddRule, RemoveRule, AddPrereq, RemovePrereq, AddRecipe, SetRecipe, RemoveRecipe, RenameTarget}
+use Rattle.mk_edit_language.specs.Edits.{SetValue, AppendValue, AddAssign, RemoveAssign, AddRule, RemoveRule, AddPrereq, RemovePrereq, AddRecipe, SetRecipe, RemoveRecipe, RenameTarget, ChangeValues}
+use Rattle.mk_edit_language.specs.Edits as edits
 use Rattle.mk_history.specs.Machine.{Apply, Undo, Redo, Begin, End, Cancel}
 use Rattle.mk_script.specs.Scripts.{Chain}
 use Rattle.mk_run_rows.proofs.scripts.ScriptReader.{on_line, edit_on, tried_on, read_script}
@@ -609,3 +610,107 @@ row_a_target_called_or = refl
 row_try_in_capitals : read_script (codes "Try set X 1") ≡ Err 1
 unfolding line_len lines_from
 row_try_in_capitals = refl
+
+row_all_before_set : read_script (codes "all set X 1") ≡ Ok (on_line 1 (Apply (ChangeValues (codes "X") (edits.Set (codes "1")))) ∷ [])
+unfolding line_len lines_from
+row_all_before_set = refl
+
+row_all_before_append : read_script (codes "all append X a b") ≡ Err 1
+unfolding line_len lines_from
+row_all_before_append = refl
+
+row_all_before_append_of_a_quoted_text : read_script (codes "all append X \"a b\"") ≡ Ok (on_line 1 (Apply (ChangeValues (codes "X") (edits.Append (codes "a b")))) ∷ [])
+unfolding line_len lines_from
+row_all_before_append_of_a_quoted_text = refl
+
+row_all_before_add_in_quotes : read_script (codes "\"all\" \"add\" X -g") ≡ Ok (on_line 1 (Apply (ChangeValues (codes "X") (edits.Add (codes "-g")))) ∷ [])
+unfolding line_len lines_from
+row_all_before_add_in_quotes = refl
+
+row_all_before_drop : read_script (codes "\tall  drop\tX -g ") ≡ Ok (on_line 1 (Apply (ChangeValues (codes "X") (edits.Remove (codes "-g")))) ∷ [])
+unfolding line_len lines_from
+row_all_before_drop = refl
+
+row_all_with_an_empty_value : read_script (codes "all set X \"\"") ≡ Ok (on_line 1 (Apply (ChangeValues (codes "X") (edits.Set []))) ∷ [])
+unfolding line_len lines_from
+row_all_with_an_empty_value = refl
+
+row_all_without_a_value : read_script (codes "all set X") ≡ Err 1
+unfolding line_len lines_from
+row_all_without_a_value = refl
+
+row_all_alone : read_script (codes "set X 1\nall") ≡ Err 2
+unfolding line_len lines_from
+row_all_alone = refl
+
+row_all_in_capitals : read_script (codes "All set X 1") ≡ Err 1
+unfolding line_len lines_from
+row_all_in_capitals = refl
+
+row_all_and_a_letter : read_script (codes "alls set X 1") ≡ Err 1
+unfolding line_len lines_from
+row_all_and_a_letter = refl
+
+row_a_variable_called_all : read_script (codes "set all all\nall drop all all") ≡ Ok (on_line 1 (Apply (SetValue None (codes "all") (codes "all"))) ∷ on_line 2 (Apply (ChangeValues (codes "all") (edits.Remove (codes "all")))) ∷ [])
+unfolding line_len lines_from
+row_a_variable_called_all = refl
+
+row_a_target_called_all : read_script (codes "unrule all\nrule bottom all : all") ≡ Ok (on_line 1 (Apply (RemoveRule None (codes "all"))) ∷ on_line 2 (Apply (AddRule Bottom (codes "all") Single (codes "all"))) ∷ [])
+unfolding line_len lines_from
+row_a_target_called_all = refl
+
+row_all_before_unset : read_script (codes "all unset X") ≡ Err 1
+unfolding line_len lines_from
+row_all_before_unset = refl
+
+row_all_before_assign : read_script (codes "all assign bottom X = 1") ≡ Err 1
+unfolding line_len lines_from
+row_all_before_assign = refl
+
+row_all_before_depend : read_script (codes "all depend a b") ≡ Err 1
+unfolding line_len lines_from
+row_all_before_depend = refl
+
+row_all_before_rename : read_script (codes "all rename a b") ≡ Err 1
+unfolding line_len lines_from
+row_all_before_rename = refl
+
+row_all_before_undo : read_script (codes "all undo") ≡ Err 1
+unfolding line_len lines_from
+row_all_before_undo = refl
+
+row_all_before_all : read_script (codes "all all set X 1") ≡ Err 1
+unfolding line_len lines_from
+row_all_before_all = refl
+
+row_all_before_nth : read_script (codes "all nth 1 set X 1") ≡ Err 1
+unfolding line_len lines_from
+row_all_before_nth = refl
+
+row_nth_before_all : read_script (codes "nth 1 all set X 1") ≡ Err 1
+unfolding line_len lines_from
+row_nth_before_all = refl
+
+row_all_before_try : read_script (codes "all try set X 1") ≡ Err 1
+unfolding line_len lines_from
+row_all_before_try = refl
+
+row_all_before_or : read_script (codes "set X 1\nall or set X 2") ≡ Err 2
+unfolding line_len lines_from
+row_all_before_or = refl
+
+row_all_behind_the_edit : read_script (codes "set all X 1") ≡ Err 1
+unfolding line_len lines_from
+row_all_behind_the_edit = refl
+
+row_all_behind_try : read_script (codes "try all set X 1") ≡ Ok (tried_on 1 (ChangeValues (codes "X") (edits.Set (codes "1"))) ∷ [])
+unfolding line_len lines_from
+row_all_behind_try = refl
+
+row_all_in_a_chain : read_script (codes "all add X a\nor all set X b\nor set Y c") ≡ Ok (Chain (edit_on 1 (ChangeValues (codes "X") (edits.Add (codes "a")))) (edit_on 2 (ChangeValues (codes "X") (edits.Set (codes "b")))) ((edit_on 3 (SetValue None (codes "Y") (codes "c"))) ∷ []) ∷ [])
+unfolding line_len lines_from
+row_all_in_a_chain = refl
+
+row_all_of_an_operator_called_append : read_script (codes "all append X +=\nassign bottom X += 1") ≡ Ok (on_line 1 (Apply (ChangeValues (codes "X") (edits.Append (codes "+=")))) ∷ on_line 2 (Apply (AddAssign Bottom (codes "X") Append (codes "1"))) ∷ [])
+unfolding line_len lines_from
+row_all_of_an_operator_called_append = refl

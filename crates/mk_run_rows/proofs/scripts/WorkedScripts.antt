@@ -5,7 +5,8 @@ use Rattle.bstr.specs.Text.{line_len, lines_from}
 use Rattle.mk_class.specs.declared.assignment.Flavor.TheVariants.{Recursive, Simple}
 use Rattle.mk_edit_language.specs.declared.edit.RuleSeparator.TheVariants.{Single, Double}
 use Rattle.mk_edit_language.specs.Edits.{Bottom, BeforeVar, AfterVar, BeforeRule}
-use Rattle.mk_edit_language.specs.Edits.{SetValue, AppendValue, AddWord, RemoveWord, AddAssign, RemoveAssign, AddRule, RemoveRule, AddPrereq, RemovePrereq, AddRecipe, SetRecipe, RemoveRecipe, InsertRecipe, SetRecipeByText, RemoveRecipeByText, RenameTarget}
+use Rattle.mk_edit_language.specs.Edits.{SetValue, AppendValue, AddWord, RemoveWord, AddAssign, RemoveAssign, AddRule, RemoveRule, AddPrereq, RemovePrereq, AddRecipe, SetRecipe, RemoveRecipe, InsertRecipe, SetRecipeByText, RemoveRecipeByText, RenameTarget, ChangeValues}
+use Rattle.mk_edit_language.specs.Edits as edits
 use Rattle.mk_history.specs.Machine.{Apply, Undo, Redo, Begin, End, Cancel}
 use Rattle.mk_run_rows.proofs.scripts.ScriptReader.{on_line, read_script}
 
@@ -552,3 +553,99 @@ row_recipe_remove_of_an_empty_line = refl
 row_recipe_replace_counts_a_line_by_its_whole_text : read_script (codes "recipe-replace c true x") ≡ Ok (on_line 1 (Apply (SetRecipeByText None (codes "c") (codes "true") (codes "x"))) ∷ [])
 unfolding line_len lines_from
 row_recipe_replace_counts_a_line_by_its_whole_text = refl
+
+row_all_set_changes_each_line : read_script (codes "all set X 1\n") ≡ Ok (on_line 1 (Apply (ChangeValues (codes "X") (edits.Set (codes "1")))) ∷ [])
+unfolding line_len lines_from
+row_all_set_changes_each_line = refl
+
+row_all_set_of_one_line : read_script (codes "all set X b\n") ≡ Ok (on_line 1 (Apply (ChangeValues (codes "X") (edits.Set (codes "b")))) ∷ [])
+unfolding line_len lines_from
+row_all_set_of_one_line = refl
+
+row_all_set_of_the_value_that_is_there : read_script (codes "all set X 1\nundo\nundo\n") ≡ Ok (on_line 1 (Apply (ChangeValues (codes "X") (edits.Set (codes "1")))) ∷ on_line 2 Undo ∷ on_line 3 Undo ∷ [])
+unfolding line_len lines_from
+row_all_set_of_the_value_that_is_there = refl
+
+row_all_append_writes_to_each_line : read_script (codes "all append F -W\n") ≡ Ok (on_line 1 (Apply (ChangeValues (codes "F") (edits.Append (codes "-W")))) ∷ [])
+unfolding line_len lines_from
+row_all_append_writes_to_each_line = refl
+
+row_all_add_leaves_the_lines_that_have_the_word : read_script (codes "all add F -g\n") ≡ Ok (on_line 1 (Apply (ChangeValues (codes "F") (edits.Add (codes "-g")))) ∷ [])
+unfolding line_len lines_from
+row_all_add_leaves_the_lines_that_have_the_word = refl
+
+row_all_drop_leaves_the_lines_that_lack_the_word : read_script (codes "all drop F -g\n") ≡ Ok (on_line 1 (Apply (ChangeValues (codes "F") (edits.Remove (codes "-g")))) ∷ [])
+unfolding line_len lines_from
+row_all_drop_leaves_the_lines_that_lack_the_word = refl
+
+row_all_set_of_a_name_that_no_line_has_is_refused : read_script (codes "all set F 1\n") ≡ Ok (on_line 1 (Apply (ChangeValues (codes "F") (edits.Set (codes "1")))) ∷ [])
+unfolding line_len lines_from
+row_all_set_of_a_name_that_no_line_has_is_refused = refl
+
+row_all_set_leaves_assignments_for_targets : read_script (codes "all set X 4\n") ≡ Ok (on_line 1 (Apply (ChangeValues (codes "X") (edits.Set (codes "4")))) ∷ [])
+unfolding line_len lines_from
+row_all_set_leaves_assignments_for_targets = refl
+
+row_all_append_to_one_open_value_is_refused : read_script (codes "all append F d\n") ≡ Ok (on_line 1 (Apply (ChangeValues (codes "F") (edits.Append (codes "d")))) ∷ [])
+unfolding line_len lines_from
+row_all_append_to_one_open_value_is_refused = refl
+
+row_all_add_to_a_value_that_ends_in_a_fold_is_refused : read_script (codes "all add F b\n") ≡ Ok (on_line 1 (Apply (ChangeValues (codes "F") (edits.Add (codes "b")))) ∷ [])
+unfolding line_len lines_from
+row_all_add_to_a_value_that_ends_in_a_fold_is_refused = refl
+
+row_all_tests_its_fields : read_script (codes "all set F \"a \"\nall append F \"\"\nall add F \"a b\"\nall drop $(F) a\n") ≡ Ok (on_line 1 (Apply (ChangeValues (codes "F") (edits.Set (codes "a ")))) ∷ on_line 2 (Apply (ChangeValues (codes "F") (edits.Append []))) ∷ on_line 3 (Apply (ChangeValues (codes "F") (edits.Add (codes "a b")))) ∷ on_line 4 (Apply (ChangeValues (codes "$(F)") (edits.Remove (codes "a")))) ∷ [])
+unfolding line_len lines_from
+row_all_tests_its_fields = refl
+
+row_all_set_of_the_recipe_prefix_is_refused : read_script (codes "all set .RECIPEPREFIX %\n") ≡ Ok (on_line 1 (Apply (ChangeValues (codes ".RECIPEPREFIX") (edits.Set (codes "%")))) ∷ [])
+unfolding line_len lines_from
+row_all_set_of_the_recipe_prefix_is_refused = refl
+
+row_all_below_a_prefix_that_is_not_read_is_refused : read_script (codes "all set X 2\n") ≡ Ok (on_line 1 (Apply (ChangeValues (codes "X") (edits.Set (codes "2")))) ∷ [])
+unfolding line_len lines_from
+row_all_below_a_prefix_that_is_not_read_is_refused = refl
+
+row_all_of_a_variable_named_all : read_script (codes "all set all all\n") ≡ Ok (on_line 1 (Apply (ChangeValues (codes "all") (edits.Set (codes "all")))) ∷ [])
+unfolding line_len lines_from
+row_all_of_a_variable_named_all = refl
+
+row_all_is_one_edit_for_undo_and_redo : read_script (codes "all set X 9\nundo\nredo\nall append X 8\nundo\n") ≡ Ok (on_line 1 (Apply (ChangeValues (codes "X") (edits.Set (codes "9")))) ∷ on_line 2 Undo ∷ on_line 3 Redo ∷ on_line 4 (Apply (ChangeValues (codes "X") (edits.Append (codes "8")))) ∷ on_line 5 Undo ∷ [])
+unfolding line_len lines_from
+row_all_is_one_edit_for_undo_and_redo = refl
+
+row_all_is_one_edit_of_the_depth : read_script (codes "all set X 3\nall set X 4\nundo\nundo\n") ≡ Ok (on_line 1 (Apply (ChangeValues (codes "X") (edits.Set (codes "3")))) ∷ on_line 2 (Apply (ChangeValues (codes "X") (edits.Set (codes "4")))) ∷ on_line 3 Undo ∷ on_line 4 Undo ∷ [])
+unfolding line_len lines_from
+row_all_is_one_edit_of_the_depth = refl
+
+row_all_in_a_group : read_script (codes "begin\nall set X 3\nset Y 2\ncancel\nall set X 4\n") ≡ Ok (on_line 1 Begin ∷ on_line 2 (Apply (ChangeValues (codes "X") (edits.Set (codes "3")))) ∷ on_line 3 (Apply (SetValue None (codes "Y") (codes "2"))) ∷ on_line 4 Cancel ∷ on_line 5 (Apply (ChangeValues (codes "X") (edits.Set (codes "4")))) ∷ [])
+unfolding line_len lines_from
+row_all_in_a_group = refl
+
+row_all_and_the_edit_of_one_of_the_lines : read_script (codes "nth 2 set X 3\nall append X a\nnth 1 unset X\nall set X 4\n") ≡ Ok (on_line 1 (Apply (SetValue (Some 2) (codes "X") (codes "3"))) ∷ on_line 2 (Apply (ChangeValues (codes "X") (edits.Append (codes "a")))) ∷ on_line 3 (Apply (RemoveAssign (Some 1) (codes "X"))) ∷ on_line 4 (Apply (ChangeValues (codes "X") (edits.Set (codes "4")))) ∷ [])
+unfolding line_len lines_from
+row_all_and_the_edit_of_one_of_the_lines = refl
+
+row_all_set_at_the_end_without_a_line_end : read_script (codes "all set X 3\n") ≡ Ok (on_line 1 (Apply (ChangeValues (codes "X") (edits.Set (codes "3")))) ∷ [])
+unfolding line_len lines_from
+row_all_set_at_the_end_without_a_line_end = refl
+
+row_all_set_with_lines_that_end_in_cr_lf : read_script (codes "all set X 4\r\n") ≡ Ok (on_line 1 (Apply (ChangeValues (codes "X") (edits.Set (codes "4")))) ∷ [])
+unfolding line_len lines_from
+row_all_set_with_lines_that_end_in_cr_lf = refl
+
+row_all_before_another_command : read_script (codes "all unset X\n") ≡ Err 1
+unfolding line_len lines_from
+row_all_before_another_command = refl
+
+row_all_beside_nth : read_script (codes "# c\nnth 1 all set X 2\n") ≡ Err 2
+unfolding line_len lines_from
+row_all_beside_nth = refl
+
+row_all_before_nth : read_script (codes "all nth 1 set X 2\n") ≡ Err 1
+unfolding line_len lines_from
+row_all_before_nth = refl
+
+row_all_before_all : read_script (codes "set X 1\nall all set X 2\n") ≡ Err 2
+unfolding line_len lines_from
+row_all_before_all = refl

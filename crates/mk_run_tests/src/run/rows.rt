@@ -106,7 +106,7 @@ impl Row {
 
 /// Runs that are done; then runs that end at a refusal, of each number but those of want of memory
 /// and of a text at its limit; then runs that keep going, and runs without a good script or depth.
-pub static CASES: [Case; 47] = [
+pub static CASES: [Case; 51] = [
     Case::Done(b"", b"", b""),
     Case::Done(
         b"X=0\n",
@@ -136,6 +136,25 @@ pub static CASES: [Case; 47] = [
         b"c: x\n",
         b"2: refused 6 Absent\n5: refused 1 BadArgument word\n7: refused 16 NothingToUndo\n",
     ),
+    Case::Done(
+        b"F = -g\nF += -O2\nt: F = 1\n",
+        b"all add F -g\nall append F -W\nundo\nall drop F -O2",
+        b"F = -g\nF += -g\nt: F = 1\n",
+    ),
+    Case::Refused(
+        b"F = a\nF += b\n",
+        b"all set G 1\nor all add F \"c d\"\n",
+        b"2: refused 1 BadArgument word\n",
+    ),
+    Case::KeptGoing(
+        1,
+        b"F=-g\nF=-O2\n",
+        b"try all set G 1\nall set F a\nall drop F -g\nundo\nundo\n",
+        2,
+        b"F=-g\nF=-O2\n",
+        b"3: refused 6 Absent\n5: refused 16 NothingToUndo\n",
+    ),
+    Case::Unfit(100, b"all set X 1\nall unset X", Outcome::NotACommand(2)),
     Case::Done(b"CC = gcc # c\n", b"set CC clang", b"CC = clang # c\n"),
     Case::Done(
         b"F = a \\\n    b\nG=1\n",

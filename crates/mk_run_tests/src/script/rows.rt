@@ -12,7 +12,7 @@ pub struct Script {
 }
 
 /// Each command, each place, operator and separator, numbers, quotes and line ends.
-pub static SCRIPTS: [Script; 22] = [
+pub static SCRIPTS: [Script; 23] = [
     Script {
         text: b"",
         steps: b"",
@@ -123,6 +123,11 @@ pub static SCRIPTS: [Script; 22] = [
         steps: b"1 SetValue -|A|1\n2 or AddAssign Bottom|A|Recursive|1\n3 SetValue -|B|1\n4 or AddAssign Bottom|B|Recursive|1\n",
         growths: 11,
     },
+    Script {
+        text: b"all set all \"\"\n\"all\" append X b\ntry all add F -g\nall drop F -g\nor all set F -O2\n",
+        steps: b"1 ChangeValues|all|Set|\n2 ChangeValues|X|Append|b\n3 try ChangeValues|F|Add|-g\n4 ChangeValues|F|Remove|-g\n5 or ChangeValues|F|Set|-O2\n",
+        growths: 11,
+    },
 ];
 
 /// A script, and the number of its first line that is no command.
@@ -134,7 +139,7 @@ pub struct Faulty {
 }
 
 /// Lines that are no commands, for each cause.
-pub static FAULTY: [Faulty; 26] = [
+pub static FAULTY: [Faulty; 34] = [
     Faulty {
         text: b"set X",
         line: 1,
@@ -237,6 +242,38 @@ pub static FAULTY: [Faulty; 26] = [
     },
     Faulty {
         text: b"nth 1 try set X 1",
+        line: 1,
+    },
+    Faulty {
+        text: b"all",
+        line: 1,
+    },
+    Faulty {
+        text: b"all set X",
+        line: 1,
+    },
+    Faulty {
+        text: b"all unset X",
+        line: 1,
+    },
+    Faulty {
+        text: b"all undo",
+        line: 1,
+    },
+    Faulty {
+        text: b"all all set X 1",
+        line: 1,
+    },
+    Faulty {
+        text: b"all nth 1 set X 1",
+        line: 1,
+    },
+    Faulty {
+        text: b"nth 1 all set X 1",
+        line: 1,
+    },
+    Faulty {
+        text: b"try all rename a b",
         line: 1,
     },
 ];

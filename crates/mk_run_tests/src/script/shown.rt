@@ -1,7 +1,7 @@
 //! Steps as texts, to be compared.
 
 use mk_script::{Chain, Command, NumberedCommand, NumberedEdit, Step};
-use mk_session::{Edit, Place};
+use mk_session::{Edit, Place, ValueChange};
 use std::alloc::{AllocError, Allocator, Global};
 
 /// Steps as lines of text: the number of the line, `try` or `or` if it stands there, the name of the
@@ -150,7 +150,23 @@ fn put_edit<A: Allocator>(
             )
         }
         Edit::RemoveAssign { nth, name } => put_named(alloc, out, b"RemoveAssign", *nth, &[name]),
+        Edit::ChangeValues { name, change } => put_change(out, name, change),
         _ => put_rule_edit(alloc, out, edit),
+    }
+}
+
+// An edit of every assignment of a name: the name, and what is done to each value.
+fn put_change<A: Allocator>(
+    out: &mut Vec<u8>,
+    name: &[u8],
+    change: &ValueChange<A>,
+) -> Result<(), AllocError> {
+    out.extend_from_slice(b"ChangeValues")?;
+    match change {
+        ValueChange::Set(value) => put_texts(out, &[name, b"Set", value]),
+        ValueChange::Append(value) => put_texts(out, &[name, b"Append", value]),
+        ValueChange::Add(word) => put_texts(out, &[name, b"Add", word]),
+        ValueChange::Remove(word) => put_texts(out, &[name, b"Remove", word]),
     }
 }
 

@@ -5,24 +5,27 @@ use Rattle.std.specs.Str.{bytes_eq}
 use Rattle.mk_class.specs.declared.assignment.Flavor.{Flavor}
 use Rattle.mk_class.specs.OperatorTexts.{operator_text}
 use Rattle.mk_edit_language.specs.declared.edit.RuleSeparator.{RuleSeparator}
-use Rattle.mk_edit_language.specs.Edits.{Place, Bottom, BeforeVar, AfterVar, BeforeRule, Edit, SetValue, AppendValue, AddWord, RemoveWord, AddAssign, RemoveAssign, AddRule, RemoveRule, AddPrereq, RemovePrereq, AddRecipe, SetRecipe, RemoveRecipe, InsertRecipe, SetRecipeByText, RemoveRecipeByText, RenameTarget}
+use Rattle.mk_edit_language.specs.Edits.{Place, Bottom, BeforeVar, AfterVar, BeforeRule, Edit, SetValue, AppendValue, AddWord, RemoveWord, AddAssign, RemoveAssign, AddRule, RemoveRule, AddPrereq, RemovePrereq, AddRecipe, SetRecipe, RemoveRecipe, InsertRecipe, SetRecipeByText, RemoveRecipeByText, RenameTarget, ChangeValues, Set, Append, Add, Remove}
 use Rattle.mk_edit_language.specs.NewLines.{rule_separator_text}
 use Rattle.mk_history.specs.Machine.{Command, Apply, Undo, Redo, Begin, End, Cancel}
 use Rattle.mk_script.specs.Fields.{HasFields}
 use Rattle.mk_script.specs.Numbers.{IsNumber}
 use Rattle.mk_script.specs.CommandTable.{IsAfterNth, place_words, nth_of_place, IsCommand}
 use Rattle.mk_script.specs.FieldReading.{first_field, one_field, two_fields, three_fields}
-use Rattle.mk_script.specs.WordReading.{named, calls}
-use Rattle.mk_script.specs.CommandReading.{place_at_front, place_after, add_assign_after, add_assign_at, add_assign_of, add_rule_after, add_rule_at, add_rule_of, numbered_line_after, numbered_line_of, remove_recipe_after, remove_recipe_of, edit, edit_after_nth, edit_after_number, numbered_edit, call_or_edit, command_after, command}
+use Rattle.mk_script.specs.WordReading.{named, calls, value_words}
+use Rattle.mk_script.specs.declared.word.ChangeWord.{ChangeWord}
+use Rattle.mk_script.specs.declared.word.ChangeWord.TheVariants as change
+use Rattle.mk_script.specs.CommandReading.{place_at_front, place_after, add_assign_after, add_assign_at, add_assign_of, add_rule_after, add_rule_at, add_rule_of, numbered_line_after, numbered_line_of, remove_recipe_after, remove_recipe_of, edit, change_with, change_by_word, edit_after_all, edit_after_nth, edit_after_number, numbered_edit, call_or_edit, command_after, command}
 use Rattle.mk_script.proofs.on_fields.BlankLemmas.{is-blank}
 use Rattle.mk_script.proofs.on_fields.FirstLemmas.{begins-read, one-read, two-read, three-read}
 use Rattle.mk_script.proofs.on_fields.NumberLemmas.{is-number}
 use Rattle.mk_script.proofs.on_commands.TableLemmas.{operator-named, separator-named}
 
--- a word that is neither a call's nor `nth`
+-- a word that is neither a call's nor `nth` nor `all`
 record IsEditWord (word : List ℕ) : Type 0 where
   no_call : named calls word ≡ None
   no_nth : bytes_eq word (codes "nth") ≡ false
+  no_all : bytes_eq word (codes "all") ≡ false
 
 -- an edit by its word and the fields after it, which may stand after `nth` and a number
 addressed-read : (nth : Option ℕ) (line word : List ℕ) (args fields : List (List ℕ)) (e : Edit) → IsEditWord word → HasFields line fields
@@ -31,8 +34,9 @@ addressed-read None line word args fields e w h is reads =
     let fs : HasFields line (word ∷ args) = subst (λ x. HasFields line x) is h in
     ap (λ o. command_after o) (begins-read line word fs.0 fs.1)
     ∙ (ap (λ o. call_or_edit o word fs.0) w.no_call
-    ∙ (ap (λ (b : Bool). option_map Apply (cond b (edit_after_nth (first_field fs.0)) (edit None word fs.0))) w.no_nth
-    ∙ ap (λ o. option_map Apply o) (reads fs.0 fs.2)))
+    ∙ (ap (λ (b : Bool). option_map Apply (cond b (edit_after_nth (first_field fs.0)) (cond (bytes_eq word (codes "all")) (edit_after_all (first_field fs.0)) (edit None word fs.0)))) w.no_nth
+    ∙ (ap (λ (b : Bool). option_map Apply (cond b (edit_after_all (first_field fs.0)) (edit None word fs.0))) w.no_all
+    ∙ ap (λ o. option_map Apply o) (reads fs.0 fs.2))))
 addressed-read (Some n) line word args fields e w h is reads =
     let fs : HasFields line (codes "nth" ∷ is.0 ∷ word ∷ args) = subst (λ x. HasFields line x) is.2 h in
     ap (λ o. command_after o) (begins-read line (codes "nth") fs.0 fs.1)
@@ -105,53 +109,68 @@ of_three-read make a b c text h = ap (λ o. option_map (λ (p : List ℕ × List
 of_one-read : (make : List ℕ → Edit) (a text : List ℕ) → HasFields text (a ∷ []) → option_map make (one_field text) ≡ Some (make a)
 of_one-read make a text h = ap (λ o. option_map make o) (one-read text a h)
 
-edit_word : (word : List ℕ) → named calls word ≡ None → bytes_eq word (codes "nth") ≡ false → IsEditWord word
-edit_word word a b = record { no_call = a; no_nth = b }
+edit_word : (word : List ℕ) → named calls word ≡ None → bytes_eq word (codes "nth") ≡ false → bytes_eq word (codes "all") ≡ false → IsEditWord word
+edit_word word a b c = record { no_call = a; no_nth = b; no_all = c }
+
+-- an edit of every assignment of a name, by the word after `all`
+all-read : (line word name text : List ℕ) (fields : List (List ℕ)) (k : ChangeWord) → named value_words word ≡ Some k → HasFields line fields
+    → fields ≡ codes "all" ∷ word ∷ name ∷ text ∷ [] → command line ≡ Some (Apply (ChangeValues name (change_with k text)))
+all-read line word name text fields k named_so h is =
+    let fs : HasFields line (codes "all" ∷ word ∷ name ∷ text ∷ []) = subst (λ x. HasFields line x) is h in
+    ap (λ o. command_after o) (begins-read line (codes "all") fs.0 fs.1)
+    ∙ ap (λ o. option_map Apply o)
+    (ap (λ o. edit_after_all o) (begins-read fs.0 word fs.2.0 fs.2.1)
+    ∙ (ap (λ o. change_by_word o fs.2.0) named_so
+    ∙ of_two-read (λ n t. ChangeValues n (change_with k t)) name text fs.2.0 fs.2.2))
 
 edit-read : (line : List ℕ) (fields : List (List ℕ)) (e : Edit) → HasFields line fields → IsCommand fields (Apply e) → command line ≡ Some (Apply e)
 edit-read line fields (SetValue nth name value) h is =
-    addressed-read nth line (codes "set") (name ∷ value ∷ []) fields _ (edit_word (codes "set") refl refl) h is (of_two-read (SetValue nth) name value)
+    addressed-read nth line (codes "set") (name ∷ value ∷ []) fields _ (edit_word (codes "set") refl refl refl) h is (of_two-read (SetValue nth) name value)
 edit-read line fields (AppendValue nth name value) h is =
-    addressed-read nth line (codes "append") (name ∷ value ∷ []) fields _ (edit_word (codes "append") refl refl) h is (of_two-read (AppendValue nth) name value)
+    addressed-read nth line (codes "append") (name ∷ value ∷ []) fields _ (edit_word (codes "append") refl refl refl) h is (of_two-read (AppendValue nth) name value)
 edit-read line fields (AddWord nth name word) h is =
-    addressed-read nth line (codes "add") (name ∷ word ∷ []) fields _ (edit_word (codes "add") refl refl) h is (of_two-read (AddWord nth) name word)
+    addressed-read nth line (codes "add") (name ∷ word ∷ []) fields _ (edit_word (codes "add") refl refl refl) h is (of_two-read (AddWord nth) name word)
 edit-read line fields (RemoveWord nth name word) h is =
-    addressed-read nth line (codes "drop") (name ∷ word ∷ []) fields _ (edit_word (codes "drop") refl refl) h is (of_two-read (RemoveWord nth) name word)
+    addressed-read nth line (codes "drop") (name ∷ word ∷ []) fields _ (edit_word (codes "drop") refl refl refl) h is (of_two-read (RemoveWord nth) name word)
 edit-read line fields (AddAssign place name flavor value) h is =
     addressed-read (nth_of_place place) line (codes "assign") (place_words place ++ name ∷ operator_text flavor ∷ value ∷ []) fields _
-    (edit_word (codes "assign") refl refl) h is (λ rest. add_assign-read place name value rest flavor)
+    (edit_word (codes "assign") refl refl refl) h is (λ rest. add_assign-read place name value rest flavor)
 edit-read line fields (RemoveAssign nth name) h is =
-    addressed-read nth line (codes "unset") (name ∷ []) fields _ (edit_word (codes "unset") refl refl) h is (of_one-read (RemoveAssign nth) name)
+    addressed-read nth line (codes "unset") (name ∷ []) fields _ (edit_word (codes "unset") refl refl refl) h is (of_one-read (RemoveAssign nth) name)
 edit-read line fields (AddRule place targets colons prereqs) h is =
     addressed-read (nth_of_place place) line (codes "rule") (place_words place ++ targets ∷ rule_separator_text colons ∷ prereqs ∷ []) fields _
-    (edit_word (codes "rule") refl refl) h is (λ rest. add_rule-read place targets prereqs rest colons)
+    (edit_word (codes "rule") refl refl refl) h is (λ rest. add_rule-read place targets prereqs rest colons)
 edit-read line fields (RemoveRule nth target) h is =
-    addressed-read nth line (codes "unrule") (target ∷ []) fields _ (edit_word (codes "unrule") refl refl) h is (of_one-read (RemoveRule nth) target)
+    addressed-read nth line (codes "unrule") (target ∷ []) fields _ (edit_word (codes "unrule") refl refl refl) h is (of_one-read (RemoveRule nth) target)
 edit-read line fields (AddPrereq false nth target word) h is =
-    addressed-read nth line (codes "depend") (target ∷ word ∷ []) fields _ (edit_word (codes "depend") refl refl) h is (of_two-read (AddPrereq false nth) target word)
+    addressed-read nth line (codes "depend") (target ∷ word ∷ []) fields _ (edit_word (codes "depend") refl refl refl) h is (of_two-read (AddPrereq false nth) target word)
 edit-read line fields (AddPrereq true nth target word) h is =
-    addressed-read nth line (codes "depend-order") (target ∷ word ∷ []) fields _ (edit_word (codes "depend-order") refl refl) h is
+    addressed-read nth line (codes "depend-order") (target ∷ word ∷ []) fields _ (edit_word (codes "depend-order") refl refl refl) h is
     (of_two-read (AddPrereq true nth) target word)
 edit-read line fields (RemovePrereq nth target word) h is =
-    addressed-read nth line (codes "undepend") (target ∷ word ∷ []) fields _ (edit_word (codes "undepend") refl refl) h is (of_two-read (RemovePrereq nth) target word)
+    addressed-read nth line (codes "undepend") (target ∷ word ∷ []) fields _ (edit_word (codes "undepend") refl refl refl) h is (of_two-read (RemovePrereq nth) target word)
 edit-read line fields (AddRecipe nth target text) h is =
-    addressed-read nth line (codes "recipe") (target ∷ text ∷ []) fields _ (edit_word (codes "recipe") refl refl) h is (of_two-read (AddRecipe nth) target text)
+    addressed-read nth line (codes "recipe") (target ∷ text ∷ []) fields _ (edit_word (codes "recipe") refl refl refl) h is (of_two-read (AddRecipe nth) target text)
 edit-read line fields (SetRecipe nth target n text) h is =
-    addressed-read nth line (codes "recipe-set") (target ∷ is.0 ∷ text ∷ []) fields _ (edit_word (codes "recipe-set") refl refl) h is.2
+    addressed-read nth line (codes "recipe-set") (target ∷ is.0 ∷ text ∷ []) fields _ (edit_word (codes "recipe-set") refl refl refl) h is.2
     (λ rest. numbered_line-read (SetRecipe nth) target is.0 text rest n is.1)
 edit-read line fields (RemoveRecipe nth target n) h is =
-    addressed-read nth line (codes "recipe-del") (target ∷ is.0 ∷ []) fields _ (edit_word (codes "recipe-del") refl refl) h is.2
+    addressed-read nth line (codes "recipe-del") (target ∷ is.0 ∷ []) fields _ (edit_word (codes "recipe-del") refl refl refl) h is.2
     (λ rest. remove_recipe-read nth target is.0 rest n is.1)
 edit-read line fields (InsertRecipe nth target n text) h is =
-    addressed-read nth line (codes "recipe-insert") (target ∷ is.0 ∷ text ∷ []) fields _ (edit_word (codes "recipe-insert") refl refl) h is.2
+    addressed-read nth line (codes "recipe-insert") (target ∷ is.0 ∷ text ∷ []) fields _ (edit_word (codes "recipe-insert") refl refl refl) h is.2
     (λ rest. numbered_line-read (InsertRecipe nth) target is.0 text rest n is.1)
 edit-read line fields (SetRecipeByText nth target old text) h is =
-    addressed-read nth line (codes "recipe-replace") (target ∷ old ∷ text ∷ []) fields _ (edit_word (codes "recipe-replace") refl refl) h is
+    addressed-read nth line (codes "recipe-replace") (target ∷ old ∷ text ∷ []) fields _ (edit_word (codes "recipe-replace") refl refl refl) h is
     (of_three-read (SetRecipeByText nth) target old text)
 edit-read line fields (RemoveRecipeByText nth target old) h is =
-    addressed-read nth line (codes "recipe-remove") (target ∷ old ∷ []) fields _ (edit_word (codes "recipe-remove") refl refl) h is (of_two-read (RemoveRecipeByText nth) target old)
+    addressed-read nth line (codes "recipe-remove") (target ∷ old ∷ []) fields _ (edit_word (codes "recipe-remove") refl refl refl) h is (of_two-read (RemoveRecipeByText nth) target old)
 edit-read line fields (RenameTarget old new) h is =
-    addressed-read None line (codes "rename") (old ∷ new ∷ []) fields _ (edit_word (codes "rename") refl refl) h is (of_two-read RenameTarget old new)
+    addressed-read None line (codes "rename") (old ∷ new ∷ []) fields _ (edit_word (codes "rename") refl refl refl) h is (of_two-read RenameTarget old new)
+edit-read line fields (ChangeValues name (Set value)) h is = all-read line (codes "set") name value fields change.Set refl h is
+edit-read line fields (ChangeValues name (Append value)) h is = all-read line (codes "append") name value fields change.Append refl h is
+edit-read line fields (ChangeValues name (Add word)) h is = all-read line (codes "add") name word fields change.Add refl h is
+edit-read line fields (ChangeValues name (Remove word)) h is = all-read line (codes "drop") name word fields change.Drop refl h is
 
 call-read : (line word : List ℕ) (fields : List (List ℕ)) (c : Command Edit) → named calls word ≡ Some c → HasFields line fields → fields ≡ word ∷ [] → command line ≡ Some c
 call-read line word fields c name h is =

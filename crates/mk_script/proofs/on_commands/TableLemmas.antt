@@ -12,7 +12,9 @@ use Rattle.mk_edit_language.specs.declared.edit.RuleSeparator.{RuleSeparator}
 use Rattle.mk_edit_language.specs.declared.edit.RuleSeparator.TheVariants.{Single, Double}
 use Rattle.mk_history.specs.Machine.{Command, Apply}
 use Rattle.mk_script.specs.CommandTable.{IsCommand}
-use Rattle.mk_script.specs.WordReading.{named, calls, edit_words, places, operators, separators}
+use Rattle.mk_script.specs.WordReading.{named, calls, edit_words, value_words, places, operators, separators}
+use Rattle.mk_script.specs.declared.word.ChangeWord.{ChangeWord}
+use Rattle.mk_script.specs.declared.word.ChangeWord.TheVariants as change
 use Rattle.mk_script.specs.declared.word.EditWord.{EditWord}
 use Rattle.mk_script.specs.declared.word.EditWord.TheVariants as word
 use Rattle.mk_script.specs.declared.word.PlaceWord.{PlaceWord}
@@ -56,6 +58,12 @@ word_text word.RecipeReplace = codes "recipe-replace"
 word_text word.RecipeRemove = codes "recipe-remove"
 word_text word.Rename = codes "rename"
 
+abbrev pub change_text : ChangeWord → List ℕ
+change_text change.Set = codes "set"
+change_text change.Append = codes "append"
+change_text change.Add = codes "add"
+change_text change.Drop = codes "drop"
+
 abbrev place_text : PlaceWord → List ℕ
 place_text place.Bottom = codes "bottom"
 place_text place.BeforeVar = codes "before-var"
@@ -65,6 +73,9 @@ place_text place.BeforeRule = codes "before-rule"
 pub named-word : (text : List ℕ) (k : EditWord) → named edit_words text ≡ Some k → text ≡ word_text k
 named-word text k h =
     named-entry (λ w t. t ≡ word_text w) edit_words (refl, (refl, (refl, (refl, (refl, (refl, (refl, (refl, (refl, (refl, (refl, (refl, (refl, (refl, (refl, (refl, (refl, (refl, tt)))))))))))))))))) text k h
+
+pub named-change : (text : List ℕ) (k : ChangeWord) → named value_words text ≡ Some k → text ≡ change_text k
+named-change text k h = named-entry (λ w t. t ≡ change_text w) value_words (refl, (refl, (refl, (refl, tt)))) text k h
 
 pub named-place : (text : List ℕ) (k : PlaceWord) → named places text ≡ Some k → text ≡ place_text k
 named-place text k h = named-entry (λ w t. t ≡ place_text w) places (refl, (refl, (refl, (refl, tt)))) text k h

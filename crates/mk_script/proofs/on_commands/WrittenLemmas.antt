@@ -6,7 +6,7 @@ use Rattle.std.proofs.lemmas.Slice.Eq.{bytes_eq-Decides}
 use Rattle.mk_class.specs.declared.assignment.Flavor.{Flavor}
 use Rattle.mk_class.specs.OperatorTexts.{operator_text}
 use Rattle.mk_edit_language.specs.declared.edit.RuleSeparator.{RuleSeparator}
-use Rattle.mk_edit_language.specs.Edits.{Place, Bottom, BeforeVar, AfterVar, BeforeRule, Edit, SetValue, AppendValue, AddWord, RemoveWord, AddAssign, RemoveAssign, AddRule, RemoveRule, AddPrereq, RemovePrereq, AddRecipe, SetRecipe, RemoveRecipe, InsertRecipe, SetRecipeByText, RemoveRecipeByText, RenameTarget}
+use Rattle.mk_edit_language.specs.Edits.{Place, Bottom, BeforeVar, AfterVar, BeforeRule, Edit, SetValue, AppendValue, AddWord, RemoveWord, AddAssign, RemoveAssign, AddRule, RemoveRule, AddPrereq, RemovePrereq, AddRecipe, SetRecipe, RemoveRecipe, InsertRecipe, SetRecipeByText, RemoveRecipeByText, RenameTarget, ChangeValues}
 use Rattle.mk_edit_language.specs.NewLines.{rule_separator_text}
 use Rattle.mk_history.specs.Machine.{Command, Apply}
 use Rattle.mk_script.specs.Numbers.{IsNumber}
@@ -15,8 +15,10 @@ use Rattle.mk_script.specs.CommandTable.{IsAfterNth, place_words, nth_of_place, 
 use Rattle.mk_script.specs.Lines.{HasCommand}
 use Rattle.mk_script.specs.FieldReading.{is_blank, first_field, one_field, two_fields, three_fields}
 use Rattle.mk_script.specs.NumberReading.{number}
-use Rattle.mk_script.specs.WordReading.{named, calls, edit_words, places, operators, separators}
-use Rattle.mk_script.specs.CommandReading.{placed_at, bottom, place_by_word, place_at_front, place_after, of_one, of_two, of_three, add_assign_after, add_assign_at, add_assign_of, add_rule_after, add_rule_at, add_rule_of, numbered_line_after, numbered_line_of, remove_recipe_after, remove_recipe_of, rename_target_of, edit_by_word, edit, edit_after_nth, edit_after_number, numbered_edit, addressed_edit, call_or_edit, command_after, command}
+use Rattle.mk_script.specs.WordReading.{named, calls, edit_words, value_words, places, operators, separators}
+use Rattle.mk_script.specs.CommandReading.{placed_at, bottom, place_by_word, place_at_front, place_after, of_one, of_two, of_three, add_assign_after, add_assign_at, add_assign_of, add_rule_after, add_rule_at, add_rule_of, numbered_line_after, numbered_line_of, remove_recipe_after, remove_recipe_of, rename_target_of, edit_by_word, edit, change_with, change_by_word, edit_after_all, edit_after_nth, edit_after_number, numbered_edit, addressed_edit, call_or_edit, command_after, command}
+use Rattle.mk_script.specs.declared.word.ChangeWord.{ChangeWord}
+use Rattle.mk_script.specs.declared.word.ChangeWord.TheVariants as change
 use Rattle.mk_script.specs.declared.word.EditWord.{EditWord}
 use Rattle.mk_script.specs.declared.word.EditWord.TheVariants as word
 use Rattle.mk_script.specs.declared.word.PlaceWord.{PlaceWord}
@@ -24,7 +26,7 @@ use Rattle.mk_script.specs.declared.word.PlaceWord.TheVariants as spot
 use Rattle.mk_script.proofs.on_fields.BlankLemmas.{blank-is}
 use Rattle.mk_script.proofs.on_fields.FirstLemmas.{read-begins, one-is, two-is, three-is}
 use Rattle.mk_script.proofs.on_fields.NumberLemmas.{number-is}
-use Rattle.mk_script.proofs.on_commands.TableLemmas.{word_text, named-word, named-place, named-operator, named-separator, named-call}
+use Rattle.mk_script.proofs.on_commands.TableLemmas.{word_text, change_text, named-word, named-change, named-place, named-operator, named-separator, named-call}
 
 -- ---- edits
 
@@ -287,14 +289,51 @@ numbered-written line first rest e begins is h = of_digits (first_field rest) re
     of_digits None k m = absurd (cc)
     of_digits (Some p) k m = of_number p k (number p.0) refl m
 
-pub addressed-written : (line first rest : List ℕ) (e : Edit) → BeginsWithField line first rest → addressed_edit first rest ≡ Some e → HasCommand line (Apply e)
-addressed-written line first rest e begins h = go (bytes_eq first (codes "nth")) refl h
+-- `all`, and the words of a change
+all-command : (k : ChangeWord) (name text : List ℕ) → IsCommand (codes "all" ∷ change_text k ∷ name ∷ text ∷ []) (Apply (ChangeValues name (change_with k text)))
+all-command change.Set name text = refl
+all-command change.Append name text = refl
+all-command change.Add name text = refl
+all-command change.Drop name text = refl
+
+all-written : (line first rest : List ℕ) (e : Edit) → BeginsWithField line first rest → first ≡ codes "all" → edit_after_all (first_field rest) ≡ Some e → HasCommand line (Apply e)
+all-written line first rest e begins is h = of_first (first_field rest) refl h
   where
-    go : (c : Bool) → bytes_eq first (codes "nth") ≡ c → cond c (edit_after_nth (first_field rest)) (edit None first rest) ≡ Some e → HasCommand line (Apply e)
-    go true k m = numbered-written line first rest e begins ((bytes_eq-Decides first (codes "nth")).0 k) m
-    go false k m =
+    of_fields : (p : List ℕ × List ℕ) → first_field rest ≡ Some p → (k : ChangeWord) → named value_words p.0 ≡ Some k → (o : Option (List ℕ × List ℕ)) → two_fields p.1 ≡ o
+        → option_map (λ (q : List ℕ × List ℕ). ChangeValues q.0 (change_with k q.1)) o ≡ Some e → HasCommand line (Apply e)
+    of_fields p m k n None x y = absurd (cc)
+    of_fields p m k n (Some q) x y =
+        let same : ChangeValues q.0 (change_with k q.1) ≡ e = cc in (
+          codes "all" ∷ change_text k ∷ q.0 ∷ q.1 ∷ [],
+          (
+            rest,
+            subst (λ z. BeginsWithField line z rest) is begins,
+            (p.1, subst (λ z. BeginsWithField rest z p.1) (named-change p.0 k n) (read-begins rest p.0 p.1 m), two-is p.1 q.0 q.1 x),
+          ),
+          subst (λ z. IsCommand (codes "all" ∷ change_text k ∷ q.0 ∷ q.1 ∷ []) (Apply z)) same (all-command k q.0 q.1),
+        )
+
+    of_word : (p : List ℕ × List ℕ) → first_field rest ≡ Some p → (o : Option ChangeWord) → named value_words p.0 ≡ o → change_by_word o p.1 ≡ Some e → HasCommand line (Apply e)
+    of_word p m None n x = absurd (cc)
+    of_word p m (Some k) n x = of_fields p m k n (two_fields p.1) refl x
+
+    of_first : (o : Option (List ℕ × List ℕ)) → first_field rest ≡ o → edit_after_all o ≡ Some e → HasCommand line (Apply e)
+    of_first None m x = absurd (cc)
+    of_first (Some p) m x = of_word p m (named value_words p.0) refl x
+
+pub addressed-written : (line first rest : List ℕ) (e : Edit) → BeginsWithField line first rest → addressed_edit first rest ≡ Some e → HasCommand line (Apply e)
+addressed-written line first rest e begins h = of_nth (bytes_eq first (codes "nth")) refl h
+  where
+    of_all : (c : Bool) → bytes_eq first (codes "all") ≡ c → cond c (edit_after_all (first_field rest)) (edit None first rest) ≡ Some e → HasCommand line (Apply e)
+    of_all true k m = all-written line first rest e begins ((bytes_eq-Decides first (codes "all")).0 k) m
+    of_all false k m =
         let w = edit-written None first rest e m in
         (first ∷ w.args, (rest, begins, w.args_are), w.is_command (first ∷ w.args) refl)
+
+    of_nth : (c : Bool) → bytes_eq first (codes "nth") ≡ c
+        → cond c (edit_after_nth (first_field rest)) (cond (bytes_eq first (codes "all")) (edit_after_all (first_field rest)) (edit None first rest)) ≡ Some e → HasCommand line (Apply e)
+    of_nth true k m = numbered-written line first rest e begins ((bytes_eq-Decides first (codes "nth")).0 k) m
+    of_nth false k m = of_all (bytes_eq first (codes "all")) refl m
 
 pub command-written : (line : List ℕ) (c : Command Edit) → command line ≡ Some c → HasCommand line c
 command-written line c h = go (first_field line) refl h

@@ -7,12 +7,12 @@ use Rattle.std.proofs.lemmas.Fmt.{decimal_is_IsNumeral, length-decimal-le}
 use Rattle.mk_lines.specs.Lists.{Each}
 use Rattle.mk_lines.specs.Bytes.{is_blank_byte}
 use Rattle.mk_class.specs.OperatorTexts.{operator_text}
-use Rattle.mk_edit_language.specs.Edits.{Edit, SetValue, AppendValue, AddWord, RemoveWord, AddAssign, RemoveAssign, AddRule, RemoveRule, AddPrereq, RemovePrereq, AddRecipe, SetRecipe, RemoveRecipe, InsertRecipe, SetRecipeByText, RemoveRecipeByText, RenameTarget}
+use Rattle.mk_edit_language.specs.Edits.{Edit, SetValue, AppendValue, AddWord, RemoveWord, AddAssign, RemoveAssign, AddRule, RemoveRule, AddPrereq, RemovePrereq, AddRecipe, SetRecipe, RemoveRecipe, InsertRecipe, SetRecipeByText, RemoveRecipeByText, RenameTarget, ChangeValues}
 use Rattle.mk_edit_language.specs.NewLines.{rule_separator_text}
 use Rattle.mk_history.specs.Machine.{Command, Apply, Undo, Redo, Begin, End, Cancel}
 use Rattle.mk_script.specs.Fields.{quoted, HasFields}
 use Rattle.mk_script.specs.Numbers.{IsNumber}
-use Rattle.mk_script.specs.CommandTable.{IsAfterNth, place_words, nth_of_place, depend_word, IsCommand}
+use Rattle.mk_script.specs.CommandTable.{IsAfterNth, place_words, nth_of_place, depend_word, change_words, IsCommand}
 use Rattle.mk_script.specs.Lines.{HasCommand, Plain, Try, Or, HasEditAfter}
 use Rattle.mk_script.specs.ScriptLaws.{line_of, CanBeWritten, HasNumbersOfScripts, HasNumbers, FieldsAreOne, WrittenFieldsAreRead, EachSayingHasALine}
 use Rattle.mk_script.specs.FieldReading.{first_field, field_at_front, after_blanks}
@@ -103,6 +103,7 @@ edit-line (InsertRecipe nth target number line) h =
 edit-line (SetRecipeByText nth target old line) h = fields-command nth (codes "recipe-replace" ∷ target ∷ old ∷ line ∷ []) (Apply (SetRecipeByText nth target old line)) h (λ fields k. k)
 edit-line (RemoveRecipeByText nth target old) h = fields-command nth (codes "recipe-remove" ∷ target ∷ old ∷ []) (Apply (RemoveRecipeByText nth target old)) h (λ fields k. k)
 edit-line (RenameTarget old new) h = fields-command None (codes "rename" ∷ old ∷ new ∷ []) (Apply (RenameTarget old new)) tt (λ fields k. k)
+edit-line (ChangeValues name change) h = fields-command None (codes "all" ∷ change_words name change) (Apply (ChangeValues name change)) tt (λ fields k. k)
 
 command-line : (c : Command Edit) → HasNumbers c → (line : List ℕ) × HasCommand line c
 command-line (Apply e) h = edit-line e h

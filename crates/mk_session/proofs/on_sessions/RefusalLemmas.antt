@@ -7,7 +7,7 @@ use Rattle.mk_history.specs.Machine as machine
 use Rattle.mk_history.specs.Machine.{Command, Apply, Undo, Redo, Begin, End, Cancel}
 use Rattle.mk_history.specs.Shown.{Shown, shown_edited, shown_ended, shown_back, shown_forward}
 use Rattle.mk_session.specs.Sessions.{answer, edited, text_with, session_refusal}
-use Rattle.mk_edit_language.specs.Edits.{Place, Bottom, Edit, AppendValue, AddWord, RemoveWord, AddAssign, AddRule, RemoveRule, AddPrereq, RemovePrereq, AddRecipe, SetRecipe, RemoveRecipe, InsertRecipe, SetRecipeByText, RemoveRecipeByText, RenameTarget}
+use Rattle.mk_edit_language.specs.Edits.{Place, Bottom, Add, Remove, Edit, AppendValue, AddWord, RemoveWord, ChangeValues, AddAssign, AddRule, RemoveRule, AddPrereq, RemovePrereq, AddRecipe, SetRecipe, RemoveRecipe, InsertRecipe, SetRecipeByText, RemoveRecipeByText, RenameTarget}
 use Rattle.mk_tree.specs.LineTexts.{StandingLine}
 use Rattle.mk_edit_language.specs.Addresses.{Address, address}
 use Rattle.mk_edit_language.specs.EditSpans.{spans_of}
@@ -47,6 +47,7 @@ no_such_line-other ls None h = absurd (cc)
 no_such_line-other ls (Some a) h = where_holds-other _ NoSuch (λ k. absurd (cc)) h
 
 no_such-other : (ls : List ClassedLine) (e : Edit) → IsOther (no_such ls e)
+no_such-other ls (ChangeValues n c) h = where_holds-other _ NoSuch (λ k. absurd (cc)) h
 no_such-other ls (RenameTarget o n) h = where_holds-other _ NoSuch (λ k. absurd (cc)) h
 no_such-other ls e h = no_such_line-other ls (address e) h
 
@@ -67,6 +68,7 @@ not_one-other (s ∷ r ∷ ss) h = absurd (cc)
 
 absent-other : (ls : List ClassedLine) (e : Edit) → IsOther (absent ls e)
 absent-other ls (RemoveWord nth n w) h = where_holds-other _ Absent (λ k. absurd (cc)) h
+absent-other ls (ChangeValues n (Remove w)) h = where_holds-other _ Absent (λ k. absurd (cc)) h
 absent-other ls (RemovePrereq nth t w) h = where_holds-other _ Absent (λ k. absurd (cc)) h
 absent-other ls (SetRecipe nth t k c) h = where_holds-other _ Absent (λ k. absurd (cc)) h
 absent-other ls (RemoveRecipe nth t k) h = where_holds-other _ Absent (λ k. absurd (cc)) h
@@ -77,6 +79,7 @@ absent-other ls e h = nothing-other h
 
 already-other : (ls : List ClassedLine) (e : Edit) → IsOther (already ls e)
 already-other ls (AddWord nth n w) h = where_holds-other _ Already (λ k. absurd (cc)) h
+already-other ls (ChangeValues n (Add w)) h = where_holds-other _ Already (λ k. absurd (cc)) h
 already-other ls (AddPrereq true nth t w) h = where_holds-other _ Already (λ k. absurd (cc)) h
 already-other ls (AddPrereq false nth t w) h = where_holds-other _ Already (λ k. absurd (cc)) h
 already-other ls e h = nothing-other h
@@ -99,6 +102,7 @@ open_value-other : (ls : List ClassedLine) (e : Edit) → IsOther (open_value ls
 open_value-other ls (AppendValue nth n v) h = where_holds-other _ OpenValue (λ k. absurd (cc)) h
 open_value-other ls (AddWord nth n w) h = where_holds-other _ OpenValue (λ k. absurd (cc)) h
 open_value-other ls (RemoveWord nth n w) h = where_holds-other _ OpenValue (λ k. absurd (cc)) h
+open_value-other ls (ChangeValues n c) h = where_holds-other _ OpenValue (λ k. absurd (cc)) h
 open_value-other ls e h = nothing-other h
 
 open_define_at-other : (ls : List ClassedLine) (p : Place) → IsOther (open_define_at ls p)

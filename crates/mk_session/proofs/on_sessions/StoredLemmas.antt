@@ -1,6 +1,7 @@
 -- What a session keeps fits together after each of its calls.
-use Rattle.std.proofs.Common.{◌≡◌, refl, sym, ap, subst, ◌∙◌, ℕ, zero, suc, List, [], ◌∷◌, take, Option, Some, None}
-use Rattle.std.specs.Prelude.{is_some, false, Result, Ok, Err, OnOk, OnErr}
+use Rattle.std.proofs.Common.{◌≡◌, refl, sym, ap, subst, ◌∙◌, arith, ℕ, zero, suc, ◌<◌, List, [], ◌∷◌, length, take, Option, Some, None}
+use Rattle.std.specs.Prelude.{◌==◌, is_some, true, false, Result, Ok, Err, OnOk, OnErr}
+use Rattle.std.proofs.lemmas.Bool.{eqb-true}
 use Rattle.mk_tree.specs.Documents.{IsFaithful}
 use Rattle.mk_tree.specs.LocatedLines.{LocatedLine}
 use Rattle.mk_patch.specs.Moves.{FitMoves, after_moves}
@@ -9,6 +10,15 @@ use Rattle.mk_history.specs.Stacks.{Stacks, FitInTurn}
 use Rattle.mk_history.proofs.on_histories.ChainLemmas.{IsChain-take, states-take}
 use Rattle.mk_history.specs.Shown.{Shown}
 use Rattle.mk_session.specs.StoredSessions.{Patches, after_patches, EachFaithful, IsStored, shown_stored}
+
+-- whether a list is empty, as its length says
+pub some-if-counted : {X : Type 0} (xs : List X) → false ≡ (length xs == 0) → 0 < length xs
+some-if-counted [] e = absurd (cc)
+some-if-counted (x ∷ xs) e = omega arith
+
+pub none-if-counted : {X : Type 0} (xs : List X) → true ≡ (length xs == 0) → xs ≡ []
+none-if-counted [] e = refl
+none-if-counted (x ∷ xs) e = absurd (omega (arith, eqb-true (suc (length xs)) 0 (sym e)))
 
 -- patches fit the documents that lead to them, one after the other
 abbrev pub FitPatches : Patches → List LocatedLine → Type 0

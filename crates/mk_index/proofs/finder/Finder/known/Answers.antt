@@ -1,9 +1,10 @@
 use Rattle.std.proofs.Common.{◌≡◌, ◌∙◌, refl, sym, subst, false, Option, Some, None}
-use Rattle.std.specs.Prelude.{is_some}
+use Rattle.std.specs.Prelude.{is_some, IfSome}
 use Rattle.mk_edit_language.specs.Addresses as addresses
-use Rattle.mk_edit_language.specs.EditViews.{edit_of}
+use Rattle.mk_edit_language.specs.EditViews.{edit_of, value_change_of}
 use Rattle.mk_edit_parts.specs.AddressViews.{address_seen}
 use Rattle.mk_edit_parts.specs.Seeking.{IsKnownOf}
+use Rattle.mk_edit_parts.specs.Windows.{AreWindows, concerns_name, first_place}
 use Rattle.mk_edit_parts.specs.declared.address.Address.{Address}
 use Rattle.mk_index.proofs.finder.Finder.known.Goals as goal
 
@@ -24,3 +25,10 @@ returns g c =
       known = c.line_known-2.ensures (edit_of c.args.edit.now) c.args.doc.now (subst (λ (a : Option addresses.Address). IsKnownOf a c.args.doc.now c.at_end.result) none c.at_end.ensures);
       right = c.find_end.ensures;
     }
+
+pub returns-in-ChangeValues : goal.returns-in-ChangeValues
+returns-in-ChangeValues g c =
+    let doc = c.args.doc.now in
+    let w = c.in-ChangeValues in
+    let windows = subst (λ n. IfSome c.for_values.result (λ ws. AreWindows (concerns_name n) first_place doc ws.items)) c.deref-in-ChangeValues.ensures.value c.for_values.ensures.windows in
+    rw w.is (record { known = c.windows_known-in-ChangeValues.ensures.values w.name.items (value_change_of w.change) doc windows; right = c.for_values.ensures.right })

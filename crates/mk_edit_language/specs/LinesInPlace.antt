@@ -1,0 +1,77 @@
+-- The lines of a text after an edit of lines that may stand apart, each in the place of one line.
+-- Told in docs/PROOFS.md, "An edit".
+use Rattle.std.specs.Prelude.{◌≡◌, ℕ, ◌+◌, ◌≤◌, if◌then◌else◌, Bool, true, false, List, [], ◌∷◌, ◌++◌, map, take, length}
+use Rattle.std.specs.Str.{bytes_eq}
+use Rattle.mk_lines.specs.LogicalLines.{logical_lines}
+use Rattle.mk_lines.specs.Pieces.{Replacement}
+use Rattle.mk_class.specs.Classes.{is_conditional}
+use Rattle.mk_class.specs.Contexts.{Context, start, context_after}
+use Rattle.mk_class.specs.ClassTable.{class_of}
+use Rattle.mk_class.specs.ClassedLines.{ClassedLine, classed_lines}
+use Rattle.mk_tree.specs.Documents.{context_of, most_conditionals}
+use Rattle.mk_edit_language.specs.Edits.{Edit}
+use Rattle.mk_edit_language.specs.Costs.{cost}
+use Rattle.mk_edit_language.specs.Refusals.{text_after}
+use Rattle.mk_edit_language.specs.RisingSpans.{Rise}
+
+-- ---- one line
+
+-- A line in the place of one that stands in this context. It is one logical line. Its class is the
+-- class that it has in the context of the line before, and the context after it is as before. If
+-- the edit does not change the line before, the line after is the same, with the same class. If it
+-- does, neither line is of a conditional.
+pub record IsInPlace (is_changed : ClassedLine → Bool) (context : Context)
+    (before after : ClassedLine)
+    : Type 0 where
+  pub one_line : logical_lines after.bytes ≡ after.bytes ∷ []
+  pub class : class_of context after.bytes ≡ after.class
+  pub context_stays : context_after context after.class ≡ context_after context before.class
+  pub same : is_changed before ≡ false → after ≡ before
+  pub plain : is_changed before ≡ true
+      → (is_conditional before.class ≡ false) × (is_conditional after.class ≡ false)
+
+-- ---- the lines of a text
+
+-- lines, each as `IsAfter` says in the place of one line; the first line stands in this context
+abbrev pub AreInPlace : (IsAfter : Context → (before after : ClassedLine) → Type 0) → Context
+    → (before after : List ClassedLine) → Type 0
+AreInPlace P c [] [] = Unit {0}
+AreInPlace P c [] (m ∷ ms) = ⊥
+AreInPlace P c (l ∷ ls) [] = ⊥
+AreInPlace P c (l ∷ ls) (m ∷ ms) = P c l m × AreInPlace P (context_after c l.class) ls ms
+
+-- At how many indices two lists of lines have different bytes. An index that only one of the lists
+-- has counts too.
+abbrev pub differing : (before after : List (List ℕ)) → ℕ
+differing [] ms = length ms
+differing (l ∷ ls) [] = length (l ∷ ls)
+differing (l ∷ ls) (m ∷ ms) = (if bytes_eq l m then 0 else 1) + differing ls ms
+
+-- replacements in lines; the first line begins at this offset. Each replacement stands within one
+-- line, and that line passes the test
+abbrev pub StandInLines : (test : ClassedLine → Bool) → (at : ℕ) → List ClassedLine
+    → List Replacement → Type 0
+StandInLines p at [] rs = rs ≡ []
+StandInLines p at (l ∷ ls) rs =
+    (here : List Replacement) × (later : List Replacement) × (rs ≡ here ++ later)
+    × Rise at (at + length l.bytes) here × (p l ≡ false → here ≡ [])
+    × StandInLines p (at + length l.bytes) ls later
+
+-- What an edit of lines that may stand apart leaves, and what it makes of the other lines. The
+-- logical lines after it are, line by line, what `bytes_after` makes of the lines before, and each
+-- is as `IsAfter` says in its place. The context after each number of lines is as before. At most
+-- as many lines have different bytes as the edit costs. The spans stand within the lines that the
+-- edit changes. The greatest number of conditionals open at once is as before.
+pub record AreOthersKeptApart (e : Edit) (is_changed : ClassedLine → Bool)
+    (bytes_after : ClassedLine → List ℕ) (IsAfter : Context → (before after : ClassedLine) → Type 0)
+    (t : List ℕ) (rs : List Replacement)
+    : Type 0 where
+  pub lines : logical_lines (text_after t e) ≡ map bytes_after (classed_lines t)
+  pub in_place : AreInPlace IsAfter start (classed_lines t) (classed_lines (text_after t e))
+  pub contexts : (number : ℕ)
+      → context_of (take number (classed_lines (text_after t e)))
+      ≡ context_of (take number (classed_lines t))
+  pub few : differing (logical_lines t) (logical_lines (text_after t e)) ≤ cost t e
+  pub within : StandInLines is_changed 0 (classed_lines t) rs
+  pub same_depth : most_conditionals 0 (classed_lines (text_after t e))
+      ≡ most_conditionals 0 (classed_lines t)

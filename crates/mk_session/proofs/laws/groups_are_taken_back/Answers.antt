@@ -1,0 +1,8 @@
+use Rattle.mk_session.proofs.on_sessions.CallerLemmas.{all-cancelled, all-undone}
+use Rattle.mk_session.proofs.laws.groups_are_taken_back.Goals as goal
+
+pub returns-clause-cancelled : goal.returns-clause-cancelled
+returns-clause-cancelled c = all-cancelled
+
+pub returns-clause-undone : goal.returns-clause-undone
+returns-clause-undone c = all-undone
