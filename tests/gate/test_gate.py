@@ -19,7 +19,7 @@ from pathlib import Path
 
 from tests import TOP
 
-from . import believed, bodies, documents, maps, meters, refuse, repeats
+from . import believed, bodies, dear, documents, maps, meters, refuse, repeats
 from .beside import GIVES_WAY, Tasks, in_lanes
 from .listed import listed, with_below
 from .part import copy_part
@@ -532,6 +532,18 @@ class Refuse(InRoom):
         with contextlib.redirect_stdout(io.StringIO()) as told:
             self.assertFalse(refuse.tell("low", {"b": (False, "proved"), "a": (True, "a goal")}))
         self.assertEqual(told.getvalue(), "low/a: refused: a goal\nlow/b: NOT REFUSED: proved\n1 passed, 1 failed\n")
+
+
+class Dear(InRoom):
+    def test_a_module_takes_what_has_passed_since_the_one_before(self):
+        names = ("proofs.a.f.Lts.View", "proofs.a.f.Proof", "proofs.on_lists.Lemmas", "specs.Words")
+        for second, name in enumerate(names):
+            path = self.room / f"Rattle-low-{name}.oantt"
+            path.write_text("")
+            os.utime(path, (0, second * second))
+        took = dear.times(dear.kept(self.room))
+        self.assertEqual(took, {"proofs.a.f.Proof": 1, "proofs.on_lists.Lemmas": 3, "specs.Words": 5})
+        self.assertEqual(dear.of_functions(took)["proofs.a.f"], 1)
 
 
 class Documents(unittest.TestCase):

@@ -2,6 +2,7 @@ use Rattle.std.proofs.Common.{◌-◌, ◌<◌, ◌++◌, ◌∷◌, [], List, l
 use Rattle.mk_diff.specs.Stretches.{AreApart, Leads, shown}
 use Rattle.mk_diff.specs.declared.stretch.Stretch.{Stretch}
 use Rattle.mk_diff.proofs.FinderLemmas.{Completes, completes-end, completes-front, completes-last, differ-drop, further}
+use Rattle.std.proofs.lemmas.List.{length-drop}
 use Rattle.std.proofs.lemmas.Option.{MatchOption-at_none, MatchOption-at_some}
 use Rattle.mk_diff.proofs.ShownLemmas.{length-shown, shown-rest, within-rest}
 use Rattle.mk_diff.proofs.finder.differences.Goals as goal
@@ -70,3 +71,29 @@ returns-clause-leads g c =
     let new = c.args.new.now in
     rw append-nil at (completes-end (shown old) (shown new) c.stretches.old_at c.stretches.new_at c.stretches.stretches.items c.stretches.invariant.4
     (omega (arith, length-shown old)) (omega (arith, length-shown new)))
+
+-- ---- the ends of a stretch are within both texts
+
+pub overflow_add-old_end : goal.overflow_add-old_end
+overflow_add-old_end g c =
+    let old = c.args.old.now in
+    let i = c.stretches.old_at in
+    let is = rw (shown-rest i old) at (MatchOption-at_some _ _ _ c.in-Some.is c.in_ok-found.ensures.found) in
+    omega (arith, is.old_within, length-drop i (shown old), length-shown old)
+
+pub overflow_add-new_end : goal.overflow_add-new_end
+overflow_add-new_end g c =
+    let old = c.args.old.now in
+    let new = c.args.new.now in
+    let j = c.stretches.new_at in
+    let is = rw (shown-rest c.stretches.old_at old) at (MatchOption-at_some _ _ _ c.in-Some.is c.in_ok-found.ensures.found) in
+    omega (arith, is.new_within, length-drop j (shown new), length-shown new)
+
+pub stretches-smaller : goal.stretches-smaller
+stretches-smaller g c =
+    let old = c.args.old.now in
+    let new = c.args.new.now in
+    let i = c.stretches.old_at in
+    let j = c.stretches.new_at in
+    let is = rw (shown-rest i old) at (MatchOption-at_some _ _ _ c.in-Some.is c.in_ok-found.ensures.found) in
+    omega (arith, is.old_within, is.new_within, is.further, length-drop i (shown old), length-drop j (shown new), length-shown old, length-shown new)

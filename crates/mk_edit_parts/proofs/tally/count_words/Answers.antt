@@ -1,4 +1,4 @@
-use Rattle.std.proofs.Common.{◌≡◌, ◌∙◌, sym, ap, subst, arith, false, [], ℕ, ◌+◌, ◌^◌, ◌≤◌, ◌++◌, List}
+use Rattle.std.proofs.Common.{◌≡◌, ◌∙◌, sym, ap, subst, arith, false, [], ℕ, ◌+◌, ◌^◌, ◌<◌, ◌≤◌, ◌++◌, List, length, length-append}
 use Rattle.mk_lines.specs.Cells.{Cell, line_cells}
 use Rattle.mk_lines.specs.Ranges.{text_at}
 use Rattle.mk_lines.specs.Words.{words_in}
@@ -17,6 +17,28 @@ use Rattle.mk_edit_parts.proofs.tally.count_words.Goals as goal
 few : (cs : List Cell) (o : List ℕ) (p : WordParts) (k j : class.Class) → p ≡ word_parts k → k ≡ j → bytes_in (parts_ranges cs o (word_parts j)) ≤ 2 ^ 32
     → bytes_in (part_ranges cs o p.targets) + (bytes_in (part_ranges cs o p.normal) + bytes_in (part_ranges cs o p.order_only)) ≤ 2 ^ 32
 few cs o p k j h e b = omega (arith, bytes_in-three (part_ranges cs o p.targets) (part_ranges cs o p.normal) (part_ranges cs o p.order_only), ap bytes_in (ranges-are cs o p k j h e), b)
+
+few_words : (cs : List Cell) (o : List ℕ) (p : WordParts) (k j : class.Class) → p ≡ word_parts k → k ≡ j → length (parts_ranges cs o (word_parts j)) < 2 ^ 32
+    → length (part_ranges cs o p.targets) + (length (part_ranges cs o p.normal) + length (part_ranges cs o p.order_only)) < 2 ^ 32
+few_words cs o p k j h e b =
+    let N = part_ranges cs o p.normal in
+    let O = part_ranges cs o p.order_only in
+    omega (arith, length-append (part_ranges cs o p.targets) (N ++ O), length-append N O, ap length (ranges-are cs o p k j h e), b)
+
+pub count_in_part-targets-requires-clause-few : goal.count_in_part-targets-requires-clause-few
+count_in_part-targets-requires-clause-few g c =
+    let f = few_words (line_cells (line_view c.args.line.now).bytes) c.args.from.now c.parts_of-parts.result _ _ c.parts_of-parts.ensures.parts c.requires.class c.requires.few in
+    omega (arith, f)
+
+pub count_in_part-normal-requires-clause-few : goal.count_in_part-normal-requires-clause-few
+count_in_part-normal-requires-clause-few g c =
+    let f = few_words (line_cells (line_view c.args.line.now).bytes) c.args.from.now c.parts_of-parts.result _ _ c.parts_of-parts.ensures.parts c.requires.class c.requires.few in
+    omega (arith, f, ap (λ (t : Tally). t.words) c.count_in_part-targets.ensures)
+
+pub count_in_part-requires-clause-few : goal.count_in_part-requires-clause-few
+count_in_part-requires-clause-few g c =
+    let f = few_words (line_cells (line_view c.args.line.now).bytes) c.args.from.now c.parts_of-parts.result _ _ c.parts_of-parts.ensures.parts c.requires.class c.requires.few in
+    omega (arith, f, ap (λ (t : Tally). t.words) c.count_in_part-targets.ensures, ap (λ (t : Tally). t.words) c.count_in_part-normal.ensures)
 
 pub count_in_part-targets-requires-clause-few_bytes : goal.count_in_part-targets-requires-clause-few_bytes
 count_in_part-targets-requires-clause-few_bytes g c =

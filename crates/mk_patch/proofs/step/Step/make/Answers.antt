@@ -27,3 +27,6 @@ returns-in-SwapEnd-clause-leads_back g c =
     let f = rw c.in-SwapEnd.is at c.requires in
     let s = c.swap_end-old.ensures in
     (swap_end-taken_back _ _ _ _ f s.lines s.old s.some_bytes_back c.size.ensures.few).leads
+
+pub returns-in-PutIn-clause-fits_back : goal.returns-in-PutIn-clause-fits_back
+returns-in-PutIn-clause-fits_back g c = (put_in-taken_back _ _ _ _ (rw c.in-PutIn.is at c.requires) c.insert.ensures.lines).fits
