@@ -3,6 +3,7 @@
 //! - `lines`: tests of `mk_lines`.
 //! - `class`: tests of `mk_class`.
 //! - `tree`: tests of `mk_tree`.
+//! - `views`: tests of `mk_views`.
 #![tactic(auto)]
 
 #[cfg(test)]
@@ -11,3 +12,5 @@ mod class;
 mod lines;
 #[cfg(test)]
 mod tree;
+#[cfg(test)]
+mod views;
