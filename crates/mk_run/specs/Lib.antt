@@ -8,5 +8,6 @@ pub mod ObeyedSteps
 pub mod Runs
 pub mod RunEnds
 pub mod RunSteps
+pub mod Tellings
 -- Laws
 pub mod RunLaws

@@ -1,15 +1,17 @@
 //! A script over a makefile: the steps of a run, in their order.
-ghost use Rattle.std.specs.Prelude.{◌≡◌, ◌↔◌, ◌+◌, ◌||◌, ℕ, IsTrue, List, Option, map, false, true, OnOk, IfOk, IfErr, IfSome};
+ghost use Rattle.std.specs.Prelude.{◌≡◌, ◌↔◌, ◌+◌, ◌||◌, [], ◌∷◌, ℕ, IsTrue, List, Option, map, false, true, OnOk, IfOk, IfErr, IfSome};
 ghost use Rattle.mk_session.specs.Sessions.{IsBadDepth};
 ghost use Rattle.mk_script.specs.Scripts.{step_of};
 ghost use Rattle.mk_run.specs.Outcome.{is_printed, may_report};
 ghost use Rattle.mk_run.specs.Runs.{IsTooLong, ended};
 ghost use Rattle.mk_run.specs.RunEnds.{IsRunOver, Leaves, PutsOut, PutsOutIf, ReadsOnce, TellsFaults, written};
+ghost use Rattle.mk_run.specs.Tellings.{IsTold, TellsRun, TellsSteps, tellings};
 ghost use Rattle.mk_run.specs.RunSteps.{AreObeyed, EndsSteps, GivesSession, GivesSteps, StopsMakefile, StopsScript, StopsSteps};
 
 use crate::outcome::Outcome;
 use crate::report::report_refusal;
-use crate::step::obey_step;
+use crate::step::{RefusedCommand, edit_at, obey_step};
+use crate::witness::{Reported, Witness};
 use mk_history::history::is_bad_depth;
 use mk_lines::source::{BUFFER, MAX_TEXT, read_all};
 use mk_lines::{ByteSink, ByteSource, Fault};
@@ -111,12 +113,17 @@ fn have_rename<A: Allocator>(steps: &[Step<A>]) -> bool {
 
 // Obeys the steps in order, and answers how many refusals were told. The line on each refusal is
 // written at once.
-fn obey_all<A: Allocator + Copy, P: ByteSink>(
+fn obey_all<A, P, T>(
     session: &mut Session<A>,
     steps: &[Step<A>],
     keep_going: bool,
     report: &mut P,
+    witness: &mut T,
 ) -> Result<u64, Outcome>
+where
+    A: Allocator + Copy,
+    P: ByteSink,
+    T: Witness<A>,
     requires { P.failed report.old ≡ false }
     ensures obeyed { IfOk result (λ refused.
         AreObeyed keep_going (map step_of steps.now) session.old.shown session.new.shown refused
@@ -126,11 +133,15 @@ fn obey_all<A: Allocator + Copy, P: ByteSink>(
         StopsSteps keep_going (map step_of steps.now) session.old.shown session.new.shown
         (P.failed report.new) (written (P.contents report.old) (P.contents report.new)) outcome) }
     ensures unflushed { P.flushes report.new ≡ P.flushes report.old }
+    ensures told { OnOk result (IsTold (T.told witness.old) (T.told witness.new)
+        (tellings keep_going (map step_of steps.now) session.old.shown)) }
+    ensures told_end { IfErr result (λ outcome. TellsSteps keep_going (map step_of steps.now)
+        session.old.shown (T.told witness.old) (T.told witness.new) outcome) }
 {
     expect_steps(session, steps);
     let mut refused = 0u64;
     for step in steps {
-        let Err(told) = obey_step(session, step) else {
+        let Err(told) = obey_step(session, step, witness) else {
             continue;
         };
         if let Refusal::NoMemory = told.refusal {
@@ -140,11 +151,30 @@ fn obey_all<A: Allocator + Copy, P: ByteSink>(
             Ok(()) => refused += 1,
             Err(fault) => return Err(Outcome::from(fault)),
         }
+        tell(witness, step, told, session);
         if !keep_going {
             return Err(Outcome::Refused(refused));
         }
     }
     Ok(refused)
+}
+
+// Tells the witness of a refusal that a step came to, once its line is in the report.
+fn tell<A: Allocator, T: Witness<A>>(
+    witness: &mut T,
+    step: &Step<A>,
+    told: RefusedCommand,
+    session: &Session<A>,
+)
+    ensures { IsTold (T.told witness.old) (T.told witness.new)
+        (record { line = told.line; refusal = told.refusal; shown = session.now.shown } ∷ []) }
+{
+    let reported = Reported {
+        line: told.line,
+        edit: edit_at(step, told.line),
+        refusal: told.refusal,
+    };
+    witness.refused(&reported, session);
 }
 
 // Ends a group that is still open, writes the text out, and flushes it once.
@@ -165,17 +195,19 @@ fn put_out<A: Allocator + Copy, W: ByteSink>(
 }
 
 // Obeys the steps, and writes out the text that they lead to.
-fn obey_and_put_out<A, W, P>(
+fn obey_and_put_out<A, W, P, T>(
     session: &mut Session<A>,
     steps: &[Step<A>],
     keep_going: bool,
     out: &mut W,
     report: &mut P,
+    witness: &mut T,
 ) -> Outcome
 where
     A: Allocator + Copy,
     W: ByteSink,
     P: ByteSink,
+    T: Witness<A>,
     requires out_works { W.failed out.old ≡ false }
     requires report_works { P.failed report.old ≡ false }
     ensures ends { EndsSteps keep_going (map step_of steps.now) session.old.shown
@@ -186,8 +218,10 @@ where
         (is_printed result keep_going) }
     ensures write { result ≡ Outcome.Write ↔ IsTrue (W.failed out.new || P.failed report.new) }
     ensures report { P.flushes report.new ≡ P.flushes report.old }
+    ensures told { TellsSteps keep_going (map step_of steps.now) session.old.shown
+        (T.told witness.old) (T.told witness.new) result }
 {
-    let refused = match obey_all(session, steps, keep_going, report) {
+    let refused = match obey_all(session, steps, keep_going, report, witness) {
         Ok(refused) => refused,
         Err(early) => return early,
     };
@@ -200,7 +234,7 @@ where
 
 /// Runs steps over a makefile, as [`run`] does from the reading of the makefile on. The depth has to be
 /// from 1 to 10,000. The clause `over` holds for each script that has these steps.
-pub fn run_steps<A, R, W, P>(
+pub fn run_steps<A, R, W, P, T>(
     alloc: A,
     makefile: &mut R,
     steps: &[Step<A>],
@@ -208,6 +242,7 @@ pub fn run_steps<A, R, W, P>(
     keep_going: bool,
     out: &mut W,
     report: &mut P,
+    witness: &mut T,
     kept: &mut Option<Session<A>>,
 ) -> Outcome
 where
@@ -215,6 +250,7 @@ where
     R: ByteSource,
     W: ByteSink,
     P: ByteSink,
+    T: Witness<A>,
     requires makefile_works { R.failed makefile.old ≡ false }
     requires out_works { W.failed out.old ≡ false }
     requires report_works { P.failed report.old ≡ false }
@@ -235,13 +271,16 @@ where
     ensures report { P.flushes report.new ≡ P.flushes report.old }
     ensures makefile { ReadsOnce R.remaining R.ends makefile.old makefile.new
         (MAX_TEXT + BUFFER) }
+    ensures told { (script : Option (List ℕ)) → GivesSteps script (map step_of steps.now)
+        → TellsRun (R.remaining makefile.old) script depth keep_going
+        (T.told witness.old) (T.told witness.new) result }
 {
     let session = match open_makefile(alloc, makefile, depth) {
         Ok(session) => session,
         Err(outcome) => return outcome,
     };
     let session = kept.insert(session);
-    obey_and_put_out(session, steps, keep_going, out, report)
+    obey_and_put_out(session, steps, keep_going, out, report, witness)
 }
 
 /// Runs a script over a makefile. The text after the script's commands goes to `out`, a line on each
@@ -251,7 +290,9 @@ where
 /// is read to its end and opened; the steps are obeyed in order; a group that is still open is
 /// ended; the text is written to `out` and then flushed once. A refused command changes nothing,
 /// and its line is written at once; `report` is not flushed. Behind `try` and in a chain some
-/// refusals are none: they are not reported. `depth` is how many edits or groups can be undone.
+/// refusals are none: they are not reported. `witness` is told of each refusal once its line is
+/// written, and of each edit that is made; `&mut ()` is a witness that does nothing. Each clause holds
+/// whatever the witness does. `depth` is how many edits or groups can be undone.
 /// Without `keep_going` the first refusal that is reported ends the run; with it, the other
 /// commands are obeyed too. A reader is read no further once more than 16,777,216 bytes have come.
 ///
@@ -273,7 +314,7 @@ where
 /// A caller who does not want the session passes `&mut None`. A session owns a box for each line,
 /// so giving it up takes time: a program that ends after the run keeps it from being given up, by
 /// `mem::forget`.
-pub fn run<A, R, S, W, P>(
+pub fn run<A, R, S, W, P, T>(
     alloc: A,
     makefile: &mut R,
     script: &mut S,
@@ -281,6 +322,7 @@ pub fn run<A, R, S, W, P>(
     keep_going: bool,
     out: &mut W,
     report: &mut P,
+    witness: &mut T,
     kept: &mut Option<Session<A>>,
 ) -> Outcome
 where
@@ -289,6 +331,7 @@ where
     S: ByteSource,
     W: ByteSink,
     P: ByteSink,
+    T: Witness<A>,
     requires makefile_works { R.failed makefile.old ≡ false }
     requires script_works { S.failed script.old ≡ false }
     requires out_works { W.failed out.old ≡ false }
@@ -323,6 +366,9 @@ where
     ensures kept { Leaves (R.remaining makefile.old) (S.remaining script.old) depth keep_going
         (P.failed report.new) (written (P.contents report.old) (P.contents report.new))
         (written (W.contents out.old) (W.contents out.new)) kept.old kept.new result }
+    // If the run comes to its end, the witness was told of each refusal that is reported, in order.
+    ensures told { TellsRun (R.remaining makefile.old) (S.remaining script.old) depth keep_going
+        (T.told witness.old) (T.told witness.new) result }
 {
     if is_bad_depth(depth) {
         return Outcome::BadDepth;
@@ -339,6 +385,7 @@ where
         keep_going,
         out,
         report,
+        witness,
         kept,
     )
 }

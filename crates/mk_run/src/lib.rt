@@ -10,6 +10,7 @@
 //! - `outcome`: how a run ends.
 //! - `report`: the lines on refused commands.
 //! - `step`: one step of a script.
+//! - `witness`: who is told of what a run does, while it does it.
 #![tactic(auto)]
 
 mod engine;
@@ -17,8 +18,10 @@ pub mod laws;
 mod outcome;
 mod report;
 mod step;
+mod witness;
 
 pub use engine::{read_script, run, run_steps};
 pub use mk_script::{ScriptFault, Step, parse_script};
 pub use mk_session::Command;
 pub use outcome::{Outcome, message, status};
+pub use witness::{Reported, Witness};

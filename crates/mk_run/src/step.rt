@@ -1,11 +1,16 @@
 //! One step of a script, obeyed by a session.
-ghost use Rattle.std.specs.Prelude.{◌≡◌, map};
+ghost use Rattle.std.specs.Prelude.{◌≡◌, ◌≤◌, ◌+◌, OnErr, OnOk, IfErr, Ok, map};
+ghost use Rattle.mk_edit_language.specs.Costs.{cost};
+ghost use Rattle.mk_edit_language.specs.EditViews.{edit_of};
+ghost use Rattle.mk_history.specs.Machine.{Apply};
+ghost use Rattle.mk_session.specs.Sessions.{IsEditRefusal, answer};
 ghost use Rattle.mk_script.specs.Scripts.{Alone, Tried, numbered, numbered_edit, step_of};
 ghost use Rattle.mk_run.specs.ObeyedSteps.{ChainTries, chain_end, is_met, is_missing};
 ghost use Rattle.mk_run.specs.RunSteps.{ComesTo, IsObeyed, chain_answer, passes_over};
 
+use crate::witness::Witness;
 use mk_script::{NumberedCommand, NumberedEdit, Step};
-use mk_session::{Refusal, Session};
+use mk_session::{Command, Edit, Refusal, Session};
 use std::alloc::Allocator;
 
 /// A refusal that a step comes to, with the number of the line in the script.
@@ -24,16 +29,18 @@ pub(crate) struct RefusedCommand {
 /// The refusal that is to be told, with the number of its line: that of a command alone; behind
 /// `try` one that is not idle; of a chain one that ends it, unless there is nothing to do.
 /// [`Refusal::NoMemory`] if a growth was refused.
-pub(crate) fn obey_step<A: Allocator + Copy>(
+pub(crate) fn obey_step<A: Allocator + Copy, T: Witness<A>>(
     session: &mut Session<A>,
     step: &Step<A>,
+    witness: &mut T,
 ) -> Result<(), RefusedCommand>
-    ensures { IsObeyed (step_of step.now) result session.old.shown session.new.shown }
+    ensures obeyed { IsObeyed (step_of step.now) result session.old.shown session.new.shown }
+    ensures told { T.told witness.new ≡ T.told witness.old }
 {
     match step {
-        Step::Alone(command) => obey_alone(session, command),
-        Step::Try(tried) => obey_try(session, tried),
-        Step::Chain(chain) => obey_chain(session, &chain.first, &chain.others),
+        Step::Alone(command) => obey_alone(session, command, witness),
+        Step::Try(tried) => obey_try(session, tried, witness),
+        Step::Chain(chain) => obey_chain(session, &chain.first, &chain.others, witness),
     }
 }
 
@@ -51,15 +58,63 @@ fn is_met(refusal: Refusal) -> bool
     matches!(refusal, Refusal::Absent | Refusal::Already)
 }
 
+// Makes an edit as the session does, and tells the witness if it was made.
+fn apply<A: Allocator + Copy, T: Witness<A>>(
+    session: &mut Session<A>,
+    tried: &NumberedEdit<A>,
+    witness: &mut T,
+) -> Result<(), Refusal>
+    ensures done { OnOk result
+        (answer (Apply (edit_of tried.now.edit)) session.old.shown ≡ Ok session.new.shown) }
+    ensures refused { IfErr result (λ refusal.
+        IsEditRefusal (edit_of tried.now.edit) session.old.shown refusal) }
+    ensures same { OnErr result (session.new.shown ≡ session.old.shown) }
+    ensures few_read { session.new.rereads
+        ≤ session.old.rereads + cost session.old.shown.text (edit_of tried.now.edit) }
+    ensures told { T.told witness.new ≡ T.told witness.old }
+{
+    let answer = session.apply(&tried.edit);
+    if answer.is_ok() {
+        witness.accepted(tried.line, &tried.edit, session);
+    }
+    answer
+}
+
+/// The edit of the line of this number in a step, if the line has one.
+pub(crate) fn edit_at<A: Allocator>(step: &Step<A>, line: u64) -> Option<&Edit<A>> {
+    match step {
+        Step::Alone(numbered) => match &numbered.command {
+            Command::Apply(edit) => Some(edit),
+            _ => None,
+        },
+        Step::Try(tried) => Some(&tried.edit),
+        Step::Chain(chain) => {
+            for other in &chain.others {
+                if other.line == line {
+                    return Some(&other.edit);
+                }
+            }
+            Some(&chain.first.edit)
+        }
+    }
+}
+
 // Obeys a command alone: each refusal is told.
-fn obey_alone<A: Allocator + Copy>(
+fn obey_alone<A: Allocator + Copy, T: Witness<A>>(
     session: &mut Session<A>,
     command: &NumberedCommand<A>,
+    witness: &mut T,
 ) -> Result<(), RefusedCommand>
-    ensures { IsObeyed (Alone (numbered command.now)) result session.old.shown session.new.shown }
+    ensures obeyed { IsObeyed (Alone (numbered command.now)) result session.old.shown session.new.shown }
+    ensures told { T.told witness.new ≡ T.told witness.old }
 {
     match session.obey(&command.command) {
-        Ok(()) => Ok(()),
+        Ok(()) => {
+            if let Command::Apply(edit) = &command.command {
+                witness.accepted(command.line, edit, session);
+            }
+            Ok(())
+        }
         Err(refusal) => Err(RefusedCommand {
             line: command.line,
             refusal,
@@ -68,14 +123,16 @@ fn obey_alone<A: Allocator + Copy>(
 }
 
 // Obeys an edit behind `try`: an idle refusal is none.
-fn obey_try<A: Allocator + Copy>(
+fn obey_try<A: Allocator + Copy, T: Witness<A>>(
     session: &mut Session<A>,
     tried: &NumberedEdit<A>,
+    witness: &mut T,
 ) -> Result<(), RefusedCommand>
-    ensures { IsObeyed (Tried (numbered_edit tried.now)) result session.old.shown
+    ensures obeyed { IsObeyed (Tried (numbered_edit tried.now)) result session.old.shown
         session.new.shown }
+    ensures told { T.told witness.new ≡ T.told witness.old }
 {
-    match session.apply(&tried.edit) {
+    match apply(session, tried, witness) {
         Ok(()) => Ok(()),
         Err(refusal) if is_missing(refusal) || is_met(refusal) => Ok(()),
         Err(refusal) => Err(RefusedCommand {
@@ -86,25 +143,27 @@ fn obey_try<A: Allocator + Copy>(
 }
 
 // Obeys a chain: its edits are tried in order, until one is not passed over.
-fn obey_chain<A: Allocator + Copy>(
+fn obey_chain<A: Allocator + Copy, T: Witness<A>>(
     session: &mut Session<A>,
     first: &NumberedEdit<A>,
     others: &[NumberedEdit<A>],
+    witness: &mut T,
 ) -> Result<(), RefusedCommand>
-    ensures { ComesTo
+    ensures obeyed { ComesTo
         (chain_end (numbered_edit first.now) (map numbered_edit others.now) session.old.shown)
         (λ command. ChainTries (numbered_edit first.now) (map numbered_edit others.now)
         session.old.shown command) result session.old.shown session.new.shown }
+    ensures told { T.told witness.new ≡ T.told witness.old }
 {
     let mut tried = first;
     for other in others {
-        let answer = session.apply(&tried.edit);
+        let answer = apply(session, tried, witness);
         if !passes_over(answer) {
             return chain_answer(tried.line, answer);
         }
         tried = other;
     }
-    chain_answer(tried.line, session.apply(&tried.edit))
+    chain_answer(tried.line, apply(session, tried, witness))
 }
 
 // Whether an answer passes an edit of a chain over: there is nothing on which it is to be made.

@@ -58,6 +58,7 @@ where
         words.keep_going,
         out,
         report,
+        &mut (),
         &mut kept,
     );
     mem::forget(kept);

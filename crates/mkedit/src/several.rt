@@ -64,6 +64,7 @@ where
         words.keep_going,
         out,
         report,
+        &mut (),
         &mut kept,
     );
     mem::forget(kept);

@@ -71,6 +71,7 @@ pub fn run_row<A: Allocator + Copy>(rt: &HostRuntime, alloc: A, row: &Row, plan:
         row.keep_going,
         &mut out,
         &mut report,
+        &mut (),
         &mut None,
     );
     Answer {

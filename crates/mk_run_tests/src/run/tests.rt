@@ -3,7 +3,9 @@ ghost use Rattle.std.specs.Prelude.{◌≡◌, false};
 use super::bench::{Answer, moving, run_row};
 use super::rows::{CASES, Case, Row};
 use mk_lines::ByteSource;
-use mk_run::{Outcome, message, run, status};
+use mk_run::{Outcome, Reported, Witness, message, run, status};
+use mk_session::{Edit, Session};
+use std::alloc::Allocator;
 use std::process::Abort;
 use std::test::Fail;
 use test_devices::{EndlessSource, MemorySink, MemorySource};
@@ -218,6 +220,7 @@ fn run_of<R: ByteSource, S: ByteSource>(
         false,
         &mut out,
         &mut report,
+        &mut (),
         &mut None,
     );
     (outcome, out, report)
@@ -333,4 +336,53 @@ fn messages_and_statuses(rt: HostRuntime) {
         assert_eq!(rt; out.bytes(), text);
         assert_eq!(rt; status(&outcome), code);
     }
+}
+
+// A witness that remembers what it is told: of each refusal the line, its number, whether it is an
+// edit's, and how many bytes the text has; of each edit the line.
+struct Recorder {
+    refused: Vec<(u64, u8, bool, usize)>,
+    accepted: Vec<u64>,
+}
+
+impl<A: Allocator> Witness<A> for Recorder {
+    fn refused(&mut self, reported: &Reported<'_, A>, session: &Session<A>) {
+        let number = reported.refusal.number();
+        let size = session.doc().size();
+        let told = (reported.line, number, reported.edit.is_some(), size);
+        let _ = self.refused.push(told);
+    }
+
+    fn accepted(&mut self, line: u64, _edit: &Edit<A>, _session: &Session<A>) {
+        let _ = self.accepted.push(line);
+    }
+}
+
+#[test]
+fn a_witness_is_told_of_refusals_and_edits(rt: HostRuntime) {
+    let mut makefile = MemorySource::new(b"X = 1\nY = 2\n", ALL);
+    let script = b"set X abc\nset Z b\ntry unset Q\nset A b\nor set Y c\nundo\nundo\nundo\n";
+    let mut out = MemorySink::new(Vec::new(rt.alloc()), ALL);
+    let mut report = MemorySink::new(Vec::new(rt.alloc()), ALL);
+    let mut witness = Recorder {
+        refused: Vec::new(rt.alloc()),
+        accepted: Vec::new(rt.alloc()),
+    };
+    let outcome = run(
+        rt.alloc(),
+        &mut makefile,
+        &mut MemorySource::new(script, ALL),
+        100,
+        true,
+        &mut out,
+        &mut report,
+        &mut witness,
+        &mut None,
+    );
+    assert_eq!(rt; outcome, Outcome::Refused(2));
+    assert_eq!(rt; witness.accepted.as_slice(), &[1, 5]);
+    assert_eq!(rt;
+        witness.refused.as_slice(),
+        &[(2, 4, true, 14), (8, 16, false, 12)]
+    );
 }

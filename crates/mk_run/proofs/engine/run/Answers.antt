@@ -2,6 +2,7 @@ use Rattle.std.proofs.Common.{◌≡◌, refl, map, false, true}
 use Rattle.mk_script.specs.Scripts.{step_of}
 use Rattle.mk_run.proofs.on_runs.ReadLemmas.{short-script}
 use Rattle.mk_run.proofs.on_runs.RunLemmas.{depth-stops, script-stops}
+use Rattle.mk_run.proofs.on_runs.TellingLemmas.{untold-script}
 use Rattle.mk_run.proofs.engine.run.Goals as goal
 
 -- what the test does not find does not hold
@@ -36,3 +37,9 @@ returns-clause-script_long g c = short-script (g.S.ByteSource.remaining c.args.s
 
 pub run_steps-requires-clause-depth : goal.run_steps-requires-clause-depth
 run_steps-requires-clause-depth g c = is-good c.if-is_bad_depth.ensures.1
+
+pub returns-in-Err-clause-told : goal.returns-in-Err-clause-told
+returns-in-Err-clause-told g c = untold-script _ _ _ _ c.args.depth c.args.keep_going _ _ c.in-Err.outcome c.in-Err.ensures.stops
+
+pub returns-clause-told : goal.returns-clause-told
+returns-clause-told g c = c.run_steps.ensures.told _ (rw c.as_slice.ensures.value c.in-Ok.ensures.steps)

@@ -4,6 +4,7 @@ use Rattle.mk_run.specs.RunSteps.{StopsMakefile}
 use Rattle.mk_run.specs.declared.outcome.Outcome.{Outcome}
 use Rattle.mk_run.specs.declared.outcome.Outcome.TheVariants.{BadDepth, NotACommand, Read}
 use Rattle.mk_run.proofs.on_runs.RunLemmas.{makefile-stops, makefile-unopened, steps-over, reached-other}
+use Rattle.mk_run.proofs.on_runs.TellingLemmas.{told-run, untold-makefile}
 use Rattle.mk_run.proofs.engine.run_steps.Goals as goal
 
 pub returns-in-Err-clause-over : goal.returns-in-Err-clause-over
@@ -40,3 +41,11 @@ returns-clause-faults g c =
       read = (λ is. absurd (reached-other _ Read reached refl is), λ fails. absurd (let works = c.in-Ok.ensures.works in cc));
       write = search rules;
     }
+
+pub returns-in-Err-clause-told : goal.returns-in-Err-clause-told
+returns-in-Err-clause-told g c = λ script says. untold-makefile (g.R.ByteSource.remaining c.args.makefile.now) _ script (g.R.ByteSource.failed c.open_makefile.new.makefile) c.args.depth c.args.keep_going _ _ c.in-Err.outcome c.in-Err.ensures.stops
+
+pub returns-clause-told : goal.returns-clause-told
+returns-clause-told g c = λ script says.
+    told-run _ script c.args.depth c.args.keep_going (map step_of c.args.steps.now) c.in-Ok.session says c.in-Ok.ensures.opened _ _ c.obey_and_put_out.result
+    (rw c.insert-session.ensures.value at c.obey_and_put_out.ensures.told)

@@ -1,4 +1,4 @@
-use Rattle.std.proofs.Common.{◌≡◌, ◌+◌, ◌∙◌, refl, sym, subst, suc, drop, map, List, ℕ, arith}
+use Rattle.std.proofs.Common.{◌≡◌, ◌+◌, ◌∙◌, refl, sym, subst, suc, drop, map, List, ℕ, arith, rules}
 use Rattle.std.specs.Prelude.{Result}
 use Rattle.mk_edit_language.specs.EditViews.{edit_of}
 use Rattle.mk_session.proofs.on_sessions.AnswerLemmas.{edit-answered}
@@ -11,7 +11,7 @@ use Rattle.mk_run.proofs.on_runs.StepLemmas.{IsPassedTo, passed-none, passed-nex
 use Rattle.mk_run.proofs.step.obey_chain.Goals as goal
 
 pub loop-other-init : goal.loop-other-init
-loop-other-init g c = record { same = refl; passed = passed-none (numbered_edit c.args.first.now) (map numbered_edit c.args.others.now) c.args.session.now.shown }
+loop-other-init g c = record { told = search rules; same = refl; passed = passed-none (numbered_edit c.args.first.now) (map numbered_edit c.args.others.now) c.args.session.now.shown }
 
 pub loop-other-preserved : goal.loop-other-preserved
 loop-other-preserved g c =
@@ -21,40 +21,41 @@ loop-other-preserved g c =
     let tried = numbered_edit c.loop-other.tried.now in
     let next_edit = numbered_edit c.other-item.result in
     let said = c.apply-answer.ensures in
-    let answered = edit-answered (edit_of c.loop-other.tried.now.edit) c.apply-answer.result c.loop-other.session c.apply-answer.new.self said.done said.refused said.same said.few_read in
+    let answered = edit-answered (edit_of c.loop-other.tried.now.edit) c.apply-answer.result c.loop-other.session c.apply-answer.new.session said.done said.refused said.same said.few_read in
     let passed = subst (λ (l : List EditAt). IsPassedTo first others c.loop-other.session.shown tried l) (mapped-drop numbered_edit c.args.others.now i c.other-item.result c.loop-other-test.true c.other-item.is) c.loop-other.invariant.passed in
-    let next = passed-next first others tried next_edit (drop (suc i) others) c.apply-answer.result c.loop-other.session c.apply-answer.new.self passed answered (sym c.passes_over.ensures ∙ c.if-not-passes_over.false) in
+    let next = passed-next first others tried next_edit (drop (suc i) others) c.apply-answer.result c.loop-other.session c.apply-answer.new.session passed answered (sym c.passes_over.ensures ∙ c.if-not-passes_over.false) in
     let more : suc i ≡ i + 1 = omega arith in
     record {
+      told = search rules;
       same = next.1 ∙ c.loop-other.invariant.same;
-      passed = subst (λ (k : ℕ). IsPassedTo first others c.apply-answer.new.self.shown next_edit (drop k others)) more next.0;
+      passed = subst (λ (k : ℕ). IsPassedTo first others c.apply-answer.new.session.shown next_edit (drop k others)) more next.0;
     }
 
-pub returns-then-not-passes_over : goal.returns-then-not-passes_over
-returns-then-not-passes_over g c =
+pub returns-then-not-passes_over-clause-obeyed : goal.returns-then-not-passes_over-clause-obeyed
+returns-then-not-passes_over-clause-obeyed g c =
     let first = numbered_edit c.args.first.now in
     let others = map numbered_edit c.args.others.now in
     let i = c.loop-other.other-index in
     let tried = numbered_edit c.loop-other.tried.now in
     let next_edit = numbered_edit c.other-item.result in
     let said = c.apply-answer.ensures in
-    let answered = edit-answered (edit_of c.loop-other.tried.now.edit) c.apply-answer.result c.loop-other.session c.apply-answer.new.self said.done said.refused said.same said.few_read in
+    let answered = edit-answered (edit_of c.loop-other.tried.now.edit) c.apply-answer.result c.loop-other.session c.apply-answer.new.session said.done said.refused said.same said.few_read in
     let passed = subst (λ (l : List EditAt). IsPassedTo first others c.loop-other.session.shown tried l) (mapped-drop numbered_edit c.args.others.now i c.other-item.result c.loop-other-test.true c.other-item.is) c.loop-other.invariant.passed in
-    subst (λ (q : Result (Unit {0}) RefusedCommand). ComesTo (chain_end first others c.args.session.now.shown) (λ d. ChainTries first others c.args.session.now.shown d) q c.args.session.now.shown c.apply-answer.new.self.shown)
+    subst (λ (q : Result (Unit {0}) RefusedCommand). ComesTo (chain_end first others c.args.session.now.shown) (λ d. ChainTries first others c.args.session.now.shown d) q c.args.session.now.shown c.apply-answer.new.session.shown)
     (sym c.chain_answer.ensures)
-    (from-first first others _ c.loop-other.session.shown c.args.session.now.shown c.apply-answer.new.self.shown c.loop-other.invariant.same
-    (chain-ends first others tried next_edit (drop (suc i) others) c.apply-answer.result c.loop-other.session c.apply-answer.new.self passed answered (sym c.passes_over.ensures ∙ c.if-not-passes_over.true)))
+    (from-first first others _ c.loop-other.session.shown c.args.session.now.shown c.apply-answer.new.session.shown c.loop-other.invariant.same
+    (chain-ends first others tried next_edit (drop (suc i) others) c.apply-answer.result c.loop-other.session c.apply-answer.new.session passed answered (sym c.passes_over.ensures ∙ c.if-not-passes_over.true)))
 
-pub returns : goal.returns
-returns g c =
+pub returns-clause-obeyed : goal.returns-clause-obeyed
+returns-clause-obeyed g c =
     let first = numbered_edit c.args.first.now in
     let others = map numbered_edit c.args.others.now in
     let tried = numbered_edit c.loop-other.tried.now in
     let said = c.apply.ensures in
-    let answered = edit-answered (edit_of c.loop-other.tried.now.edit) c.apply.result c.loop-other.session c.apply.new.self said.done said.refused said.same said.few_read in
+    let answered = edit-answered (edit_of c.loop-other.tried.now.edit) c.apply.result c.loop-other.session c.apply.new.session said.done said.refused said.same said.few_read in
     let passed = subst (λ (l : List EditAt). IsPassedTo first others c.loop-other.session.shown tried l)
     (mapped-dropped numbered_edit c.args.others.now c.loop-other.other-index (λ less. omega (arith, less, c.loop-other-test.false))) c.loop-other.invariant.passed in
-    subst (λ (q : Result (Unit {0}) RefusedCommand). ComesTo (chain_end first others c.args.session.now.shown) (λ d. ChainTries first others c.args.session.now.shown d) q c.args.session.now.shown c.apply.new.self.shown)
+    subst (λ (q : Result (Unit {0}) RefusedCommand). ComesTo (chain_end first others c.args.session.now.shown) (λ d. ChainTries first others c.args.session.now.shown d) q c.args.session.now.shown c.apply.new.session.shown)
     (sym c.chain_answer-2.ensures)
-    (from-first first others _ c.loop-other.session.shown c.args.session.now.shown c.apply.new.self.shown c.loop-other.invariant.same
-    (chain-lasts first others tried c.apply.result c.loop-other.session c.apply.new.self passed answered))
+    (from-first first others _ c.loop-other.session.shown c.args.session.now.shown c.apply.new.session.shown c.loop-other.invariant.same
+    (chain-lasts first others tried c.apply.result c.loop-other.session c.apply.new.session passed answered))

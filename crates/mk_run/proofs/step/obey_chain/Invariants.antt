@@ -9,4 +9,5 @@ invariant-loop-other g l = record {
   same : l.session.shown ≡ l.fn.session.shown;
   passed : IsPassedTo (numbered_edit l.fn.first) (map numbered_edit l.fn.others) l.session.shown (numbered_edit l.tried)
       (drop l.other-index (map numbered_edit l.fn.others));
+  told : g.T.Witness.told l.witness ≡ g.T.Witness.told l.initial.witness;
 }
