@@ -340,6 +340,7 @@ fn messages_and_statuses(rt: HostRuntime) {
 
 // A witness that remembers what it is told: of each refusal the line, its number, whether it is an
 // edit's, and how many bytes the text has; of each edit the line.
+#[derive(Drop)]
 struct Recorder {
     refused: Vec<(u64, u8, bool, usize)>,
     accepted: Vec<u64>,
@@ -380,9 +381,9 @@ fn a_witness_is_told_of_refusals_and_edits(rt: HostRuntime) {
         &mut None,
     );
     assert_eq!(rt; outcome, Outcome::Refused(2));
-    assert_eq!(rt; witness.accepted.as_slice(), &[1, 5]);
+    assert_eq!(rt; witness.accepted.as_slice(), [1, 5].as_slice());
     assert_eq!(rt;
         witness.refused.as_slice(),
-        &[(2, 4, true, 14), (8, 16, false, 12)]
+        [(2, 4, true, 14), (8, 16, false, 12)].as_slice()
     );
 }
