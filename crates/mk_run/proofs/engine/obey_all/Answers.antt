@@ -122,6 +122,13 @@ returns-then-not-keep_going-clause-told_end g c =
     (subst (λ q. IsTold (g.T.Witness.told c.args.witness.now) q (tellings c.args.keep_going (take i (map step_of xs)) c.args.session.now.shown)) (sym c.in-Err.ensures.told) c.loop-step.invariant.told)
     c.tell.ensures)
 
+pub returns-clause-obeyed : goal.returns-clause-obeyed
+returns-clause-obeyed g c =
+    let xs = map step_of c.args.steps.now in
+    subst (λ (cs : List Step). AreObeyed c.args.keep_going cs c.args.session.now.shown c.loop-step.session.shown c.loop-step.refused (written (g.P.ByteSink.contents c.args.report.now) (g.P.ByteSink.contents c.loop-step.report)))
+    (take_all c.loop-step.step-index xs (omega (arith, c.loop-step-test.false, length-map c.args.steps.now step_of)))
+    c.loop-step.invariant.obeyed
+
 pub returns-clause-told : goal.returns-clause-told
 returns-clause-told g c =
     let xs = map step_of c.args.steps.now in
