@@ -119,7 +119,7 @@ fn a_define_has_its_name_and_a_conditional_its_lines(rt: HostRuntime) -> Result<
 #[test]
 fn the_text_of_a_document_is_in_memory(rt: HostRuntime) -> Result<(), Fail> {
     let doc = Doc::parse(rt.alloc(), TEXT, &mut Meter::new())?;
-    assert!(rt; text_of(rt.alloc(), &doc)? == TEXT);
+    assert!(rt; text_of(rt.alloc(), &doc)?.as_slice() == TEXT);
     let heap = Watched::new(rt.alloc());
     heap.refuse_one_after(0);
     assert!(rt; text_of(&heap, &doc).is_err());
