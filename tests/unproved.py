@@ -6,6 +6,7 @@ a folder of links to its kit, in which another clang keeps that module and ends.
 """
 
 import os
+import shlex
 import shutil
 import subprocess
 from pathlib import Path
@@ -18,11 +19,11 @@ CLANG = "toolchain/bin/clang"
 OTHER_CLANG = """#!/bin/sh
 case " $* " in
 *" -fsanitize=address "*)
-    cp module.bc '{module}'
+    cp module.bc MODULE
     exit 1
     ;;
 esac
-exec '{clang}' "$@"
+exec CLANG "$@"
 """
 TARGET = "x86_64-unknown-linux-gnu"
 # How clang is asked to compile the module.
@@ -54,18 +55,24 @@ def link_all(source, folder, but=()):
             (folder / it.name).symlink_to(it)
 
 
-def other_kit(folder, module):
-    """Makes a kit of links to the toolchain's, whose clang keeps the module."""
+def kit_with_clang(folder, script):
+    """Makes a kit of links to the toolchain's, with a shell script in place of its clang. The script has CLANG for that."""
     own = kit()
-    link_all(own, folder, ("bin", "toolchain"))
-    link_all(own / "bin", folder / "bin", COPIED)
-    for name in COPIED:
-        shutil.copy(own / "bin" / name, folder / "bin")
+    link_all(own, folder, ("toolchain",))
     link_all(own / "toolchain", folder / "toolchain", ("bin",))
     link_all(own / "toolchain/bin", folder / "toolchain/bin", ("clang",))
     clang = folder / CLANG
-    clang.write_text(OTHER_CLANG.format(module=module, clang=own / CLANG))
+    clang.write_text(script.replace("CLANG", shlex.quote(str(own / CLANG))))
     clang.chmod(0o755)
+
+
+def other_kit(folder, module):
+    """Makes a kit of links to the toolchain's, with an rt of its own, whose clang keeps the module."""
+    kit_with_clang(folder, OTHER_CLANG.replace("MODULE", shlex.quote(str(module))))
+    (folder / "bin").unlink()
+    link_all(kit() / "bin", folder / "bin", COPIED)
+    for name in COPIED:
+        shutil.copy(kit() / "bin" / name, folder / "bin")
 
 
 def called(words, folder, **environment):

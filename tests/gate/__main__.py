@@ -17,15 +17,16 @@
 With --all the prover refuses each wrong body, and proves the crates of tests too, whose tests are run
 as they are built: all that `rt ci` does at the top of the repository.
 
-The last line adds the counts up, and says as skipped how many wrong bodies were not tried; the line above
-it says how long the run took. The status is 0 only where nothing failed. No step takes anything from what
-`rt check` has left, and none leaves anything in the repository: what is proved is copied to a folder
-outside (part.py).
+The last line adds the counts up, and says as skipped how many wrong bodies were not tried. The line above
+it says how long the run took, and how much processor time; but for the tries, each step says so too. The
+status is 0 only where nothing failed. No step takes anything from what `rt check` has left, and none leaves
+anything in the repository: what is proved is copied to a folder outside (part.py).
 """
 
 import argparse
 import os
 import re
+import resource
 import subprocess
 import sys
 import tempfile
@@ -43,6 +44,13 @@ BUILT, LINKED = "crates/mkedit/out/mkedit", "crates/mkedit/out/bin/mkedit"
 COUNTS = re.compile(r"(\d+) passed, (\d+) failed\n?")
 
 
+def ended(process):
+    """Waits for a process to end, gives it its status, and returns the seconds of processor time that it took."""
+    _, status, usage = os.wait4(process.pid, 0)
+    process.returncode = -os.WTERMSIG(status) if os.WIFSIGNALED(status) else os.WEXITSTATUS(status)
+    return usage.ru_utime + usage.ru_stime
+
+
 def counts_of(module, *words):
     """Runs a module of tests, shows what it prints, and returns how many passed and how many failed.
 
@@ -53,9 +61,15 @@ def counts_of(module, *words):
     with subprocess.Popen(command, cwd=TOP, stdout=subprocess.PIPE, text=True, errors="replace") as process:
         for last in process.stdout:
             print(last, end="", flush=True)
+        seconds = ended(process)
+    print(f"tests.{module} took {minutes_of(seconds)} of processor time", flush=True)
     counts = COUNTS.fullmatch(last)
     passed, failed = map(int, counts.groups()) if counts else (0, 1)
     return passed, failed or int(process.returncode != 0)
+
+
+def minutes_of(seconds):
+    return "{} min {} s".format(*divmod(round(seconds), 60))
 
 
 def quick_counts():
@@ -64,7 +78,7 @@ def quick_counts():
 
 
 def proved_crates(crates, bodies):
-    """The crates that `make check` proves: what the program stands on, those of rows, those of wrong bodies."""
+    """The crates that `make check` proves: what the program stands on, those of rows, those that have wrong bodies."""
     rows = [it.name for it in crates.values() if it.holds_rows]
     return with_below(crates, ["mkedit", *rows, *(it.crate for it in bodies)])
 
@@ -74,7 +88,7 @@ def checked(room):
     crates = listed(TOP)
     bodies = bodies_of(crates.values())
     share = share_of(bodies, checksum(TOP))
-    proved = proved_crates(crates, share)
+    proved = proved_crates(crates, bodies)
     copy_part(TOP, room, [crates[it] for it in proved], share)
     print(f"wrong bodies to be tried, one in {SHARES} by the commit's checksum: {len(share)} of {len(bodies)}")
     for it in share:
@@ -124,8 +138,9 @@ def main():
         room.chmod(0o711)
         counts, skipped = checked_all(room, given.crates) if given.all else checked(room)
     passed, failed = map(sum, zip(*counts))
-    minutes, seconds = divmod(round(time.monotonic() - start), 60)
-    print(f"the gate took {minutes} min {seconds} s on {len(os.sched_getaffinity(0))} processors")
+    took, usage = time.monotonic() - start, resource.getrusage(resource.RUSAGE_CHILDREN)
+    print(f"the gate took {minutes_of(took)} on {len(os.sched_getaffinity(0))} processors,", end=" ")
+    print(f"and {minutes_of(usage.ru_utime + usage.ru_stime)} of processor time")
     print(f"{passed} passed, {failed} failed" + (f", {skipped} skipped" if skipped else ""), flush=True)
     return 1 if failed else 0
 

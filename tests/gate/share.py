@@ -2,15 +2,22 @@
 
 All wrong bodies take hours of processor time. So a landing tries one in twelve, and another landing
 others. `make check-all` tries all.
+
+A share has every third wrong body of a quarter of the crates. The first check of a crate's wrong bodies
+proves what their functions call too, and takes most of a minute before it comes to the first of them. A
+share of every crate would have that for each crate.
 """
 
 import hashlib
 import subprocess
+from collections import Counter
 from typing import NamedTuple
 
 from .wrong_bodies import wrong_bodies
 
 SHARES = 12
+# The crates stand in so many groups, and a share is of one of them.
+GROUPS = 4
 
 
 class Body(NamedTuple):
@@ -42,6 +49,17 @@ def checksum(top):
     return int(found, 16)
 
 
+def groups_of(bodies):
+    """The bodies in groups of nearly as many: all bodies of a crate are in one group."""
+    counts = Counter(it.crate for it in bodies)
+    groups, sizes = {}, [0] * GROUPS
+    for crate, count in sorted(counts.items(), key=lambda it: (-it[1], it[0])):
+        groups[crate] = sizes.index(min(sizes))
+        sizes[groups[crate]] += count
+    return [[it for it in bodies if groups[it.crate] == group] for group in range(GROUPS)]
+
+
 def share_of(bodies, number):
     """One share of wrong bodies, by a number: each body is in one of SHARES shares."""
-    return bodies[number % SHARES :: SHARES]
+    first, group = divmod(number % SHARES, GROUPS)
+    return groups_of(bodies)[group][first :: SHARES // GROUPS]

@@ -16,17 +16,19 @@ import tempfile
 import types
 import unittest
 from pathlib import Path
+from unittest import mock
 
 from tests import TOP
+from tests.unproved import CLANG
 
-from . import believed, bodies, dear, documents, maps, meters, refuse, repeats
+from . import believed, bodies, dear, documents, maps, meters, refuse, repeats, trying
 from .beside import GIVES_WAY, Tasks, in_lanes
 from .listed import listed, with_below
 from .part import copy_part
 from .crates import load
 from .proving import Said
 from .rounds import found_in_rounds, linked, take_rounds
-from .share import SHARES, Body, bodies_of, share_of
+from .share import GROUPS, SHARES, Body, bodies_of, share_of
 from .texts import problems as old_texts
 from .tries import program_of, tests_of
 
@@ -58,8 +60,19 @@ class Share(unittest.TestCase):
         self.assertEqual({*bodies_of(listed(TOP).values())}, files)
 
     def test_shares_are_alike_in_size(self):
-        bodies = [Body("mk_lines", str(it)) for it in range(100)]
-        self.assertEqual({len(share_of(bodies, it)) for it in range(SHARES)}, {8, 9})
+        bodies = bodies_of(listed(TOP).values())
+        sizes = [len(share_of(bodies, it)) for it in range(SHARES)]
+        self.assertLessEqual(max(sizes) - min(sizes), 4)
+
+    def test_shares_of_a_group_are_alike_in_size(self):
+        bodies = [Body(f"crate_{it % GROUPS}", str(it)) for it in range(100 * GROUPS)]
+        self.assertEqual({len(share_of(bodies, it)) for it in range(SHARES)}, {33, 34})
+
+    def test_a_share_has_bodies_of_the_crates_of_a_group(self):
+        bodies = bodies_of(listed(TOP).values())
+        groups = {frozenset(it.crate for it in share_of(bodies, number)) for number in range(SHARES)}
+        self.assertEqual(len(groups), GROUPS)
+        self.assertEqual(sum(map(len, groups)), len({it.crate for it in bodies}))
 
 
 class Part(InRoom):
@@ -357,6 +370,36 @@ class WithRt(InRoom):
         self.assertEqual(program_of(self.crate)[:2], (0, 1))
         self.says(self.crate.stream("stdout"), 1)
         self.assertEqual(program_of(self.crate)[:2], (0, 1))
+
+
+class Trying(InRoom):
+    """Tries with a script that stands for the toolchain's."""
+
+    def tried(self, *words, statuses=(0,)):
+        """The status of a try whose calls of rt end with these statuses, and whether each had the quick clang."""
+        statuses, quick = [*statuses], []
+
+        def main(called):
+            self.assertEqual(called, ["try", *words])
+            quick.append("-O1" in Path(script.rtlib.KIT, CLANG).read_text(encoding="utf-8"))
+            return statuses.pop(0)
+
+        (self.room / CLANG).parent.mkdir(parents=True)
+        (self.room / CLANG).write_text("")
+        script = types.SimpleNamespace(main=main, rtlib=types.SimpleNamespace(KIT=str(self.room)))
+        with mock.patch("tests.unproved.kit", lambda: self.room):
+            return trying.tried(script, [*words]), quick
+
+    def test_a_program_is_compiled_as_it_stands(self):
+        self.assertEqual(self.tried("--seconds", "1", statuses=[3]), (3, [False]))
+
+    def test_tests_that_pass_are_compiled_once(self):
+        self.assertEqual(self.tried("--test"), (0, [True]))
+
+    def test_tests_that_fail_are_tried_again_as_they_stand(self):
+        self.assertEqual(self.tried("--test", statuses=[1, 4]), (4, [True, False]))
+        shutil.rmtree(self.room / "toolchain")
+        self.assertEqual(self.tried("--test", statuses=[1, 0]), (1, [True, False]))
 
 
 # The memory of a task, and more than all tasks take together.
