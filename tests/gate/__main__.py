@@ -95,7 +95,7 @@ def checked(room):
         print(f"  {it.crate}/must-fail/{it.name}.edit", flush=True)
     counts = quick_counts()
     tries = Tries([it for it in crates.values() if it.has_tests or it.is_program and it.name not in proved])
-    counts += [counts_of("gate.crates", room), tries.counts(), tested_program(room)]
+    counts += [counts_of("gate.crates", room, str(tries.work())), tries.counts(), tested_program(room)]
     return counts, len(bodies) - len(share)
 
 

@@ -4,8 +4,8 @@ The toolchain begins a task where a processor is free, and a task keeps it to it
 of the longest chain waits until wrong bodies have been tried, and gets one processor where it could use
 four. Here the proofs get their jobs as `make` gives them (tools/lanes.py), and begin at once. All else
 goes on beside them with less priority: other proofs, and the wrong bodies, as many as there are processors.
-Wrong bodies are work that keeps the processors busy too, so a proof may have one job here where it has two
-in `make`.
+Wrong bodies are work that keeps the processors busy too, and so are tests that are tried elsewhere meanwhile.
+So a proof may have one job here where it has two in `make`.
 """
 
 import os
@@ -41,9 +41,11 @@ class Tasks:
     waits for, its lines of code, its memory, and a call, which gets what was given, and a number of jobs.
     """
 
-    def __init__(self, tasks, processors, memory):
+    def __init__(self, tasks, processors, memory, elsewhere=0):
+        """elsewhere: the work of others that share the processors, in lines of code."""
         self.tasks = tasks
         self.processors = processors
+        self.elsewhere = elsewhere
         self.given, self.running = {}, {}
         proofs = [it for it in tasks if it[1] not in EDITS]
         self.lanes = Lanes({it: self.proof(it) for it in proofs}, processors, memory)
@@ -60,13 +62,22 @@ class Tasks:
         after, lines, memory, _ = self.tasks[key]
         return Crate(tuple(after), lines, TAKEN * memory)
 
-    def trying_left(self):
-        """The work of the wrong bodies that are not tried yet."""
-        return sum(TRYING * (LONE_STEPS + self.tasks[it][1]) for it in [*self.edits, *self.trying])
+    def work(self, key):
+        """The work of a task, in lines of code."""
+        part = TRYING if key[1] in EDITS else 1
+        return part * (LONE_STEPS + self.tasks[key][1])
+
+    def others_left(self):
+        """The work beside the proofs: of the wrong bodies that are not tried yet, and of others while they go on.
+
+        Nothing tells how far the others are. They are taken to go on as quickly as the tasks do.
+        """
+        done = sum(map(self.work, self.given))
+        return sum(map(self.work, [*self.edits, *self.trying])) + max(0, self.elsewhere - done)
 
     def starts(self):
         """The keys that begin now, each with its jobs, and whether it goes before others."""
-        self.lanes.others = self.trying_left()
+        self.lanes.others = self.others_left()
         for key, jobs, is_urgent in self.lanes.starts():
             if not is_urgent:
                 self.beside.add(key)
@@ -95,9 +106,9 @@ class Tasks:
             self.lanes.ended(key)
 
 
-def in_lanes(script, tasks):
+def in_lanes(script, elsewhere, tasks):
     """What each task gave; as the toolchain's function of this name, which this takes the place of."""
-    left, futures = Tasks(tasks, script.processors(), script.free()), {}
+    left, futures = Tasks(tasks, script.processors(), script.free(), elsewhere), {}
     most = len(tasks) or 1
     with script.ending(), ThreadPoolExecutor(most) as first, ThreadPoolExecutor(
         most, initializer=os.nice, initargs=(GIVES_WAY,)
@@ -111,7 +122,7 @@ def in_lanes(script, tasks):
     return left.given
 
 
-def take_lanes(script):
+def take_lanes(script, elsewhere):
     """Has the toolchain's script run its tasks so, where it has the parts that this takes."""
     if not lacking(script, PARTS):
-        script.in_lanes = partial(in_lanes, script)
+        script.in_lanes = partial(in_lanes, script, elsewhere)

@@ -1,7 +1,8 @@
 """Proves, builds and runs the crates of a folder, wrong bodies and all, as `rt ci` does there.
 
-    python3 -m tests.gate.crates FOLDER
+    python3 -m tests.gate.crates FOLDER [LINES]
 
+LINES is the work that goes on beside it, in lines of code that are proved.
 This is `rt ci` with two differences. It tries many wrong bodies of a crate in one check (rounds.py says
 how), in less time. And the proofs that others wait for go before all else (beside.py). With a toolchain
 that keeps what an earlier `rt ci` has tried on this machine, it does not try that again. Where the
@@ -23,11 +24,12 @@ from toolchain import load  # noqa: E402
 
 
 def main():
-    os.chdir(sys.argv[1])
+    folder, *elsewhere = sys.argv[1:]
+    os.chdir(folder)
     script = load()
     try:
         take_rounds(script)
-        take_lanes(script)
+        take_lanes(script, sum(map(int, elsewhere)))
     except ValueError as fault:
         print(f"crates: {fault}, so this is rt ci", flush=True)
         os.execvp("rt", ["rt", "ci"])

@@ -40,6 +40,8 @@ TRIES = "crate, edits, flags"
 # At most so many shares of a crate's wrong bodies go side by side, and each has at least so many: each
 # round of a share has the start of a check, which takes as long as a wrong body.
 MOST_SHARES, FEWEST_EDITS = 4, 16
+# The work of a wrong body beside that of the start, in lines of code (beside.py).
+LINES = 80
 
 
 def linked(seed, folder):
@@ -324,7 +326,8 @@ class Shares:
             tasks[it] = first, lines, needs, partial(self.sow, first)
         for number, places in enumerate(self.shares):
             after = [*waits, *seeds]
-            tasks[name, "edits", number] = after, lines, self.script.OVER * needs, partial(self.try_share, places)
+            work = lines + LINES * len(places)
+            tasks[name, "edits", number] = after, work, self.script.OVER * needs, partial(self.try_share, places)
 
     def sow(self, first, given, jobs):
         """A room with the seed; None where all wrong bodies are known, or where there can be none."""

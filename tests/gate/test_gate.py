@@ -447,6 +447,20 @@ class Beside(unittest.TestCase):
         tasks["low", "edits", 2] = task(proof("low"), lines=5000)
         self.assertEqual([*Tasks(tasks, 2, ENOUGH).starts()][0], (proof("low"), 1, True))
 
+    def test_a_proof_has_one_job_while_others_keep_the_processors_busy(self):
+        tasks = Tasks(two_crates(), 2, ENOUGH, elsewhere=4000)
+        self.assertEqual([*tasks.starts()][0], (proof("low"), 1, True))
+        self.assertEqual([*Tasks(two_crates(), 2, ENOUGH).starts()][0], (proof("low"), 2, True))
+
+    def test_others_are_taken_to_go_on_as_quickly(self):
+        tasks = Tasks(two_crates(), 2, ENOUGH, elsewhere=450)
+        before = tasks.others_left()
+        self.assertEqual([key for key, _, _ in tasks.starts()], [proof("low"), ("low", "seed")])
+        tasks.ended(proof("low"), True)
+        self.assertEqual(before - tasks.others_left(), 400)
+        tasks.ended(("low", "seed"), True)
+        self.assertEqual(before - tasks.others_left(), 450 + 200)
+
     def test_as_many_wrong_bodies_are_tried_as_there_are_processors(self):
         tasks, begun = self.begun()
         self.assertEqual(begun[1:], [(("high", "seed"), 1, False), (("low", "edits", 1), 1, False)])
@@ -462,7 +476,7 @@ class Beside(unittest.TestCase):
         seen = {}
         tasks = two_crates()
         tasks["low", "edits", 1] = task(proof("low"), call=lambda given, jobs: seen.update(given))
-        given = in_lanes(script, tasks)
+        given = in_lanes(script, 0, tasks)
         self.assertEqual(given.keys(), tasks.keys())
         self.assertEqual(seen[proof("low")], 2)
 
@@ -473,7 +487,7 @@ class Beside(unittest.TestCase):
             return int(subprocess.run([sys.executable, "-c", "import os; print(os.nice(0))"], capture_output=True).stdout)
 
         tasks = {proof("low"): task(call=own), ("low", "seed"): task(call=own)}
-        given = in_lanes(script, tasks)
+        given = in_lanes(script, 0, tasks)
         # (19 is the least priority there is)
         self.assertEqual(given["low", "seed"], min(19, given[proof("low")] + GIVES_WAY))
 

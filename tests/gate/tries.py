@@ -18,6 +18,8 @@ from tests import TOP
 RESULT = re.compile(rb"^test result: \w+\. (\d+) passed; (\d+) failed; 0 ignored; 0 filtered out$", re.M)
 # How many crates are tried at once, and how much they give way to the proofs beside them.
 AT_ONCE, GIVES_WAY = 2, "10"
+# The work of a try, in lines of code that are proved (tools/lanes.py).
+WORK = 700
 # How many seconds a run may take: a million lines with run-time checks take two minutes.
 SECONDS = "1200"
 
@@ -71,6 +73,10 @@ class Tries:
         self.printing = threading.Lock()
         self.pool = ThreadPoolExecutor(AT_ONCE)
         self.tried = [self.pool.submit(self.run, it) for it in crates]
+
+    def work(self):
+        """The work of all of them, in lines of code that are proved."""
+        return WORK * len(self.tried)
 
     def run(self, crate):
         tried = tests_of(crate) if crate.has_tests else program_of(crate)
