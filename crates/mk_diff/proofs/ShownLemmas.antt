@@ -1,7 +1,8 @@
 -- The lines that references show.
 use Rattle.std.proofs.Common.{◌≡◌, ℕ, zero, suc, ◌+◌, ◌-◌, ◌<◌, ◌≤◌, List, [], ◌∷◌, ◌++◌, length, get_or, take, drop, refl, sym, ap, ap₂, ◌∙◌, arith, Bor}
-use Rattle.std.proofs.lemmas.List.{length-map, take-map, take_more, take_rest}
-use Rattle.mk_diff.specs.Stretches.{shown, between, line_at}
+use Rattle.std.proofs.lemmas.List.{length-drop, length-map, take-map, take_more, take_rest}
+use Rattle.mk_diff.specs.Stretches.{IsMatch, shown, between, line_at}
+use Rattle.mk_diff.specs.declared.matching.Match.{Match}
 
 pub length-shown : (ls : List (Bor (List ℕ))) → length (shown ls) ≡ length ls
 length-shown ls = length-map ls (λ (l : Bor (List ℕ)). l.now)
@@ -32,3 +33,12 @@ shown-rest i ls = ap shown (take_rest ls i) ∙ shown-drop i ls
 
 pub within-rest : (n i : ℕ) (ls : List (Bor (List ℕ))) → n ≤ length (take (length ls - i) (drop i ls)) → n ≤ length (drop i (shown ls))
 within-rest n i ls within = omega (arith, within, ap length (shown-rest i ls), length-shown (take (length ls - i) (drop i ls)))
+
+-- a match that was found in what is left of two texts ends within both
+pub found-within : (i j : ℕ) (found : Match) (old new : List (Bor (List ℕ))) → i ≤ length old → j ≤ length new
+    → IsMatch found (shown (take (length old - i) (drop i old))) (drop j (shown new)) → (i + found.removed ≤ length old) × (j + found.added ≤ length new)
+found-within i j found old new old_in new_in is =
+    let rest = rw shown-rest at is in (
+      omega (arith, rest.old_within, length-drop i (shown old), length-shown old),
+      omega (arith, rest.new_within, length-drop j (shown new), length-shown new),
+    )

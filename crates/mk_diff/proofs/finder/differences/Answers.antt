@@ -4,7 +4,7 @@ use Rattle.mk_diff.specs.declared.stretch.Stretch.{Stretch}
 use Rattle.mk_diff.proofs.FinderLemmas.{Completes, completes-end, completes-front, completes-last, differ-drop, further}
 use Rattle.std.proofs.lemmas.List.{length-drop}
 use Rattle.std.proofs.lemmas.Option.{MatchOption-at_none, MatchOption-at_some}
-use Rattle.mk_diff.proofs.ShownLemmas.{length-shown, shown-rest, within-rest}
+use Rattle.mk_diff.proofs.ShownLemmas.{found-within, length-shown, shown-rest, within-rest}
 use Rattle.mk_diff.proofs.finder.differences.Goals as goal
 use Rattle.mk_diff.proofs.finder.differences.Goals.{then-old_at-old, else-old_at-old+then-new_at-new}
 
@@ -72,22 +72,47 @@ returns-clause-leads g c =
     rw append-nil at (completes-end (shown old) (shown new) c.stretches.old_at c.stretches.new_at c.stretches.stretches.items c.stretches.invariant.4
     (omega (arith, length-shown old)) (omega (arith, length-shown new)))
 
--- ---- the ends of a stretch are within both texts
+-- ---- a stretch ends within both texts, and so does what they have in common after it
 
 pub overflow_add-old_end : goal.overflow_add-old_end
 overflow_add-old_end g c =
-    let old = c.args.old.now in
-    let i = c.stretches.old_at in
-    let is = rw (shown-rest i old) at (MatchOption-at_some _ _ _ c.in-Some.is c.in_ok-found.ensures.found) in
-    omega (arith, is.old_within, length-drop i (shown old), length-shown old)
+    let within = found-within c.stretches.old_at c.stretches.new_at c.in-Some.found c.args.old.now c.args.new.now c.stretches.invariant.0 c.stretches.invariant.1 (MatchOption-at_some _ _ _ c.in-Some.is c.in_ok-found.ensures.found) in
+    omega (arith, within)
 
 pub overflow_add-new_end : goal.overflow_add-new_end
 overflow_add-new_end g c =
-    let old = c.args.old.now in
-    let new = c.args.new.now in
-    let j = c.stretches.new_at in
-    let is = rw (shown-rest c.stretches.old_at old) at (MatchOption-at_some _ _ _ c.in-Some.is c.in_ok-found.ensures.found) in
-    omega (arith, is.new_within, length-drop j (shown new), length-shown new)
+    let within = found-within c.stretches.old_at c.stretches.new_at c.in-Some.found c.args.old.now c.args.new.now c.stretches.invariant.0 c.stretches.invariant.1 (MatchOption-at_some _ _ _ c.in-Some.is c.in_ok-found.ensures.found) in
+    omega (arith, within)
+
+pub offset_bounds-old-old_end : goal.offset_bounds-old-old_end
+offset_bounds-old-old_end g c =
+    let within = found-within c.stretches.old_at c.stretches.new_at c.in-Some.found c.args.old.now c.args.new.now c.stretches.invariant.0 c.stretches.invariant.1 (MatchOption-at_some _ _ _ c.in-Some.is c.in_ok-found.ensures.found) in
+    omega (arith, within)
+
+pub slice_bounds-common_front-start : goal.slice_bounds-common_front-start
+slice_bounds-common_front-start g c =
+    let within = found-within c.stretches.old_at c.stretches.new_at c.in-Some.found c.args.old.now c.args.new.now c.stretches.invariant.0 c.stretches.invariant.1 (MatchOption-at_some _ _ _ c.in-Some.is c.in_ok-found.ensures.found) in
+    within.0
+
+pub offset_bounds-new-new_end : goal.offset_bounds-new-new_end
+offset_bounds-new-new_end g c =
+    let within = found-within c.stretches.old_at c.stretches.new_at c.in-Some.found c.args.old.now c.args.new.now c.stretches.invariant.0 c.stretches.invariant.1 (MatchOption-at_some _ _ _ c.in-Some.is c.in_ok-found.ensures.found) in
+    omega (arith, within)
+
+pub slice_bounds-common_front-start-in-stretches : goal.slice_bounds-common_front-start-in-stretches
+slice_bounds-common_front-start-in-stretches g c =
+    let within = found-within c.stretches.old_at c.stretches.new_at c.in-Some.found c.args.old.now c.args.new.now c.stretches.invariant.0 c.stretches.invariant.1 (MatchOption-at_some _ _ _ c.in-Some.is c.in_ok-found.ensures.found) in
+    within.1
+
+pub overflow_add-old_at : goal.overflow_add-old_at
+overflow_add-old_at g c =
+    let within = found-within c.stretches.old_at c.stretches.new_at c.in-Some.found c.args.old.now c.args.new.now c.stretches.invariant.0 c.stretches.invariant.1 (MatchOption-at_some _ _ _ c.in-Some.is c.in_ok-found.ensures.found) in
+    omega (arith, within, c.common_front-same.ensures.old_within)
+
+pub overflow_add-new_at : goal.overflow_add-new_at
+overflow_add-new_at g c =
+    let within = found-within c.stretches.old_at c.stretches.new_at c.in-Some.found c.args.old.now c.args.new.now c.stretches.invariant.0 c.stretches.invariant.1 (MatchOption-at_some _ _ _ c.in-Some.is c.in_ok-found.ensures.found) in
+    omega (arith, within, c.common_front-same.ensures.new_within)
 
 pub stretches-smaller : goal.stretches-smaller
 stretches-smaller g c =
