@@ -6,7 +6,9 @@ _mkedit_options() {
     case $1 in
         "") echo "-h --help -V --version" ;;
         edit) echo "-k --keep-going -d --depth -o --output -i --in-place --backup --diff -e --expression --notes -h --help" ;;
-        vars | rules | recipes | check | caveats) echo "--notes -h --help" ;;
+        vars) echo "--name --notes -h --help" ;;
+        rules | recipes) echo "--target --notes -h --help" ;;
+        check | caveats) echo "--notes -h --help" ;;
         help) ;;
         *) echo "-h --help" ;;
     esac
@@ -25,6 +27,8 @@ _mkedit() {
     COMPREPLY=()
     if [[ $command == edit && $before == @(-d|--depth|-e|--expression|--backup) ]]; then
         return # a number, a command of a script, or a suffix
+    elif [[ $before == @(--name|--target) ]]; then
+        return # a name or a target of a makefile
     elif [[ $word == -* && $before != @(-o|--output) ]]; then
         mapfile -t COMPREPLY < <(compgen -W "$(_mkedit_options "$command")" -- "$word")
     elif ((COMP_CWORD == 1)) || [[ $command == help && COMP_CWORD -eq 2 ]]; then

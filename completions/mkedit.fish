@@ -22,6 +22,8 @@ complete -c mkedit -n '__fish_seen_subcommand_from edit' -l backup -x -d 'With -
 complete -c mkedit -n '__fish_seen_subcommand_from edit' -l diff -d 'Prints what would change, as a diff that patch takes, in place of the text'
 complete -c mkedit -n '__fish_seen_subcommand_from edit' -s e -l expression -x -d 'A line of a script, in place of SCRIPT; several -e are its lines'
 
+complete -c mkedit -n '__fish_seen_subcommand_from vars; and not __fish_seen_subcommand_from help' -l name -x -d 'Lists the assignments of this name alone, for targets or not'
+complete -c mkedit -n '__fish_seen_subcommand_from rules recipes; and not __fish_seen_subcommand_from help' -l target -x -d 'Lists what belongs to the rules for this target alone'
 complete -c mkedit -n '__fish_seen_subcommand_from edit vars rules recipes check caveats; and not __fish_seen_subcommand_from help' -l notes -d 'Says below a message why a file could not be opened, read or written'
 complete -c mkedit -n '__fish_seen_subcommand_from edit vars rules recipes check caveats; and not __fish_seen_subcommand_from help' -F
 complete -c mkedit -n '__fish_seen_subcommand_from help' -a 'edit vars rules recipes check caveats explain help'

@@ -38,10 +38,20 @@ _mkedit_edit() {
 }
 
 _mkedit_query() {
-    _arguments -s \
+    _arguments -s "$@" \
         '--notes[say below a message why a file could not be opened, read or written]' \
         '(-h --help)'{-h,--help}'[print help]' \
         '*:makefile:_files'
+}
+
+_mkedit_vars() {
+    _mkedit_query \
+        '--name=[list the assignments of this name alone, for targets or not]:name: '
+}
+
+_mkedit_rules() {
+    _mkedit_query \
+        '--target=[list what belongs to the rules for this target alone]:target: '
 }
 
 _mkedit_explain() {
@@ -69,7 +79,9 @@ _mkedit() {
     [[ $state == argument ]] || return
     case $line[1] in
         edit) _mkedit_edit ;;
-        vars | rules | recipes | check | caveats) _mkedit_query ;;
+        vars) _mkedit_vars ;;
+        rules | recipes) _mkedit_rules ;;
+        check | caveats) _mkedit_query ;;
         explain) _mkedit_explain ;;
         help) _arguments '1:command:_mkedit_commands' ;;
     esac

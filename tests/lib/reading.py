@@ -387,13 +387,15 @@ def place(line):
     return b"%d:%d: " % (line.number, line.context.conditionals)
 
 
-def vars_text(text):
-    """What `mkedit vars` prints."""
+def vars_text(text, only=None):
+    """What `mkedit vars` prints, or with `--name` what it prints of one name."""
     out = b""
     for line in read(text)[0]:
         if line.kind not in ("Assign", "TargetAssign"):
             continue
         *of_rule, modifiers, name, operator, value = line.parts
+        if only not in (None, name):
+            continue
         out += place(line)
         if of_rule:
             out += b" ".join(of_rule[0]) + of_rule[1] + b" "
@@ -412,11 +414,16 @@ def recipe_lines(lines):
     return count
 
 
-def rules_text(text):
-    """What `mkedit rules` prints."""
+def is_rule(line, only):
+    """Whether a line is that of a rule whose words are read, and of one target where there is one."""
+    return line.kind == "Header" and (only is None or only in line.parts[0])
+
+
+def rules_text(text, only=None):
+    """What `mkedit rules` prints, or with `--target` what it prints of one target."""
     lines, out = read(text)[0], b""
     for at, line in enumerate(lines):
-        if line.kind != "Header":
+        if not is_rule(line, only):
             continue
         targets, separator, pattern, normal, order, inline = line.parts
         out += place(line) + b" ".join(targets) + separator
@@ -426,11 +433,11 @@ def rules_text(text):
     return out
 
 
-def recipes_text(text):
-    """What `mkedit recipes` prints."""
+def recipes_text(text, only=None):
+    """What `mkedit recipes` prints, or with `--target` what it prints of one target."""
     lines, out = read(text)[0], b""
     for at, line in enumerate(lines):
-        if line.kind != "Header":
+        if not is_rule(line, only):
             continue
         number = 0
         for below in lines[at + 1 :]:
@@ -525,3 +532,17 @@ def caveats_text(text):
 
 
 QUERIES = {"vars": vars_text, "rules": rules_text, "recipes": recipes_text, "check": check_text, "caveats": caveats_text}
+
+
+def names(text):
+    """The names of all assignments of a makefile."""
+    return {it.parts[-3] for it in read(text)[0] if it.kind in ("Assign", "TargetAssign")}
+
+
+def targets(text):
+    """The targets of all rules of a makefile whose words are read."""
+    return {target for line in read(text)[0] if is_rule(line, None) for target in line.parts[0]}
+
+
+# What a query may be asked for alone, where it may be.
+CHOICES = {"vars": names, "rules": targets, "recipes": targets}

@@ -5,6 +5,7 @@ A table is a file of lines with columns between tabs; its first line names the c
     name makefile script flags stdout stderr status     `mkedit edit FLAGS script Makefile`
     name query makefile stdout                          `mkedit QUERY Makefile`, with status 0
                                                         and nothing on standard error
+    name query word makefile stdout                     the same, of this name or target alone
 
 In a column \\\\, \\t, \\n, \\r and \\xHH stand for a backslash, a tab, a line end, a return and
 the byte HH; every other byte is itself. Flags have blanks between them. A table may lack the flags,
@@ -21,6 +22,7 @@ CASES = TOP / "tests/cases"
 TABLES = (
     "queries",
     "corner-queries",
+    "chosen-queries",
     "runs",
     "corner-runs",
     "random-runs",
@@ -31,6 +33,8 @@ TABLES = (
     "edits/words",
     "edits/every-value",
 )
+# The option of a query that says of what alone it tells.
+OPTIONS = {"vars": "--name", "rules": "--target", "recipes": "--target"}
 ESCAPES = {"\\\\": b"\\", "\\t": b"\t", "\\n": b"\n", "\\r": b"\r"}
 PIECE = re.compile(r"\\x[0-9A-Fa-f]{2}|\\[\\tnr]|[^\\]+")
 
@@ -64,7 +68,8 @@ def case_of(name, row):
     files = {"Makefile": unescape(row["makefile"])}
     out = unescape(row["stdout"])
     if "query" in row:
-        return Case(name, files, [row["query"], "Makefile"], Outcome(out, b"", 0))
+        chosen = [OPTIONS[row["query"]], unescape(row["word"]).decode()] if "word" in row else []
+        return Case(name, files, [row["query"], *chosen, "Makefile"], Outcome(out, b"", 0))
     files["script"] = unescape(row["script"])
     words = ["edit", *row.get("flags", "").split(), "script", "Makefile"]
     wanted = Outcome(out, unescape(row["stderr"]), int(row["status"]))

@@ -7,6 +7,7 @@ import subprocess
 from tests import TOP
 from tests.lib.checks import SECONDS, Outcome, differences
 from tests.lib.rooms import ANSWERS, EDITED, REFUSED, TEXT, RoomCase, silent
+from tests.lib.tables import OPTIONS
 
 COMMANDS = ("edit", *ANSWERS, "explain")
 
@@ -72,11 +73,43 @@ class CommandLine(RoomCase):
             ["vars", "-k", "Makefile"],
             ["rules", "-o", "out", "Makefile"],
             ["check", "--depth", "5", "Makefile"],
+            ["vars", "Makefile", "--name"],
+            ["vars", "--name", "-k", "Makefile"],
+            ["vars", "--name", "CC", "--name", "CC", "Makefile"],
+            ["rules", "--target", "a", "--target", "b", "Makefile"],
+            ["edit", "--name", "CC", "script", "Makefile"],
+            ["explain", "--target", "a", "4"],
+            ["--name", "CC", "vars", "Makefile"],
             ["--keep-going", "edit", "script", "Makefile"],
         )
         for words in lines:
             self.assert_bad_command_line(*words)
             self.assert_holds("out", None)
+
+    def test_an_option_beside_a_query_that_does_not_take_it_is_told_with_the_query(self):
+        for query in ANSWERS:
+            for option in {"--name", "--target"} - {OPTIONS.get(query)}:
+                words = (query, option, "all", "queried")
+                self.assert_bad_command_line(*words)
+                told = self.room.run(*words).stderr.decode()
+                self.assertRegex(told, rf"^error: unexpected argument '{option}' found\n")
+                self.assertIn(f"Usage: mkedit {query} ", told)
+
+    def test_a_query_of_one_name_or_target_prints_its_lines_alone(self):
+        for query, words, answer in (
+            ("vars", ("--name", "CC"), ANSWERS["vars"]),
+            ("vars", ("--name=CC",), ANSWERS["vars"]),
+            ("vars", ("--name", "CXX"), b""),
+            ("vars", ("--name=",), b""),
+            ("rules", ("--target", "all"), ANSWERS["rules"]),
+            ("rules", ("--target", "main.o"), b""),
+            ("recipes", ("--target=all",), ANSWERS["recipes"]),
+            ("recipes", ("--target", "al"), b""),
+        ):
+            self.assert_run(Outcome(answer, b"", 0), query, *words, "queried")
+            self.assert_run(Outcome(answer, b"", 0), query, "queried", *words, "--notes")
+            with open(self.room.folder / "queried", "rb") as stdin:
+                self.assert_run(Outcome(answer, b"", 0), query, *words, stdin=stdin)
 
     def test_commands_of_the_command_line_are_the_lines_of_a_script(self):
         words = ("-e", "set CC clang")

@@ -21,6 +21,18 @@ ZSH_OPTION = re.compile(r"\{(-\w)\+?,(--[\w-]+?)=?\}|^ +'(?:\([^)]*\))?()(--[\w-
 FISH_COMMAND = re.compile(r"-n __fish_use_subcommand -a (\w+)")
 FISH_REFUSALS = re.compile(r"^set -l refusals (.*)$", re.M)
 FISH_OPTION = re.compile(r"(?:-s (\w) )?-l ([\w-]+)")
+FISH_CONDITION = re.compile(r"-n (?:(__fish_use_subcommand)|'__fish_seen_subcommand_from ([\w ]+)[;'])")
+# The functions of the file for zsh that have the options of a command, "" for the program itself.
+ZSH_FUNCTIONS = {
+    "": ("",),
+    "edit": ("_edit",),
+    "vars": ("_vars", "_query"),
+    "rules": ("_rules", "_query"),
+    "recipes": ("_rules", "_query"),
+    "check": ("_query",),
+    "caveats": ("_query",),
+    "explain": ("_explain",),
+}
 
 
 def section(shown, title):
@@ -28,9 +40,19 @@ def section(shown, title):
     return re.search(rf"^{title}:\n((?: .*\n?)+)", shown, re.M)[1]
 
 
-def options_of_fish(text, others):
-    """The options in the lines that do not have the condition of others."""
-    lines = "\n".join(it for it in text.splitlines() if it.startswith("complete") and others not in it)
+def is_for(line, command):
+    """Whether a line of the file for fish is for a command, or for the program itself, which is ""."""
+    if not line.startswith("complete"):
+        return False
+    condition = FISH_CONDITION.search(line)
+    if not condition:
+        return True
+    return command in condition[2].split() if condition[2] else not command
+
+
+def options_of_fish(text, command):
+    """The options in the lines for a command."""
+    lines = "\n".join(it for it in text.splitlines() if is_for(it, command))
     found = FISH_OPTION.findall(lines)
     return {f"-{short}" for short, _ in found if short} | {f"--{long}" for _, long in found}
 
@@ -111,8 +133,9 @@ class Completions(RoomCase):
         for words in (["edit"], ["edit", "script"], ["edit", "-k"], ["edit", "-o"], ["vars"]):
             self.assertLessEqual(there, offered(self.room, ["mkedit", *words], ""), f"after {words}")
         self.assertEqual(offered(self.room, ["mkedit", "explain"], ""), names_of_refusals())
-        # a depth is no file
-        self.assertFalse(there & offered(self.room, ["mkedit", "edit", "-d"], ""))
+        # a depth is no file, nor is a name or a target
+        for words in (["edit", "-d"], ["vars", "--name"], ["rules", "--target"]):
+            self.assertFalse(there & offered(self.room, ["mkedit", *words], ""), words)
 
     def test_bash_completes_what_help_lists(self):
         self.assert_completes("bash", offered_by_bash)
@@ -122,8 +145,9 @@ class Completions(RoomCase):
 
     def test_the_file_for_fish_has_what_help_lists(self):
         text = (FOLDER / "mkedit.fish").read_text(encoding="utf-8")
-        for words, others in (([], "__fish_seen_subcommand_from"), (["edit"], "__fish_use_subcommand")):
-            self.assertEqual(options_of_fish(text, others), options(self.room, *words))
+        for command in ZSH_FUNCTIONS:
+            found = options_of_fish(text, command)
+            self.assertEqual(found, options(self.room, *command.split()), command)
         self.assertEqual({*FISH_REFUSALS.search(text)[1].split()}, names_of_refusals())
         self.assertEqual({*FISH_COMMAND.findall(text)}, commands(self.room))
 
@@ -131,11 +155,10 @@ class Completions(RoomCase):
         text = (FOLDER / "mkedit.zsh").read_text(encoding="utf-8")
         named = {*ZSH_COMMAND.findall(section_of_zsh(text, "_mkedit_commands"))}
         self.assertEqual(named, commands(self.room))
-        functions = (("", []), ("_edit", ["edit"]), ("_query", ["vars"]), ("_explain", ["explain"]))
-        for function, words in functions:
-            part = section_of_zsh(text, f"_mkedit{function}")
-            found = {it for pair in ZSH_OPTION.findall(part) for it in pair if it}
-            self.assertEqual(found, options(self.room, *words))
+        for command, functions in ZSH_FUNCTIONS.items():
+            parts = "".join(section_of_zsh(text, f"_mkedit{function}") for function in functions)
+            found = {it for pair in ZSH_OPTION.findall(parts) for it in pair if it}
+            self.assertEqual(found, options(self.room, *command.split()), command)
         part = section_of_zsh(text, "_mkedit_explain")
         found = {*re.search(r"refusals=\((.*?)\)", part, re.S)[1].split()}
         self.assertEqual(found, names_of_refusals())

@@ -1,7 +1,8 @@
 """The queries over every makefile of tests/cases, beside a reading in Python (tests/lib/reading.py).
 
 The tables have some 3,200 makefiles, most of them small and hostile. Each has to be read as
-tests/cases/readings says, where it stands there, and each query has to print what reading.py says.
+tests/cases/readings says, where it stands there, and each query has to print what reading.py says, of
+the whole makefile and of one name or target.
 """
 
 import ast
@@ -9,7 +10,7 @@ import ast
 from tests.lib import reading
 from tests.lib.checks import Outcome
 from tests.lib.rooms import RoomCase
-from tests.lib.tables import TABLES, rows, unescape
+from tests.lib.tables import OPTIONS, TABLES, rows, unescape
 
 READINGS = ("readings/worked", "readings/random")
 
@@ -21,6 +22,14 @@ def makefiles():
         for _, row in rows(table):
             found.setdefault(unescape(row["makefile"]), f"{table}: {row['name']}")
     return found
+
+
+def is_word(text):
+    """Whether a text can be a word of the command line: it is UTF-8, and has no NUL."""
+    try:
+        return "\0" not in text.decode()
+    except UnicodeDecodeError:
+        return False
 
 
 class Queries(RoomCase):
@@ -38,6 +47,25 @@ class Queries(RoomCase):
                 self.room.write("Makefile", text)
                 wanted = Outcome(reading.QUERIES[query](text), b"", 0)
                 self.assert_run(wanted, query, "Makefile")
+
+    def assert_answers_alone(self, query):
+        """So has the answer to a query that is asked for a name or target of each makefile."""
+        for text, name in makefiles().items():
+            words = sorted(filter(is_word, reading.CHOICES[query](text)))
+            for word in words[len(text) % max(len(words), 1) :][:1]:
+                with self.subTest(f"{query}, {word}, {name}"):
+                    self.room.write("Makefile", text)
+                    wanted = Outcome(reading.QUERIES[query](text, word), b"", 0)
+                    self.assert_run(wanted, query, f"{OPTIONS[query]}={word.decode()}", "Makefile")
+
+    def test_vars_of_one_name(self):
+        self.assert_answers_alone("vars")
+
+    def test_rules_for_one_target(self):
+        self.assert_answers_alone("rules")
+
+    def test_recipes_for_one_target(self):
+        self.assert_answers_alone("recipes")
 
     def test_vars(self):
         self.assert_answers("vars")

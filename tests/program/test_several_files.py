@@ -131,6 +131,14 @@ class SeveralFiles(RoomCase):
             words = (query, "other", "-")
             self.assert_run(Outcome(of_other + of_input, b"", 0), *words, given=QUERIED)
 
+    def test_several_files_are_asked_of_one_name_or_target(self):
+        self.room.write("two", TWO)
+        told = b"Makefile:1:0: CC = gcc\ntwo:1:0: CC = a\ntwo:2:0: CC = b\n-:2:1: CC = gcc\n"
+        words = ("vars", "--name", "CC", "Makefile", "other", "two", "-")
+        self.assert_run(Outcome(told, b"", 0), *words, given=QUERIED)
+        told = b"queried:4:1: all [1] cc\n"
+        self.assert_run(Outcome(told, b"", 0), "recipes", "Makefile", "--target=all", "queried")
+
     def test_a_query_goes_on_where_a_file_is_missing(self):
         told = Outcome(b"Makefile:1:0: CC = gcc\n", b"mkedit: cannot open absent\n", 3)
         self.assert_run(told, "vars", "absent", "Makefile")

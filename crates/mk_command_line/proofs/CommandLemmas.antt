@@ -10,7 +10,7 @@ use Rattle.clap.proofs.OnLiterals.{clap_on_literals}
 use Rattle.mk_command_line.specs.Commands.{asked_commands, has_none, program_with, shape_of_command}
 use Rattle.mk_command_line.specs.declared.command_name.CommandName.{CommandName}
 use Rattle.mk_command_line.specs.declared.command_name.CommandName.TheVariants.{Edit, Query, Explain}
-use Rattle.mk_command_line.specs.declared.request.Query.TheVariants.{Vars, Rules, Recipes, Check, Caveats}
+use Rattle.mk_command_line.specs.declared.command_name.QueryName.TheVariants.{Vars, Rules, Recipes, Check, Caveats}
 
 pub with_argument : (old new : Command) (arg : Arg) (app : App) (rule : Rule) → AddsArg old arg new → arg.global ≡ false
     → app_of old ≡ app → rule_of arg ≡ rule → app_of new ≡ with_rule app rule

@@ -7,9 +7,10 @@ use Rattle.clap.specs.Simple.{new_shape}
 use Rattle.clap.specs.declared.builder.action.ArgAction.TheVariants.{Append, SetTrue}
 use Rattle.clap.specs.declared.builder.value_parser.ValueParser.TheVariants.{Unsigned}
 use Rattle.mk_command_line.specs.declared.request.TheConstants.{MAX_DEPTH}
-use Rattle.mk_command_line.specs.declared.request.Query.TheVariants.{Vars, Rules, Recipes, Check, Caveats}
 use Rattle.mk_command_line.specs.declared.command_name.CommandName.{CommandName}
 use Rattle.mk_command_line.specs.declared.command_name.CommandName.TheVariants.{Edit, Query, Explain}
+use Rattle.mk_command_line.specs.declared.command_name.QueryName.{QueryName}
+use Rattle.mk_command_line.specs.declared.command_name.QueryName.TheVariants.{Vars, Rules, Recipes, Check, Caveats}
 
 -- the word that names a command
 abbrev pub word_of : CommandName → Text
@@ -106,6 +107,20 @@ notes_rule = record (new_rule (codes "notes")) {
   action = Some SetTrue;
 }
 
+-- --name NAME
+abbrev pub name_rule : Rule
+name_rule = record (new_rule (codes "name")) {
+  long = Some (codes "name");
+  value_names = 1;
+}
+
+-- --target TARGET
+abbrev pub target_rule : Rule
+target_rule = record (new_rule (codes "target")) {
+  long = Some (codes "target");
+  value_names = 1;
+}
+
 -- REFUSAL, which is required
 abbrev pub refusal_rule : Rule
 refusal_rule = record (new_rule (codes "REFUSAL")) { required = true }
@@ -122,9 +137,17 @@ output_options = in_place_rule ∷ backup_rule ∷ diff_rule ∷ []
 abbrev pub edit_options : List Rule
 edit_options = run_options ++ output_options ++ expression_rule ∷ notes_rule ∷ []
 
+-- the option that says of what alone a query tells, if it has one
+abbrev pub choice_of : QueryName → List Rule
+choice_of Vars = name_rule ∷ []
+choice_of Rules = target_rule ∷ []
+choice_of Recipes = target_rule ∷ []
+choice_of Check = []
+choice_of Caveats = []
+
 abbrev arguments_of : CommandName → List Rule
 arguments_of Edit = edit_options ++ script_rule ∷ file_rule ∷ []
-arguments_of (Query query) = notes_rule ∷ file_rule ∷ []
+arguments_of (Query query) = choice_of query ++ notes_rule ∷ file_rule ∷ []
 arguments_of Explain = refusal_rule ∷ []
 
 -- a command with these arguments, and without commands of its own

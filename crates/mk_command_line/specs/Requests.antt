@@ -1,6 +1,7 @@
 -- What the words of the command line ask for, by what clap finds in them.
 -- Told in docs/mkedit.1.
 use Rattle.std.specs.Prelude.{◌≡◌, ℕ, Bool, true, false, List, Option, Some, None, Result, Ok, codes, if◌then◌else◌, not, ◌&&◌, ◌==◌, is_some, map, [], ◌∷◌, option_map, string_bytes, ⊤}
+use Rattle.std.specs.Borrow.{Bor}
 use Rattle.std.specs.List.{join_by, list_all}
 use Rattle.std.specs.Str.{bytes_eq}
 use Rattle.std.specs.Str.Parse.{digits_value}
@@ -18,7 +19,10 @@ use Rattle.mk_command_line.specs.declared.request.Output.{Output}
 use Rattle.mk_command_line.specs.declared.request.Output.TheVariants as output
 use Rattle.mk_command_line.specs.declared.request.EditWords.{EditWords}
 use Rattle.mk_command_line.specs.declared.request.QueryWords.{QueryWords}
+use Rattle.mk_command_line.specs.declared.command_name.QueryName.{QueryName}
+use Rattle.mk_command_line.specs.declared.command_name.QueryName.TheVariants.{Vars, Rules, Recipes, Check, Caveats}
 use Rattle.mk_command_line.specs.declared.request.Query as query
+use Rattle.mk_command_line.specs.declared.request.Query.TheVariants as asked
 use Rattle.mk_command_line.specs.declared.request.Request.{Request}
 use Rattle.mk_command_line.specs.declared.request.Request.TheVariants as request
 
@@ -126,8 +130,22 @@ pub record AsksEdit (rows : List Row) (words : EditWords) : Type 0 where
 
 -- ---- the words of a query
 
-pub record AsksQuery (query : query.Query) (rows : List Row) (words : QueryWords) : Type 0 where
-  pub query_is : words.query ≡ query
+-- the first value of an option, if it is there
+abbrev IsValue : Text → List Row → Option (Bor Text) → Type 0
+IsValue option rows value = option_map (λ word. word.now) value ≡ first_of option rows
+
+-- a query of this name is asked for: of the one name or target that is the value of its option, if
+-- the option is there
+abbrev pub IsAsked : QueryName → List Row → query.Query → Type 0
+IsAsked Vars rows (asked.Vars name) = IsValue (codes "name") rows name
+IsAsked Rules rows (asked.Rules target) = IsValue (codes "target") rows target
+IsAsked Recipes rows (asked.Recipes target) = IsValue (codes "target") rows target
+IsAsked Check rows asked.Check = ⊤
+IsAsked Caveats rows asked.Caveats = ⊤
+IsAsked _ _ _ = ⊥
+
+pub record AsksQuery (name : QueryName) (rows : List Row) (words : QueryWords) : Type 0 where
+  pub query_is : IsAsked name rows words.query
   pub notes : IsFlag (codes "notes") rows words.notes
   pub files : AreMakefiles (words_of (all_of (codes "FILE") rows)) words.files.items
 

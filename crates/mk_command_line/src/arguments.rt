@@ -2,8 +2,8 @@
 ghost use Rattle.std.specs.Prelude.{◌≡◌, IfOk, false};
 ghost use Rattle.clap.specs.Words.{rule_of};
 ghost use Rattle.mk_command_line.specs.Commands.{backup_rule, depth_rule, diff_rule, expression_rule, file_rule};
-ghost use Rattle.mk_command_line.specs.Commands.{in_place_rule, keep_going_rule, notes_rule, output_rule};
-ghost use Rattle.mk_command_line.specs.Commands.{refusal_rule, script_rule};
+ghost use Rattle.mk_command_line.specs.Commands.{in_place_rule, keep_going_rule, name_rule, notes_rule, output_rule};
+ghost use Rattle.mk_command_line.specs.Commands.{refusal_rule, script_rule, target_rule};
 
 use crate::request::MAX_DEPTH;
 use clap::builder::ValueParser;
@@ -32,6 +32,10 @@ pub(crate) const DIFF: &str = "diff";
 pub(crate) const EXPRESSION: &str = "expression";
 
 pub(crate) const NOTES: &str = "notes";
+
+pub(crate) const NAME: &str = "name";
+
+pub(crate) const TARGET: &str = "target";
 
 pub(crate) const REFUSAL: &str = "REFUSAL";
 
@@ -150,6 +154,28 @@ pub(crate) fn notes<'a>(alloc: Global) -> Arg<'a>
         .long("notes")
         .action(ArgAction::SetTrue)
         .help("Says below a message why a file could not be opened, read or written")
+}
+
+/// The one name whose assignments are asked for.
+pub(crate) fn name<'a>(alloc: Global) -> Arg<'a>
+    ensures rule { rule_of result ≡ name_rule }
+    ensures local { result.global ≡ false }
+{
+    Arg::new(alloc, NAME)
+        .long("name")
+        .value_name("NAME")
+        .help("Lists the assignments of NAME alone, for targets or not")
+}
+
+/// The one target whose rules are asked for.
+pub(crate) fn target<'a>(alloc: Global) -> Arg<'a>
+    ensures rule { rule_of result ≡ target_rule }
+    ensures local { result.global ≡ false }
+{
+    Arg::new(alloc, TARGET)
+        .long("target")
+        .value_name("TARGET")
+        .help("Lists what belongs to the rules for TARGET alone")
 }
 
 /// The word that calls a refusal.

@@ -2,7 +2,20 @@
 ghost use Rattle.std.specs.Prelude.{◌≡◌};
 ghost use Rattle.mk_command_line.specs.Commands.{command_named, word_of};
 
-use crate::request::Query;
+/// A query, by the word that names it.
+#[derive(Clone, Copy)]
+pub(crate) enum QueryName {
+    /// The assignments.
+    Vars,
+    /// The rules.
+    Rules,
+    /// The recipe lines of the rules.
+    Recipes,
+    /// The lines that are kept and not read inside.
+    Check,
+    /// The lines that make may read otherwise.
+    Caveats,
+}
 
 /// A command of the program.
 #[derive(Clone, Copy)]
@@ -10,7 +23,7 @@ pub(crate) enum CommandName {
     /// A script over a makefile.
     Edit,
     /// A query of a makefile.
-    Query(Query),
+    Query(QueryName),
     /// What is said of a refusal.
     Explain,
 }
@@ -18,11 +31,11 @@ pub(crate) enum CommandName {
 /// All commands, in the order in which the help lists them.
 pub(crate) const COMMANDS: [CommandName; 7] = [
     CommandName::Edit,
-    CommandName::Query(Query::Vars),
-    CommandName::Query(Query::Rules),
-    CommandName::Query(Query::Recipes),
-    CommandName::Query(Query::Check),
-    CommandName::Query(Query::Caveats),
+    CommandName::Query(QueryName::Vars),
+    CommandName::Query(QueryName::Rules),
+    CommandName::Query(QueryName::Recipes),
+    CommandName::Query(QueryName::Check),
+    CommandName::Query(QueryName::Caveats),
     CommandName::Explain,
 ];
 
@@ -47,11 +60,11 @@ impl CommandName {
     {
         match self {
             CommandName::Edit => EDIT,
-            CommandName::Query(Query::Vars) => VARS,
-            CommandName::Query(Query::Rules) => RULES,
-            CommandName::Query(Query::Recipes) => RECIPES,
-            CommandName::Query(Query::Check) => CHECK,
-            CommandName::Query(Query::Caveats) => CAVEATS,
+            CommandName::Query(QueryName::Vars) => VARS,
+            CommandName::Query(QueryName::Rules) => RULES,
+            CommandName::Query(QueryName::Recipes) => RECIPES,
+            CommandName::Query(QueryName::Check) => CHECK,
+            CommandName::Query(QueryName::Caveats) => CAVEATS,
             CommandName::Explain => EXPLAIN,
         }
     }
@@ -64,15 +77,15 @@ pub(crate) fn command_named(word: &str) -> Option<CommandName>
     if word == EDIT {
         Some(CommandName::Edit)
     } else if word == VARS {
-        Some(CommandName::Query(Query::Vars))
+        Some(CommandName::Query(QueryName::Vars))
     } else if word == RULES {
-        Some(CommandName::Query(Query::Rules))
+        Some(CommandName::Query(QueryName::Rules))
     } else if word == RECIPES {
-        Some(CommandName::Query(Query::Recipes))
+        Some(CommandName::Query(QueryName::Recipes))
     } else if word == CHECK {
-        Some(CommandName::Query(Query::Check))
+        Some(CommandName::Query(QueryName::Check))
     } else if word == CAVEATS {
-        Some(CommandName::Query(Query::Caveats))
+        Some(CommandName::Query(QueryName::Caveats))
     } else if word == EXPLAIN {
         Some(CommandName::Explain)
     } else {

@@ -3,12 +3,13 @@ ghost use Rattle.std.specs.Prelude.{◌≡◌, ◌++◌, IfOk, false, map, [], s
 ghost use Rattle.clap.specs.Words.{app_of, with_subcommand};
 ghost use Rattle.clap.specs.declared.builder.command.Command.TheViews.{out-Command as fields_of};
 ghost use Rattle.mk_command_line.specs.Commands.{command_app, commands, edit_options, leaf, output_options, run_options};
-ghost use Rattle.mk_command_line.specs.Commands.{first_command, program_for, program_with, shape_of_command, word_of};
+ghost use Rattle.mk_command_line.specs.Commands.{choice_of, first_command, program_for, program_with, shape_of_command, word_of};
 
 use crate::arguments::{
-    backup, depth, diff, expression, file, in_place, keep_going, notes, output, refusal, script,
+    backup, depth, diff, expression, file, in_place, keep_going, name, notes, output, refusal,
+    script, target,
 };
-use crate::command_name::{COMMANDS, CommandName, command_named};
+use crate::command_name::{COMMANDS, CommandName, QueryName, command_named};
 use crate::help;
 use clap::Command;
 use std::alloc::{AllocError, Global};
@@ -73,6 +74,20 @@ fn edit<'a>(alloc: Global) -> Result<Command<'a>, AllocError>
     edit_options(alloc)?.arg(script(alloc)?)?.arg(file(alloc))
 }
 
+// A query with the option that says of what alone it tells, if it has one.
+fn with_choice<'a>(alloc: Global, query: QueryName) -> Result<Command<'a>, AllocError>
+    ensures app { IfOk result (λ command. app_of command
+        ≡ leaf (word_of (CommandName.Query query)) (choice_of query)) }
+    ensures local { IfOk result (λ command. (fields_of command).has_globals ≡ false) }
+{
+    let command = titled(alloc, CommandName::Query(query));
+    match query {
+        QueryName::Vars => command.arg(name(alloc)),
+        QueryName::Rules | QueryName::Recipes => command.arg(target(alloc)),
+        QueryName::Check | QueryName::Caveats => Ok(command),
+    }
+}
+
 // The command of this name, with its arguments.
 fn command<'a>(alloc: Global, name: CommandName) -> Result<Command<'a>, AllocError>
     ensures app { IfOk result (λ command. app_of command ≡ command_app name) }
@@ -80,7 +95,9 @@ fn command<'a>(alloc: Global, name: CommandName) -> Result<Command<'a>, AllocErr
 {
     match name {
         CommandName::Edit => edit(alloc),
-        CommandName::Query(_) => titled(alloc, name).arg(notes(alloc))?.arg(file(alloc)),
+        CommandName::Query(query) => with_choice(alloc, query)?
+            .arg(notes(alloc))?
+            .arg(file(alloc)),
         CommandName::Explain => titled(alloc, name).arg(refusal(alloc)),
     }
 }

@@ -1,7 +1,6 @@
 //! The texts of help: what each command does, with an example of it.
 
-use crate::command_name::CommandName;
-use crate::request::Query;
+use crate::command_name::{CommandName, QueryName};
 
 /// Below the help of the program itself.
 pub(crate) const PROGRAM: &str = "\
@@ -66,6 +65,7 @@ Example: with `ifdef DEBUG`, `export CFLAGS += -g  # slow`, `endif` and `all: CC
 prints
     2:1: export CFLAGS += -g
     4:0: all: CC = gcc
+and with `--name CC` the second of these lines alone.
 ";
 
 // What `rules` does, in a line.
@@ -81,6 +81,7 @@ Example: with `all: main.o | build ; ld main.o`, a recipe line below it, and `%.
 prints
     1:0: all: main.o | build [2]
     3:0: %.o: %.c [0]
+and with `--target all` the first of these lines alone.
 ";
 
 // What `recipes` does, in a line.
@@ -98,6 +99,7 @@ Example: with `all: main.o ; ld main.o`, two recipe lines `strip all` and `ls -l
 prints
     2:0: all [1] strip all
     3:0: all [2] ls -l
+With `--target all` it prints no recipe lines of rules that are not for `all`.
 ";
 
 // What `check` does, in a line.
@@ -153,11 +155,11 @@ both print the cause of this refusal, an example of it and what to do.
 pub(crate) fn about<'a>(name: CommandName) -> &'a str {
     match name {
         CommandName::Edit => ABOUT_EDIT,
-        CommandName::Query(Query::Vars) => ABOUT_VARS,
-        CommandName::Query(Query::Rules) => ABOUT_RULES,
-        CommandName::Query(Query::Recipes) => ABOUT_RECIPES,
-        CommandName::Query(Query::Check) => ABOUT_CHECK,
-        CommandName::Query(Query::Caveats) => ABOUT_CAVEATS,
+        CommandName::Query(QueryName::Vars) => ABOUT_VARS,
+        CommandName::Query(QueryName::Rules) => ABOUT_RULES,
+        CommandName::Query(QueryName::Recipes) => ABOUT_RECIPES,
+        CommandName::Query(QueryName::Check) => ABOUT_CHECK,
+        CommandName::Query(QueryName::Caveats) => ABOUT_CAVEATS,
         CommandName::Explain => ABOUT_EXPLAIN,
     }
 }
@@ -166,11 +168,11 @@ pub(crate) fn about<'a>(name: CommandName) -> &'a str {
 pub(crate) fn example<'a>(name: CommandName) -> &'a str {
     match name {
         CommandName::Edit => EDIT,
-        CommandName::Query(Query::Vars) => VARS,
-        CommandName::Query(Query::Rules) => RULES,
-        CommandName::Query(Query::Recipes) => RECIPES,
-        CommandName::Query(Query::Check) => CHECK,
-        CommandName::Query(Query::Caveats) => CAVEATS,
+        CommandName::Query(QueryName::Vars) => VARS,
+        CommandName::Query(QueryName::Rules) => RULES,
+        CommandName::Query(QueryName::Recipes) => RECIPES,
+        CommandName::Query(QueryName::Check) => CHECK,
+        CommandName::Query(QueryName::Caveats) => CAVEATS,
         CommandName::Explain => EXPLAIN,
     }
 }

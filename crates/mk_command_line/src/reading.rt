@@ -8,12 +8,13 @@ ghost use Rattle.clap.specs.declared.error.kind.ErrorKind.TheVariants.{OutOfMemo
 ghost use Rattle.mk_command_line.specs.Commands.{program_for};
 ghost use Rattle.mk_command_line.specs.Requests.{AreApart, Asks, AsksEdit, AsksQuery, GoesTo, IsDepth, IsFlag};
 ghost use Rattle.mk_command_line.specs.Requests.{AreMakefiles, ReadsFrom, file_named, file_of, words_from};
-ghost use Rattle.mk_command_line.specs.Requests.{IsBackup, is_alone, is_named, is_query, is_suffix};
+ghost use Rattle.mk_command_line.specs.Requests.{IsAsked, IsBackup, is_alone, is_named, is_query, is_suffix};
 
 use crate::arguments::{
-    BACKUP, DEPTH, DIFF, EXPRESSION, FILE, IN_PLACE, KEEP_GOING, NOTES, OUTPUT, REFUSAL, SCRIPT,
+    BACKUP, DEPTH, DIFF, EXPRESSION, FILE, IN_PLACE, KEEP_GOING, NAME, NOTES, OUTPUT, REFUSAL,
+    SCRIPT, TARGET,
 };
-use crate::command_name::{CommandName, command_named};
+use crate::command_name::{CommandName, QueryName, command_named};
 use crate::commands::program_for;
 use crate::request::{Backup, EditWords, Input, Output, Query, QueryWords, Request, Script};
 use clap::error::ErrorKind;
@@ -286,10 +287,23 @@ fn edit_words<'a>(
     })
 }
 
+// The query of this name, of the one name or target that its option says, if it does.
+fn asked<'a>(query: QueryName, matches: &ArgMatches<'a>) -> Query<'a>
+    ensures { IsAsked query (rows_of (found_of matches.now)) result }
+{
+    match query {
+        QueryName::Vars => Query::Vars(value(matches, NAME)),
+        QueryName::Rules => Query::Rules(value(matches, TARGET)),
+        QueryName::Recipes => Query::Recipes(value(matches, TARGET)),
+        QueryName::Check => Query::Check,
+        QueryName::Caveats => Query::Caveats,
+    }
+}
+
 // What the words of a query ask for.
 fn query_words<'a>(
     alloc: Global,
-    query: Query,
+    query: QueryName,
     matches: &ArgMatches<'a>,
 ) -> Result<QueryWords<'a>, AllocError>
     ensures { IfOk result (AsksQuery query (rows_of (found_of matches.now))) }
@@ -297,7 +311,7 @@ fn query_words<'a>(
     let notes = is_set(matches, NOTES);
     let files = makefiles(alloc, None, values(matches, FILE))?;
     Ok(QueryWords {
-        query,
+        query: asked(query, matches),
         notes,
         files,
     })

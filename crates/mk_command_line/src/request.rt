@@ -5,13 +5,13 @@ pub const MAX_DEPTH: u32 = 10_000;
 
 /// What a makefile is asked for.
 #[derive(Clone, Copy)]
-pub enum Query {
-    /// Its assignments.
-    Vars,
-    /// Its rules.
-    Rules,
-    /// The recipe lines of its rules.
-    Recipes,
+pub enum Query<'a> {
+    /// Its assignments; where there is a name, those of that name alone.
+    Vars(Option<&'a str>),
+    /// Its rules; where there is a target, those for that target alone.
+    Rules(Option<&'a str>),
+    /// The recipe lines of its rules; where there is a target, of those for that target alone.
+    Recipes(Option<&'a str>),
     /// The lines that are kept and not read inside.
     Check,
     /// The lines that make may read otherwise.
@@ -76,7 +76,7 @@ pub struct EditWords<'a> {
 #[derive(Drop)]
 pub struct QueryWords<'a> {
     /// What is asked.
-    pub query: Query,
+    pub query: Query<'a>,
     /// Whether a message has notes below it.
     pub notes: bool,
     /// The makefiles, one or more.

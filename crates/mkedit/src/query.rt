@@ -3,7 +3,7 @@
 ghost use Rattle.std.specs.Prelude.{◌≡◌, ◌↔◌, ◌<◌, ◌+◌, ◌||◌, ℕ, List, IsTrue, IfOk, IfErr, IfSome, OnOk, OnErr, false, true, length, is_ok};
 ghost use Rattle.std.specs.Io.KnownBytes.{Appends};
 ghost use Rattle.mk_lines.specs.Limits.{max_text};
-ghost use Rattle.mk_lines.specs.Device.{AppendsPrefix};
+ghost use Rattle.mk_lines.specs.Device.{AppendsPrefix, Writes};
 ghost use Rattle.mk_tree.specs.LocatedLines.{located_text};
 ghost use Rattle.mk_tree.specs.Documents.{IsFaithful, IsTooDeep};
 ghost use Rattle.mk_run.specs.RunEnds.{PutsOut, PutsOutIf, ReadsOnce};
@@ -18,7 +18,7 @@ use crate::several::{kept_outcome, put_named, tell_named};
 use mk_command_line::{Input, Query, QueryWords};
 use mk_lines::source::{BUFFER, MAX_TEXT, read_all};
 use mk_lines::{ByteSink, ByteSource, Fault, StdSink, StdSource};
-use mk_queries::{caveats, check, recipes, rules, vars};
+use mk_queries::{caveats, check, recipes, recipes_for, rules, rules_for, vars, vars_named};
 use mk_run::Outcome;
 use mk_session::Session;
 use mk_tree::Doc;
@@ -30,20 +30,41 @@ use std::process::ExitCode;
 // A session that is only looked at: the least depth there is.
 const DEPTH: u32 = 1;
 
+// Writes the answer.
+fn put_lines<A: Allocator, W: ByteSink>(
+    query: Query<'_>,
+    doc: &Doc<A>,
+    out: &mut W,
+) -> Result<(), Fault>
+    requires faithful { IsFaithful doc.now }
+    requires works { W.failed out.old ≡ false }
+    ensures { Writes W.contents W.failed W.flushes out.old out.new result
+        (query_text query.entry (located_text doc.now)) }
+{
+    match query {
+        Query::Vars(None) => vars(doc, out),
+        Query::Vars(Some(name)) => vars_named(doc, name.as_bytes(), out),
+        Query::Rules(None) => rules(doc, out),
+        Query::Rules(Some(target)) => rules_for(doc, target.as_bytes(), out),
+        Query::Recipes(None) => recipes(doc, out),
+        Query::Recipes(Some(target)) => recipes_for(doc, target.as_bytes(), out),
+        Query::Check => check(doc, out),
+        Query::Caveats => caveats(doc, out),
+    }
+}
+
 // Writes the answer, and flushes it once.
-fn put_out<A: Allocator, W: ByteSink>(query: Query, doc: &Doc<A>, out: &mut W) -> Result<(), Fault>
+fn put_out<A: Allocator, W: ByteSink>(
+    query: Query<'_>,
+    doc: &Doc<A>,
+    out: &mut W,
+) -> Result<(), Fault>
     requires faithful { IsFaithful doc.now }
     requires works { W.failed out.old ≡ false }
     ensures { PutsOut W.contents W.failed W.flushes W.pending out.old out.new result
-        (query_text query (located_text doc.now)) }
+        (query_text query.entry (located_text doc.now)) }
 {
-    match query {
-        Query::Vars => vars(doc, out)?,
-        Query::Rules => rules(doc, out)?,
-        Query::Recipes => recipes(doc, out)?,
-        Query::Check => check(doc, out)?,
-        Query::Caveats => caveats(doc, out)?,
-    }
+    put_lines(query, doc, out)?;
     out.flush()
 }
 
@@ -57,7 +78,12 @@ fn put_out<A: Allocator, W: ByteSink>(query: Query, doc: &Doc<A>, out: &mut W) -
 /// - [`Fault::NoMemory`] where a growth was refused.
 /// - [`Fault::Write`] where a write or the flush answered it, or a write took nothing. A prefix of
 ///   the answer is out then; after any other fault nothing was written or flushed.
-pub fn answer<A, R, W>(alloc: A, query: Query, makefile: &mut R, out: &mut W) -> Result<(), Fault>
+pub fn answer<A, R, W>(
+    alloc: A,
+    query: Query<'_>,
+    makefile: &mut R,
+    out: &mut W,
+) -> Result<(), Fault>
 where
     A: Allocator + Copy,
     R: ByteSource,
@@ -65,9 +91,9 @@ where
     requires makefile_works { R.failed makefile.old ≡ false }
     requires out_works { W.failed out.old ≡ false }
     ensures whole { OnOk result (IfSome (R.remaining makefile.old) (λ text.
-        Appends (W.contents out.old) (W.contents out.new) (query_text query text))) }
+        Appends (W.contents out.old) (W.contents out.new) (query_text query.entry text))) }
     ensures prefix { IfSome (R.remaining makefile.old) (λ text.
-        AppendsPrefix (W.contents out.old) (W.contents out.new) (query_text query text)) }
+        AppendsPrefix (W.contents out.old) (W.contents out.new) (query_text query.entry text)) }
     ensures read { result ≡ Err Fault.Read ↔ R.failed makefile.new ≡ true }
     ensures write { result ≡ Err Fault.Write ↔ W.failed out.new ≡ true }
     ensures depth { result ≡ Err Fault.BadDepth → ⊥ }
@@ -89,7 +115,7 @@ where
 }
 
 // Answers on a sink, and says how that ended.
-fn print<A, R, W>(alloc: A, query: Query, makefile: &mut R, out: &mut W) -> Outcome
+fn print<A, R, W>(alloc: A, query: Query<'_>, makefile: &mut R, out: &mut W) -> Outcome
 where
     A: Allocator + Copy,
     R: ByteSource,
@@ -97,9 +123,9 @@ where
     requires makefile_works { R.failed makefile.old ≡ false }
     requires out_works { W.failed out.old ≡ false }
     ensures whole { result ≡ Outcome.Done → IfSome (R.remaining makefile.old) (λ text.
-        Appends (W.contents out.old) (W.contents out.new) (query_text query text)) }
+        Appends (W.contents out.old) (W.contents out.new) (query_text query.entry text)) }
     ensures prefix { IfSome (R.remaining makefile.old) (λ text.
-        AppendsPrefix (W.contents out.old) (W.contents out.new) (query_text query text)) }
+        AppendsPrefix (W.contents out.old) (W.contents out.new) (query_text query.entry text)) }
     ensures read { result ≡ Outcome.Read ↔ R.failed makefile.new ≡ true }
     ensures write { result ≡ Outcome.Write ↔ W.failed out.new ≡ true }
     ensures too_long { result ≡ Outcome.TooLong
@@ -130,7 +156,7 @@ fn put_answer<W: ByteSink>(
 // gathered in memory first.
 fn print_named<R: ByteSource, W: ByteSink>(
     alloc: Global,
-    query: Query,
+    query: Query<'_>,
     name: &str,
     makefile: &mut R,
     out: &mut W,
@@ -185,7 +211,7 @@ fn end_of_query<'a, R, W>(
 // each line gets that name.
 fn print_out<'a, R: Read + Drop>(
     rt: &HostRuntime,
-    query: Query,
+    query: Query<'_>,
     prefix: Option<&str>,
     name: &'a str,
     makefile: R,
@@ -204,7 +230,7 @@ fn print_out<'a, R: Read + Drop>(
 // Opens a makefile, and answers what it is asked for.
 fn ask_one<'a>(
     rt: &HostRuntime,
-    query: Query,
+    query: Query<'_>,
     prefix: Option<&str>,
     file: Input<'a>,
 ) -> Result<Asked<'a>, CannotOpen<'a>> {
