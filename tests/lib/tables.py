@@ -27,6 +27,7 @@ TABLES = (
     "corner-runs",
     "random-runs",
     "alternatives",
+    "notes",
     "edits/corners",
     "edits/random",
     "edits/random-recipes",

@@ -119,10 +119,24 @@ class Notes(RoomCase):
         for words, outcome in (
             (("edit", "script", "Makefile"), EDITED),
             (("edit", "undo", "Makefile"), REFUSED),
-            (("edit", "bad", "Makefile"), NO_COMMAND),
             (("vars", "Makefile"), Outcome(b"1:0: CC = gcc\n", b"", 0)),
         ):
             self.assert_run(outcome, *words, "--notes")
+
+    def test_a_line_that_is_no_command(self):
+        for words, place, given in (
+            (("edit", "st", "Makefile"), "st:1:1", b""),
+            (("edit", "-i", "st", "Makefile"), "st:1:1", b""),
+            (("edit", "--diff", "st", "Makefile"), "st:1:1", b""),
+            (("edit", "-i", "st", "Makefile", "Makefile"), "st:1:1", b""),
+            (("edit", "-e", "st CC clang", "Makefile"), "-e:1:1", b""),
+            (("edit", "-i", "-e", "st CC clang", "Makefile", "Makefile"), "-e:1:1", b""),
+            (("edit", "-", "Makefile"), "standard input:1:1", b"st CC clang\n"),
+        ):
+            self.room.write("st", b"st CC clang\n")
+            note = f"{place}: note: there is no such command; the nearest is `set`"
+            with self.subTest(words):
+                self.assert_noted(NO_COMMAND, note, *words, given=given)
 
     def test_notes_stand_beside_files_that_are_read_alone(self):
         self.assert_bad_command_line("explain", "--notes", "4")

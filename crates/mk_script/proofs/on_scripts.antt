@@ -6,3 +6,4 @@ pub mod ScriptLemmas
 pub mod OneLemmas
 pub mod WrittenLines
 pub mod CommandLemmas
+pub mod MistakeLemmas

@@ -8,11 +8,15 @@ pub mod Lines
 pub mod Scripts
 pub mod ScriptsOfCommands
 pub mod ScriptLaws
--- # Vocabulary of private contracts
--- How the code reads a line: what the contracts within this crate say
+-- What is wrong with a line that is no command; how its fields and words are read
 pub mod FieldReading
-pub mod SeenFields
 pub mod NumberReading
 pub mod WordReading
-pub mod CommandReading
 pub mod ReaderAnswers
+pub mod Spelling
+pub mod Mistakes
+-- # Vocabulary of private contracts
+-- How the code reads a line: what the contracts within this crate say
+pub mod SeenFields
+pub mod SeenFaults
+pub mod CommandReading

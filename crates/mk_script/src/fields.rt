@@ -25,8 +25,8 @@ fn blanks_before(text: &[u8]) -> usize
     text.iter().take_while(|byte| is_blank_byte(**byte)).count()
 }
 
-// How many bytes stand before the first blank of a text.
-fn bare_len(text: &[u8]) -> usize
+/// How many bytes stand before the first blank of a text.
+pub(crate) fn bare_len(text: &[u8]) -> usize
     ensures count { result ≡ bare_len text.now }
     ensures within { result ≤ length text.now }
 {
@@ -35,7 +35,8 @@ fn bare_len(text: &[u8]) -> usize
         .count()
 }
 
-fn after_blanks(text: &[u8]) -> &[u8]
+/// What follows the blanks at the front of a text.
+pub(crate) fn after_blanks(text: &[u8]) -> &[u8]
     ensures { result.now ≡ after_blanks text.now }
 {
     &text[blanks_before(text)..]
@@ -58,9 +59,9 @@ fn ends_field(text: &[u8]) -> bool
     }
 }
 
-// A text up to the quote that ends a field, and what follows the quote. A backslash before a quote
-// or before a backslash belongs to the field; no other backslash may stand there.
-fn split_at_quote(text: &[u8]) -> Option<(&[u8], &[u8])>
+/// A text up to the quote that ends a field, and what follows the quote. A backslash before a quote
+/// or before a backslash belongs to the field; no other backslash may stand there.
+pub(crate) fn split_at_quote(text: &[u8]) -> Option<(&[u8], &[u8])>
     ensures { option_map two_parts result ≡ until_quote false text.now }
 {
     let mut is_escaped = false;
@@ -79,8 +80,8 @@ fn split_at_quote(text: &[u8]) -> Option<(&[u8], &[u8])>
     None
 }
 
-// Whether a byte is a quote or a backslash.
-fn is_special(byte: u8) -> bool
+/// Whether a byte is a quote or a backslash.
+pub(crate) fn is_special(byte: u8) -> bool
     ensures { result ≡ is_special byte }
 {
     matches!(byte, b'"' | b'\\')

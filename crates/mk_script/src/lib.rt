@@ -11,8 +11,10 @@
 //! - [`field`]: a field, bare or between quotes.
 //! - [`fields`]: the fields of a line.
 //! - [`laws`]: what holds for every script.
+//! - [`mistake`]: what is wrong with a line that is no command.
 //! - [`number`]: numbers.
 //! - [`script`]: the steps of a script, from its lines.
+//! - [`spelling`]: words that are spelled alike.
 //! - [`step`]: the steps of a script.
 //! - [`word`]: the words that commands are known by.
 //!
@@ -26,11 +28,14 @@ mod fault;
 mod field;
 mod fields;
 pub mod laws;
+mod mistake;
 mod number;
 pub mod script;
+pub mod spelling;
 pub mod step;
 mod word;
 
+pub use mistake::{FieldName, Mistake, MistakeCause, mistake_at, mistake_of, nearest_at};
 pub use mk_command::Command;
 pub use script::{ScriptFault, parse_script};
 pub use step::{Chain, NumberedCommand, NumberedEdit, Step};

@@ -4,6 +4,8 @@ pub mod QueryTexts
 pub mod Destinations
 pub mod Explanations
 pub mod Notes
+pub mod MistakeNotes
+pub mod Endings
 pub mod NamedLines
 pub mod Settled
 pub mod DiffRuns

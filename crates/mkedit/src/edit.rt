@@ -7,6 +7,8 @@ use crate::diff::{diff_name, run_diff};
 use crate::ending::{End, finished};
 use crate::files::{CannotOpen, open};
 use crate::in_place::InPlaceFile;
+use crate::kept::Kept;
+use crate::mistakes::{COMMAND_LINES, script_mistake};
 use crate::noted::Noted;
 use crate::notes::{STANDARD_INPUT, STANDARD_OUTPUT};
 use crate::out_file::OutFile;
@@ -157,7 +159,22 @@ fn run_by<'a, S: ByteSource>(
     }
 }
 
-// Runs the script of this name over the makefile, which is opened after it.
+// Runs a script that is called by this name over the makefile, which is opened after it.
+fn run_kept<'a, S: ByteSource + Drop>(
+    rt: &'a HostRuntime,
+    words: &EditWords<'a>,
+    file: Input<'a>,
+    name: &'a str,
+    script: S,
+) -> Result<End<'a>, CannotOpen<'a>>
+    requires { S.failed script ≡ false }
+{
+    let mut script = Kept::new(rt.alloc(), script, words.notes);
+    let end = run_by(rt, words, file, &mut script)?;
+    Ok(end.with_mistake(script.mistake(name, end.outcome)))
+}
+
+// The same, of a reader.
 fn run_script<'a, S: Read + Drop>(
     rt: &'a HostRuntime,
     words: &EditWords<'a>,
@@ -166,8 +183,19 @@ fn run_script<'a, S: Read + Drop>(
     script: S,
 ) -> Result<End<'a>, CannotOpen<'a>> {
     let mut script = Noted::new(script);
-    let end = run_by(rt, words, file, &mut StdSource::new(&mut script))?;
+    let end = run_kept(rt, words, file, name, StdSource::new(&mut script))?;
     Ok(end.with_fault(script.fault(name)))
+}
+
+// Runs the lines of the command line over the makefile.
+fn run_lines<'a>(
+    rt: &'a HostRuntime,
+    words: &EditWords<'a>,
+    file: Input<'a>,
+    lines: &[u8],
+) -> Result<End<'a>, CannotOpen<'a>> {
+    let end = run_by(rt, words, file, &mut StdSource::new(lines))?;
+    Ok(end.with_mistake(script_mistake(COMMAND_LINES, lines, end.outcome)))
 }
 
 // Opens the script, then the makefile, and runs the one over the other. Where one of the two cannot be
@@ -180,7 +208,7 @@ fn edit_one<'a>(
     match &words.script {
         Script::From(Input::File(name)) => run_script(rt, words, file, name, open(rt, name)?),
         Script::From(Input::Standard) => run_script(rt, words, file, STANDARD_INPUT, rt.stdin()),
-        Script::Lines(lines) => { run_by(rt, words, file, &mut StdSource::new(lines.as_bytes())) }
+        Script::Lines(lines) => run_lines(rt, words, file, lines.as_bytes()),
     }
 }
 

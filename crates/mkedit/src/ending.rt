@@ -1,5 +1,5 @@
 //! How the program ends: a message on standard error, and the status.
-ghost use Rattle.std.specs.Prelude.{◌≡◌, ◌≢◌, ◌++◌, None, false, max, if◌then◌else◌};
+ghost use Rattle.std.specs.Prelude.{◌≡◌, ◌≢◌, ◌++◌, None, false, option_map, max, if◌then◌else◌};
 ghost use Rattle.std.specs.Option.{option_or};
 ghost use Rattle.std.specs.Io.KnownBytes.{Appends};
 ghost use Rattle.std.specs.Process.{exit_status};
@@ -8,9 +8,12 @@ ghost use Rattle.clap.specs.declared.error.kind.ErrorKind.TheVariants.{DisplayHe
 ghost use Rattle.mk_lines.specs.Device.{AppendsPrefix};
 ghost use Rattle.mk_lines.specs.Device.{Writes};
 ghost use Rattle.mk_run.specs.Outcome.{message_of, status_of};
+ghost use Rattle.mkedit.specs.Endings.{said_of_end};
+ghost use Rattle.mkedit.specs.MistakeNotes.{mistake_notes, seen_mistake};
 ghost use Rattle.mkedit.specs.Notes.{notes_of};
 
 use crate::files::CannotOpen;
+use crate::mistakes::{ScriptMistake, put_mistake};
 use crate::notes::{SystemFault, put_notes};
 use mk_lines::{ByteSink, Fault, StdSink};
 use mk_run::{Outcome, message, status};
@@ -29,17 +32,21 @@ pub struct End<'a> {
     pub outcome: Outcome,
     /// Which file or stream failed, and why, if one did.
     pub fault: Option<SystemFault<'a>>,
+    /// What is wrong with the line of the script that is no command, if that is known.
+    pub mistake: Option<ScriptMistake<'a>>,
 }
 
 impl<'a> End<'a> {
-    /// An end of which no fault of the system is told.
+    /// An end of which no fault of the system is told, and no mistake.
     pub fn of(outcome: Outcome) -> End<'a>
         ensures outcome { result.outcome ≡ outcome }
         ensures fault { result.fault ≡ None }
+        ensures mistake { result.mistake ≡ None }
     {
         End {
             outcome,
             fault: None,
+            mistake: None,
         }
     }
 
@@ -47,14 +54,21 @@ impl<'a> End<'a> {
     pub fn with_fault(self, fault: Option<SystemFault<'a>>) -> End<'a>
         ensures outcome { result.outcome ≡ self.entry.outcome }
         ensures fault { result.fault ≡ option_or self.entry.fault fault.entry }
+        ensures mistake { result.mistake ≡ self.entry.mistake }
     {
         match self.fault {
             Some(_) => self,
-            None => End {
-                outcome: self.outcome,
-                fault,
-            },
+            None => End { fault, ..self },
         }
+    }
+
+    /// The same end, with this mistake of the script.
+    pub fn with_mistake(self, mistake: Option<ScriptMistake<'a>>) -> End<'a>
+        ensures outcome { result.outcome ≡ self.entry.outcome }
+        ensures fault { result.fault ≡ self.entry.fault }
+        ensures mistake { result.mistake ≡ mistake.entry }
+    {
+        End { mistake, ..self }
     }
 
     /// The fault that is told: none without notes.
@@ -63,44 +77,70 @@ impl<'a> End<'a> {
     {
         if notes { self.fault } else { None }
     }
+
+    // The mistake that is told: none without notes.
+    fn told_mistake(&self, notes: bool) -> Option<ScriptMistake<'a>>
+        ensures { result ≡ (if notes then self.now.mistake else None) }
+    {
+        if notes { self.mistake } else { None }
+    }
 }
 
-// Writes the message on an outcome, and below it the note on a fault.
-fn tell<W: ByteSink>(
-    outcome: &Outcome,
+// Writes the notes on a fault and on a mistake of the script.
+fn tell_notes<W: ByteSink>(
     fault: Option<SystemFault<'_>>,
+    mistake: Option<ScriptMistake<'_>>,
     errors: &mut W,
 ) -> Result<(), Fault>
     requires { W.failed errors.old ≡ false }
     ensures { Writes W.contents W.failed W.flushes errors.old errors.new result
-        (message_of outcome.now ++ notes_of fault.entry) }
+        (notes_of fault.entry ++ mistake_notes (option_map seen_mistake mistake.entry)) }
+{
+    put_notes(fault, errors)?;
+    put_mistake(mistake, errors)
+}
+
+// Writes the message on an outcome, and below it the notes on a fault and on a mistake of the script.
+fn tell<W: ByteSink>(
+    outcome: &Outcome,
+    fault: Option<SystemFault<'_>>,
+    mistake: Option<ScriptMistake<'_>>,
+    errors: &mut W,
+) -> Result<(), Fault>
+    requires { W.failed errors.old ≡ false }
+    ensures { Writes W.contents W.failed W.flushes errors.old errors.new result
+        (message_of outcome.now ++ (notes_of fault.entry ++ mistake_notes (option_map seen_mistake mistake.entry))) }
 {
     message(outcome, errors)?;
-    put_notes(fault, errors)
+    tell_notes(fault, mistake, errors)
 }
 
-// Puts the message on an outcome out, and below it the note on a fault, and answers the outcome's
-// status. A fault of the message changes no status.
-fn told<W: ByteSink>(outcome: &Outcome, fault: Option<SystemFault<'_>>, errors: &mut W) -> ExitCode
+// Puts the message on an end out, and below it its notes where there are notes, and answers the
+// outcome's status. A fault of the message changes no status.
+fn told<W: ByteSink>(end: &End<'_>, notes: bool, errors: &mut W) -> ExitCode
     requires { W.failed errors.old ≡ false }
-    ensures status { exit_status result ≡ status_of outcome.now }
+    ensures status { exit_status result ≡ status_of end.now.outcome }
     ensures message { W.failed errors.new ≡ false
-        → Appends (W.contents errors.old) (W.contents errors.new)
-        (message_of outcome.now ++ notes_of fault.entry) }
+        → Appends (W.contents errors.old) (W.contents errors.new) (said_of_end end.now notes) }
     ensures prefix { AppendsPrefix (W.contents errors.old) (W.contents errors.new)
-        (message_of outcome.now ++ notes_of fault.entry) }
+        (said_of_end end.now notes) }
 {
-    let _ = tell(outcome, fault, errors);
-    ExitCode::from(status(outcome))
+    let _ = tell(
+        &end.outcome,
+        end.told_fault(notes),
+        end.told_mistake(notes),
+        errors,
+    );
+    ExitCode::from(status(&end.outcome))
 }
 
-/// Puts the message on an end out on standard error, with a note on its fault where there are notes,
-/// and answers its status. A fault of the message changes no status.
+/// Puts the message on an end out on standard error, with the notes on its fault and on its mistake
+/// where there are notes, and answers its status. A fault of the message changes no status.
 pub fn ended(rt: &HostRuntime, end: &End<'_>, notes: bool) -> ExitCode
     ensures { exit_status result ≡ status_of end.now.outcome }
 {
     let mut errors = StdSink::new(rt.stderr());
-    told(&end.outcome, end.told_fault(notes), &mut errors)
+    told(end, notes, &mut errors)
 }
 
 /// Says that a file cannot be opened, and why where there are notes.

@@ -9,6 +9,7 @@
 //! - `explain`: why a command is refused; `explanations` has the texts.
 //! - `files`: files beside the standard streams.
 //! - `noted`: readers and writers that remember why they failed.
+//! - `kept`: a source whose bytes are kept; `mistakes`: the note on a line of a script that is no command.
 //! - `named`: lines that begin with the name of a file.
 //! - `notes`: what is said of that below a message.
 //! - `out_file`: the file that a text goes to; `in_place`: the makefile itself.
@@ -23,6 +24,8 @@ mod explain;
 mod explanations;
 mod files;
 mod in_place;
+mod kept;
+mod mistakes;
 mod named;
 mod noted;
 mod notes;

@@ -15,6 +15,8 @@ use crate::destination::{Destination, destination_of, name_of};
 use crate::ending::{CANNOT_OPEN, End, Statuses, ended, not_opened, tell_not_opened};
 use crate::files::{CannotOpen, open};
 use crate::in_place::InPlaceFile;
+use crate::kept::Kept;
+use crate::mistakes::COMMAND_LINES;
 use crate::named::named_lines;
 use crate::noted::Noted;
 use crate::notes::{STANDARD_INPUT, STANDARD_OUTPUT, SystemFault, put_notes};
@@ -259,15 +261,32 @@ fn edit_one<'a>(
 }
 
 // The steps of a script that is called by this name in notes; or how the run ends before them.
+fn steps_kept<'a, S: ByteSource + Drop>(
+    rt: &HostRuntime,
+    notes: bool,
+    name: &'a str,
+    script: S,
+) -> Result<Vec<Step<Global>>, End<'a>>
+    requires { S.failed script ≡ false }
+{
+    let mut script = Kept::new(rt.alloc(), script, notes);
+    match read_script(rt.alloc(), &mut script) {
+        Ok(steps) => Ok(steps),
+        Err(outcome) => Err(End::of(outcome).with_mistake(script.mistake(name, outcome))),
+    }
+}
+
+// The same, of a reader.
 fn read_steps<'a, S: Read + Drop>(
     rt: &HostRuntime,
+    notes: bool,
     name: &'a str,
     script: S,
 ) -> Result<Vec<Step<Global>>, End<'a>> {
     let mut script = Noted::new(script);
-    match read_script(rt.alloc(), &mut StdSource::new(&mut script)) {
+    match steps_kept(rt, notes, name, StdSource::new(&mut script)) {
         Ok(steps) => Ok(steps),
-        Err(outcome) => Err(End::of(outcome).with_fault(script.fault(name))),
+        Err(end) => Err(end.with_fault(script.fault(name))),
     }
 }
 
@@ -276,10 +295,11 @@ fn steps_of<'a>(
     rt: &HostRuntime,
     words: &EditWords<'a>,
 ) -> Result<Result<Vec<Step<Global>>, End<'a>>, CannotOpen<'a>> {
+    let notes = words.notes;
     match &words.script {
-        Script::From(Input::File(name)) => Ok(read_steps(rt, name, open(rt, name)?)),
-        Script::From(Input::Standard) => Ok(read_steps(rt, STANDARD_INPUT, rt.stdin())),
-        Script::Lines(lines) => Ok(read_steps(rt, "", lines.as_bytes())),
+        Script::From(Input::File(name)) => Ok(read_steps(rt, notes, name, open(rt, name)?)),
+        Script::From(Input::Standard) => Ok(read_steps(rt, notes, STANDARD_INPUT, rt.stdin())),
+        Script::Lines(lines) => Ok(read_steps(rt, notes, COMMAND_LINES, lines.as_bytes())),
     }
 }
 

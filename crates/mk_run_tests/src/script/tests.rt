@@ -1,8 +1,9 @@
 //! What the proofs do not say: that memory is found, how often it is asked for, and texts.
 
+use super::mistakes::{MISTAKEN, RIGHT};
 use super::rows::{FAULTY, SCRIPTS, Script};
 use super::shown::shown;
-use mk_script::{ScriptFault, parse_script};
+use mk_script::{Mistake, ScriptFault, mistake_of, parse_script};
 use std::alloc::{AllocError, Allocator};
 use std::test::Fail;
 use watched::Watched;
@@ -103,4 +104,18 @@ fn faults_have_texts(rt: HostRuntime) -> Result<(), Fail> {
     let memory = format!(in rt.alloc(); "{}", ScriptFault::NoMemory)?;
     assert_eq!(rt; memory.as_str(), "no memory");
     Ok(())
+}
+
+#[test]
+fn what_is_wrong_with_a_line_is_told(rt: HostRuntime) {
+    for mistaken in &MISTAKEN {
+        let wanted = Mistake {
+            column: mistaken.column,
+            cause: mistaken.cause,
+        };
+        assert_eq!(rt; mistake_of(mistaken.line), Some(wanted));
+    }
+    for line in &RIGHT {
+        assert_eq!(rt; mistake_of(line), None);
+    }
 }

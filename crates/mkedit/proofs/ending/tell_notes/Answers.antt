@@ -1,0 +1,16 @@
+use Rattle.std.proofs.Common.{rules}
+use Rattle.mk_lines.proofs.PrefixLemmas.{AppendsPrefix-front}
+use Rattle.mkedit.proofs.WritesLemmas.{writes-then}
+use Rattle.mkedit.proofs.ending.tell_notes.Goals as goal
+
+pub returns : goal.returns
+returns g c = writes-then c.in_ok-put_notes.ensures c.put_mistake.ensures
+
+pub returns-in_err-put_notes : goal.returns-in_err-put_notes
+returns-in_err-put_notes g c = record {
+  whole = search rules;
+  prefix = AppendsPrefix-front _ _ _ _ c.in_err-put_notes.ensures.prefix;
+  works = search rules;
+  fault = search rules;
+  unflushed = c.in_err-put_notes.ensures.unflushed;
+}
