@@ -4,3 +4,4 @@ pub mod CallLemmas
 pub mod AnswerLemmas
 pub mod RefusalLemmas
 pub mod CallerLemmas
+pub mod GroupLemmas

@@ -1,7 +1,7 @@
 -- What a caller of a session relies on, stated of what its calls promise: that the text is what it
 -- was after an undo, a redo, the end of a group or its cancel.
 -- Told in docs/LIBRARY.md, "Laws for callers".
-use Rattle.std.specs.Prelude.{◌≡◌, ℕ, ◌<◌, List, [], ◌∷◌, ◌++◌, map, Some, None, Ok}
+use Rattle.std.specs.Prelude.{◌≡◌, ℕ, ◌<◌, List, [], ◌∷◌, ◌++◌, length, map, Some, None, Ok}
 use Rattle.mk_edit_language.specs.Edits.{Edit}
 use Rattle.mk_history.specs.Machine.{Apply, Undo, Redo, Begin, End, Cancel}
 use Rattle.mk_history.specs.Shown.{Shown}
@@ -66,5 +66,15 @@ CancelTakesBackAllEdits = (es : List Edit) (s t : State)
 
 -- One undo right after a group that has edits shows the text before the group.
 abbrev pub UndoTakesBackAllEdits : Type 0
-UndoTakesBackAllEdits = (e : Edit) (es : List Edit) (s t u : State)
-    → answers (as_group (e ∷ es)) s ≡ Ok t → answer Undo t ≡ Ok u → u.text ≡ s.text
+UndoTakesBackAllEdits = (es : List Edit) (s t u : State) → 0 < length es
+    → answers (as_group es) s ≡ Ok t → answer Undo t ≡ Ok u → u.text ≡ s.text
+
+-- After a group that has edits an undo is granted, if the depth is not 0.
+abbrev pub AGroupCanBeUndone : Type 0
+AGroupCanBeUndone = (es : List Edit) (s t : State) → 0 < length es → 0 < s.depth
+    → answers (as_group es) s ≡ Ok t → (u : State) × (answer Undo t ≡ Ok u)
+
+-- A group without edits changes neither the text nor what can be undone and redone.
+abbrev pub NoEditsAreNoStep : Type 0
+NoEditsAreNoStep = (s t : State) → answers (as_group []) s ≡ Ok t
+    → (t.text ≡ s.text) × (t.back ≡ s.back) × (t.forward ≡ s.forward)

@@ -6,6 +6,8 @@ pub use Rattle.mk_command.specs.CommandViews
 pub mod StoredSessions
 -- Calls in turn
 pub mod InTurn
+-- Groups of edits that are one call
+pub mod Groups
 -- Any calls
 pub mod Calls
 pub mod SessionLaws

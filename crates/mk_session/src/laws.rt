@@ -4,7 +4,7 @@
 //! They are about what is seen of a session, and about calls with their replies, as the contracts
 //! of [`Session`](crate::Session)'s calls say. The last ones are for callers: they take the clauses
 //! `done` of a few calls, and say what the text is then.
-ghost use Rattle.mk_session.specs.CallerLaws.{AnEditCanBeUndone, BeginOpensAGroup, CancelShowsTheBeginning, CancelTakesBackAllEdits, EditsStayInTheirGroup, RedoMakesAgain, UndoTakesBackAGroup, UndoTakesBackAllEdits, UndoTakesBackARedo, UndoTakesBackAnEdit};
+ghost use Rattle.mk_session.specs.CallerLaws.{AGroupCanBeUndone, AnEditCanBeUndone, BeginOpensAGroup, CancelShowsTheBeginning, CancelTakesBackAllEdits, EditsStayInTheirGroup, NoEditsAreNoStep, RedoMakesAgain, UndoTakesBackAGroup, UndoTakesBackAllEdits, UndoTakesBackARedo, UndoTakesBackAnEdit};
 ghost use Rattle.mk_session.specs.SessionLaws.{GrantedEditsAreMade, OtherCallsChangeNothing, ReplaysWhatStands, UndoingAllGivesTheFirstText};
 
 /// After any calls, a session shows what the session machine shows: its bytes are those of the text
@@ -52,9 +52,13 @@ pub fn groups_lead_back()
     ensures undone { UndoTakesBackAGroup }
 {}
 
-/// The same of the calls of a group together: a cancel shows the text before the group, and so does
-/// one undo after a group that has edits.
+/// The same of the calls of a group together, which [`Session::group`](crate::Session::group) makes
+/// in one: a cancel shows the text before the group, and so does one undo after a group that has
+/// edits. The undo is granted, unless the depth is 0. A group without edits changes nothing that an
+/// undo or a redo leads to.
 pub fn groups_are_taken_back()
     ensures cancelled { CancelTakesBackAllEdits }
     ensures undone { UndoTakesBackAllEdits }
+    ensures granted { AGroupCanBeUndone }
+    ensures empty { NoEditsAreNoStep }
 {}

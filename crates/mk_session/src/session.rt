@@ -11,6 +11,8 @@ ghost use Rattle.mk_history.specs.Machine.{Apply, Undo, Redo, Begin, End, Cancel
 ghost use Rattle.mk_history.specs.Machine as machine;
 ghost use Rattle.mk_session.specs.Sessions.{IsBadDepth, IsBeginRefusal, IsEditRefusal, IsOpeningFault, IsRefusedBy, answer, seen_opened};
 
+mod group;
+
 use mk_class::Meter;
 use mk_edit::{Edit, Refusal, plan_with};
 use mk_history::history::is_bad_depth;

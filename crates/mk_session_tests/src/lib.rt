@@ -2,8 +2,9 @@
 //! and growths that are counted, the memory that changes take, many calls over hostile makefiles, and
 //! documents that are long enough for an index.
 //!
-//! - `numbers`, `texts`, `edits`: numbers that look random; the text of a document, and the document
-//!   that a text has; edits with their texts in memory of an allocator.
+//! - `numbers`, `texts`: numbers that look random; the text of a document, and the document that a
+//!   text has.
+//! - `made_edits`: the edits that a call each makes.
 //! - `steps`, `rows`: calls of a session as constants, each with its answer; worked rows of them.
 //! - `refused_rows`: the rows where a growth is refused.
 //! - `any_command`, `text_machine`, `many_calls`: commands drawn at random; the session machine by
@@ -14,6 +15,7 @@
 //! - `long_documents`, `index_and_walk`: sessions over documents that are long enough for an index;
 //!   each edit by an index, beside the same edit by a walk over all lines.
 //! - `told_steps`: what a session tells of its steps.
+//! - `whole_groups`: groups of edits that are one call.
 #![tactic(auto)]
 
 #[cfg(test)]
@@ -21,13 +23,13 @@ mod any_command;
 #[cfg(test)]
 mod counted_growths;
 #[cfg(test)]
-mod edits;
-#[cfg(test)]
 mod growths;
 #[cfg(test)]
 mod index_and_walk;
 #[cfg(test)]
 mod long_documents;
+#[cfg(test)]
+mod made_edits;
 #[cfg(test)]
 mod many_calls;
 #[cfg(test)]
@@ -48,3 +50,5 @@ mod text_machine;
 mod texts;
 #[cfg(test)]
 mod told_steps;
+#[cfg(test)]
+mod whole_groups;

@@ -1,16 +1,14 @@
 //! Calls of a session as constants, each with its answer, and sessions that are asked for them.
-use crate::edits::{
-    add_assign, add_order_prereq, add_recipe, add_rule, add_word, add_words, append_value,
-    insert_recipe, remove_assign, remove_prereq, remove_recipe, remove_recipe_by_text, remove_rule,
-    remove_word, rename_target, set_recipe, set_recipe_by_text, set_value, set_values,
-};
 use crate::texts::is_as_parsed;
 use mk_lines::Fault;
-use mk_session::{Command, Refusal, Session};
+use mk_session::{
+    Command, Edit, Flavor, MakeEdit, MakePlace, Place, Refusal, RuleSeparator, Session,
+};
 use std::alloc::{AllocError, Allocator};
 use std::test::Fail;
 
-/// A call of a session, an edit as `edits` has it.
+/// A call of a session. An edit means the only assignment of its name, the only rule of its target or
+/// the first line of its recipe, or each assignment. A new line goes to the end.
 #[derive(Clone, Copy)]
 pub enum Step {
     /// Name and value.
@@ -65,27 +63,31 @@ impl Step {
     /// The call, its texts copied into memory of an allocator.
     pub fn command<A: Allocator + Copy>(self, alloc: A) -> Result<Command<A>, AllocError> {
         let edit = match self {
-            Step::SetValue(name, value) => set_value(alloc, name, value),
-            Step::AppendValue(name, value) => append_value(alloc, name, value),
-            Step::AddWord(name, word) => add_word(alloc, name, word),
-            Step::RemoveWord(name, word) => remove_word(alloc, name, word),
-            Step::SetValues(name, value) => set_values(alloc, name, value),
-            Step::AddWords(name, word) => add_words(alloc, name, word),
-            Step::AddAssign(name, value) => add_assign(alloc, name, value),
-            Step::RemoveAssign(name) => remove_assign(alloc, name),
-            Step::AddRule(targets, prereqs) => add_rule(alloc, targets, prereqs),
-            Step::RemoveRule(target) => remove_rule(alloc, target),
-            Step::AddOrderPrereq(target, word) => add_order_prereq(alloc, target, word),
-            Step::RemovePrereq(target, word) => remove_prereq(alloc, target, word),
-            Step::AddRecipe(target, line) => add_recipe(alloc, target, line),
-            Step::SetRecipe(target, line) => set_recipe(alloc, target, line),
-            Step::RemoveRecipe(target) => remove_recipe(alloc, target),
-            Step::InsertRecipe(target, line) => insert_recipe(alloc, target, line),
-            Step::SetRecipeByText(target, old, line) => {
-                set_recipe_by_text(alloc, target, old, line)
+            Step::SetValue(name, value) => Edit::set(alloc, name, value),
+            Step::AppendValue(name, value) => Edit::append(alloc, name, value),
+            Step::AddWord(name, word) => Edit::add_word(alloc, name, word),
+            Step::RemoveWord(name, word) => Edit::drop_word(alloc, name, word),
+            Step::SetValues(name, value) => Edit::all_set(alloc, name, value),
+            Step::AddWords(name, word) => Edit::all_add_word(alloc, name, word),
+            Step::AddAssign(name, value) => {
+                Place::Bottom.assign(alloc, name, Flavor::Simple, value)
             }
-            Step::RemoveRecipeByText(target, old) => remove_recipe_by_text(alloc, target, old),
-            Step::RenameTarget(from, to) => rename_target(alloc, from, to),
+            Step::RemoveAssign(name) => Edit::unset(alloc, name),
+            Step::AddRule(targets, prereqs) => {
+                Place::Bottom.rule(alloc, targets, RuleSeparator::Single, prereqs)
+            }
+            Step::RemoveRule(target) => Edit::unrule(alloc, target),
+            Step::AddOrderPrereq(target, word) => Edit::depend_order(alloc, target, word),
+            Step::RemovePrereq(target, word) => Edit::undepend(alloc, target, word),
+            Step::AddRecipe(target, line) => Edit::recipe(alloc, target, line),
+            Step::SetRecipe(target, line) => Edit::recipe_set(alloc, target, 1, line),
+            Step::RemoveRecipe(target) => Edit::recipe_del(alloc, target, 1),
+            Step::InsertRecipe(target, line) => Edit::recipe_insert(alloc, target, 1, line),
+            Step::SetRecipeByText(target, old, line) => {
+                Edit::recipe_replace(alloc, target, old, line)
+            }
+            Step::RemoveRecipeByText(target, old) => Edit::recipe_remove(alloc, target, old),
+            Step::RenameTarget(from, to) => Edit::rename(alloc, from, to),
             Step::Undo => return Ok(Command::Undo),
             Step::Redo => return Ok(Command::Redo),
             Step::Begin => return Ok(Command::Begin),

@@ -1,9 +1,8 @@
 //! What a session tells of its steps: whether one can be taken back or made again, and whether a
 //! group that ends has edits.
-use crate::edits::{append_value, set_value};
 use crate::steps::opened;
 use crate::texts::is_as_parsed;
-use mk_session::Refusal;
+use mk_session::{Edit, MakeEdit, Refusal};
 use std::test::Fail;
 
 const FIRST: &[u8] = b"CC = gcc\nCFLAGS = -O2\n";
@@ -11,7 +10,7 @@ const FIRST: &[u8] = b"CC = gcc\nCFLAGS = -O2\n";
 #[test]
 fn a_session_tells_whether_it_can_step(rt: HostRuntime) -> Result<(), Fail> {
     let session = opened(&rt, rt.alloc(), FIRST, 10)?;
-    let set = set_value(rt.alloc(), b"CC", b"clang")?;
+    let set = Edit::set(rt.alloc(), b"CC", b"clang")?;
     assert!(rt; !session.can_undo() && !session.can_redo());
     session.apply(&set)?;
     assert!(rt; session.can_undo() && !session.can_redo());
@@ -28,8 +27,8 @@ fn a_session_tells_whether_it_can_step(rt: HostRuntime) -> Result<(), Fail> {
 #[test]
 fn the_end_of_a_group_tells_whether_it_has_edits(rt: HostRuntime) -> Result<(), Fail> {
     let session = opened(&rt, rt.alloc(), FIRST, 10)?;
-    let set = set_value(rt.alloc(), b"CC", b"clang")?;
-    let none = append_value(rt.alloc(), b"NONE", b"-g")?;
+    let set = Edit::set(rt.alloc(), b"CC", b"clang")?;
+    let none = Edit::append(rt.alloc(), b"NONE", b"-g")?;
     session.begin()?;
     assert_eq!(rt; session.apply(&none), Err(Refusal::NoSuch));
     assert_eq!(rt; session.end(), Ok(false));

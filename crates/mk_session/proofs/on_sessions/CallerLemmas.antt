@@ -1,13 +1,13 @@
 -- What a caller of a session relies on, for the crates above too.
-use Rattle.std.proofs.Common.{◌≡◌, refl, subst, ℕ, zero, suc, ◌<◌, ◌+◌, List, [], ◌∷◌, ◌++◌, length, map, take, Some, None, Result, Ok, Err, arith}
+use Rattle.std.proofs.Common.{◌≡◌, refl, sym, ap, ◌∙◌, subst, ℕ, zero, suc, ◌<◌, ◌+◌, List, [], ◌∷◌, ◌++◌, length, map, take, Some, None, Result, Ok, Err, arith}
 use Rattle.mk_edit_language.specs.Edits.{Edit}
 use Rattle.mk_edit_language.specs.declared.refusal.Refusal.{Refusal}
 use Rattle.mk_history.specs.Machine as machine
-use Rattle.mk_history.specs.Machine.{Command, Apply, Undo, Begin, End, Cancel}
+use Rattle.mk_history.specs.Machine.{Command, Apply, Undo, Redo, Begin, End, Cancel}
 use Rattle.mk_history.specs.Shown.{Shown, shown_answer}
 use Rattle.mk_session.specs.Sessions.{answer, edited}
-use Rattle.mk_session.specs.InTurn.{answers}
-use Rattle.mk_session.specs.CallerLaws.{UndoTakesBackAnEdit, AnEditCanBeUndone, RedoMakesAgain, UndoTakesBackARedo, IsInGroup, BeginOpensAGroup, EditsStayInTheirGroup, CancelShowsTheBeginning, UndoTakesBackAGroup, CancelTakesBackAllEdits, UndoTakesBackAllEdits}
+use Rattle.mk_session.specs.InTurn.{answers, as_group}
+use Rattle.mk_session.specs.CallerLaws.{UndoTakesBackAnEdit, AnEditCanBeUndone, RedoMakesAgain, UndoTakesBackARedo, IsInGroup, BeginOpensAGroup, EditsStayInTheirGroup, CancelShowsTheBeginning, UndoTakesBackAGroup, CancelTakesBackAllEdits, UndoTakesBackAllEdits, AGroupCanBeUndone, NoEditsAreNoStep}
 
 module _ {E T R : Type 0} (act : E → T → Result T R) where
   take-front : {A : Type 0} (n : ℕ) (x y : A) (xs ys : List A) → take n (x ∷ xs) ≡ y ∷ ys → y ≡ x
@@ -31,6 +31,26 @@ module _ {E T R : Type 0} (act : E → T → Result T R) where
 
   group-taken_back : (b : T) (s t u : Shown T) → s.begun ≡ Some b → 0 < s.pending → shown_answer act End s ≡ Ok t → shown_answer act Undo t ≡ Ok u → u.text ≡ b
   group-taken_back b s t u within some ended undone = grind (arith, take-front)
+
+  depth-kept : (c : Command E) (s t : Shown T) → shown_answer act c s ≡ Ok t → t.depth ≡ s.depth
+  depth-kept (Apply e) s t h = grind arith
+  depth-kept Undo s t h = grind arith
+  depth-kept Redo s t h = grind arith
+  depth-kept Begin s t h = grind arith
+  depth-kept End s t h = grind arith
+  depth-kept Cancel s t h = grind arith
+
+  ended-back : (b : T) (s t : Shown T) → s.begun ≡ Some b → 0 < s.pending → shown_answer act End s ≡ Ok t → t.back ≡ take s.depth (b ∷ s.back)
+  ended-back b s t within some h = grind arith
+
+  ended-closed : (b : T) (s t : Shown T) → s.begun ≡ Some b → shown_answer act End s ≡ Ok t → t.begun ≡ None
+  ended-closed b s t within h = grind arith
+
+  begun-same : (s t : Shown T) → shown_answer act Begin s ≡ Ok t → (t.text ≡ s.text) × (t.back ≡ s.back) × (t.forward ≡ s.forward)
+  begun-same s t h = (grind arith, grind arith, grind arith)
+
+  nothing-ended : (b : T) (s t : Shown T) → s.begun ≡ Some b → s.pending ≡ 0 → shown_answer act End s ≡ Ok t → (t.text ≡ s.text) × (t.back ≡ s.back) × (t.forward ≡ s.forward)
+  nothing-ended b s t within none h = (grind arith, grind arith, grind arith)
 
 -- an undo is granted if the texts that undoing leads through are the first of some
 undoable : (s : Shown (List ℕ)) (x : List ℕ) (xs : List (List ℕ)) (n : ℕ) → 0 < n → s.begun ≡ None → s.back ≡ take n (x ∷ xs) → (u : Shown (List ℕ)) × (answer Undo s ≡ Ok u)
@@ -102,6 +122,29 @@ pub all-cancelled : CancelTakesBackAllEdits
 all-cancelled es s t h = let g = whole-group es Cancel s t h in cancel-shows s.text g.0 t g.1.0 g.1.1.1
 
 pub all-undone : UndoTakesBackAllEdits
-all-undone e es s t u h undone =
-    let g = whole-group (e ∷ es) End s t h in
-    group-undone s.text g.0 t u g.1.0 (omega (arith, g.1.1.0)) g.1.1.1 undone
+all-undone es s t u some h undone =
+    let g = whole-group es End s t h in
+    group-undone s.text g.0 t u g.1.0 (omega (arith, some, g.1.1.0)) g.1.1.1 undone
+
+all-depth-kept : (cs : List (Command Edit)) (s t : Shown (List ℕ)) → answers cs s ≡ Ok t → t.depth ≡ s.depth
+all-depth-kept [] s t h = let same : s ≡ t = cc in ap (λ (x : Shown (List ℕ)). x.depth) (sym same)
+all-depth-kept (c ∷ cs) s t h =
+    let first = split-first c cs s t h in
+    all-depth-kept cs first.0 t first.1.1 ∙ depth-kept edited c s first.0 first.1.0
+
+pub group-undoable : AGroupCanBeUndone
+group-undoable es s t some deep h =
+    let g = whole-group es End s t h in
+    let kept : g.0.depth ≡ s.depth = sym (depth-kept edited End g.0 t g.1.1.1) ∙ all-depth-kept (as_group es) s t h in
+    undoable t s.text g.0.back g.0.depth (omega (arith, kept, deep)) (ended-closed edited s.text g.0 t g.1.0 g.1.1.1)
+    (ended-back edited s.text g.0 t g.1.0 (omega (arith, some, g.1.1.0)) g.1.1.1)
+
+pub no-edits-no-step : NoEditsAreNoStep
+no-edits-no-step s t h =
+    let first = split-first Begin (End ∷ []) s t h in
+    let last = split-first End [] first.0 t first.1.1 in
+    let there : last.0 ≡ t = cc in
+    let ended = nothing-ended edited s.text first.0 t (begin-opens s first.0 first.1.0) (begins-fresh s first.0 first.1.0)
+    (subst (λ (x : Shown (List ℕ)). answer End first.0 ≡ Ok x) there last.1.0) in
+    let begun = begun-same edited s first.0 first.1.0 in
+    (ended.0 ∙ begun.0, ended.1 ∙ begun.1, ended.2 ∙ begun.2)

@@ -24,7 +24,7 @@ pub edited-ok : (e : Edit) (t : List ℕ) (rs : List Replacement) → spans t e 
 edited-ok e t rs h = ap (text_with t) h ∙ ap (λ (x : Result (List Replacement) Refusal). Ok (text_by t x)) (sym h)
 
 -- the document after a planned patch has the text after the edit
-planned-edited : (e : Edit) (doc new : List LocatedLine) (patch : List Move) → IsPlanned e doc patch → new ≡ after_moves patch doc → edited e (located_text doc) ≡ Ok (located_text new)
+pub planned-edited : (e : Edit) (doc new : List LocatedLine) (patch : List Move) → IsPlanned e doc patch → new ≡ after_moves patch doc → edited e (located_text doc) ≡ Ok (located_text new)
 planned-edited e doc new patch p n =
     let text : located_text new ≡ text_after (located_text doc) e = ap located_text n ∙ faithful-text (after_moves patch doc) (text_after (located_text doc) e) p.leads in
     edited-ok e (located_text doc) p.replacements p.spans_are ∙ ap (λ (t : List ℕ). Ok t) (sym text)
@@ -54,7 +54,7 @@ text-kept h None doc = refl
 text-kept h (Some g) doc = refl
 
 -- what is seen has the text of the document
-text-shown : (h : Stacks Patches) (group : Option Patches) (doc : List LocatedLine) (s : Shown (List ℕ)) → shown_stored h group doc ≡ s → s.text ≡ located_text doc
+pub text-shown : (h : Stacks Patches) (group : Option Patches) (doc : List LocatedLine) (s : Shown (List ℕ)) → shown_stored h group doc ≡ s → s.text ≡ located_text doc
 text-shown h group doc s seen = ap (λ (x : Shown (List ℕ)). x.text) (sym seen) ∙ text-kept h group doc
 
 answer-refused : (e : Edit) (s : Shown (List ℕ)) (t : List ℕ) (r : Refusal) → s.text ≡ t → spans t e ≡ Err r → answer (Apply e) s ≡ Err (EditRefused r)
@@ -67,11 +67,14 @@ answer-accepted e s t rs text h =
     let accepted : edited e s.text ≡ Ok (text_after t e) = ap (edited e) text ∙ edited-ok e t rs h in
     rw (accepted, shown_answer) refl
 
+-- a refusal of a text is one of what shows this text
+pub refused-there : (e : Edit) (s : Shown (List ℕ)) (t : List ℕ) (r : Refusal) → s.text ≡ t → IsRefusal t e r → IsEditRefusal e s r
+refused-there e s t r text (inl refused) = inl (answer-refused e s t r text refused)
+refused-there e s t r text (inr (none, rs, accepted)) = inr (none, shown_edited (text_after t e) s, answer-accepted e s t rs text accepted)
+
 -- a refusal of planning is one of the session
 pub edit-refused : (e : Edit) (h : Stacks Patches) (group : Option Patches) (doc : List LocatedLine) (s : Shown (List ℕ)) (r : Refusal) → shown_stored h group doc ≡ s → IsRefusal (located_text doc) e r → IsEditRefusal e s r
-edit-refused e h group doc s r seen (inl refused) = inl (answer-refused e s (located_text doc) r (text-shown h group doc s seen) refused)
-edit-refused e h group doc s r seen (inr (none, rs, accepted)) =
-    inr (none, shown_edited (text_after (located_text doc) e) s, answer-accepted e s (located_text doc) rs (text-shown h group doc s seen) accepted)
+edit-refused e h group doc s r seen refused = refused-there e s (located_text doc) r (text-shown h group doc s seen) refused
 
 -- if the edit is planned, a growth may still be refused
 pub memory-refused : (e : Edit) (h : Stacks Patches) (group : Option Patches) (doc : List LocatedLine) (s : Shown (List ℕ)) (patch : List Move) → shown_stored h group doc ≡ s → IsPlanned e doc patch → IsEditRefusal e s NoMemory

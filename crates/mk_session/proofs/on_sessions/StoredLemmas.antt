@@ -138,7 +138,7 @@ pub group-closed : (h : Stacks Patches) (group : Option Patches) (doc : List Loc
 group-closed h None doc s seen none = refl
 group-closed h (Some g) doc s seen none = ap (λ (x : Shown (List ℕ)). is_some x.begun) seen ∙ none
 
-no-group : (group : Option Patches) → is_some group ≡ false → group ≡ None
+pub no-group : (group : Option Patches) → is_some group ≡ false → group ≡ None
 no-group None e = refl
 no-group (Some g) e = absurd (cc)
 

@@ -1,0 +1,376 @@
+//! The edits of variables, of rules and of recipes, by the words of scripts.
+ghost use Rattle.std.specs.Prelude.{◌≡◌, IfOk, None, true, false};
+ghost use Rattle.mk_edit_language.specs.EditViews.{edit_of, place_of};
+ghost use Rattle.mk_edit_language.specs.Edits as edits;
+ghost use Rattle.mk_edits.specs.Numbered.{numbered};
+
+use crate::place::number_place;
+use mk_edit_language::{Edit, ValueChange};
+use std::alloc::{AllocError, Allocator};
+
+/// Makes edits, in a call each. The calls have the words of scripts, and docs/EDITS.md says what each
+/// edit does and when it is refused. An edit means the only line of its name or target, unless
+/// [`MakeEdit::nth`] gives it a number. The edits that put in an assignment or a rule are made of
+/// their place, by `assign` and `rule` of [`MakePlace`](crate::MakePlace).
+///
+/// Each call that takes an allocator has the error [`AllocError`] if there is no memory for a text.
+/// No text is looked at: a bad one is refused when the edit is made.
+pub trait MakeEdit<A: Allocator + Copy>: Sized {
+    /// Gives the only assignment of a name another value, which may be empty: `set NAME VALUE`.
+    fn set(alloc: A, name: &[u8], value: &[u8]) -> Result<Edit<A>, AllocError>;
+
+    /// Puts a text after the value of the only assignment of a name: `append NAME VALUE`.
+    fn append(alloc: A, name: &[u8], value: &[u8]) -> Result<Edit<A>, AllocError>;
+
+    /// Puts a word after the value of the only assignment of a name: `add NAME WORD`.
+    fn add_word(alloc: A, name: &[u8], word: &[u8]) -> Result<Edit<A>, AllocError>;
+
+    /// Takes a word out of the value of the only assignment of a name: `drop NAME WORD`.
+    fn drop_word(alloc: A, name: &[u8], word: &[u8]) -> Result<Edit<A>, AllocError>;
+
+    /// Gives each assignment of a name another value: `all set NAME VALUE`.
+    fn all_set(alloc: A, name: &[u8], value: &[u8]) -> Result<Edit<A>, AllocError>;
+
+    /// Puts a text after the value of each assignment of a name: `all append NAME VALUE`.
+    fn all_append(alloc: A, name: &[u8], value: &[u8]) -> Result<Edit<A>, AllocError>;
+
+    /// Puts a word after each value of a name that does not have it: `all add NAME WORD`.
+    fn all_add_word(alloc: A, name: &[u8], word: &[u8]) -> Result<Edit<A>, AllocError>;
+
+    /// Takes a word out of each value of a name that has it: `all drop NAME WORD`.
+    fn all_drop_word(alloc: A, name: &[u8], word: &[u8]) -> Result<Edit<A>, AllocError>;
+
+    /// Takes out the line of the only assignment of a name: `unset NAME`.
+    fn unset(alloc: A, name: &[u8]) -> Result<Edit<A>, AllocError>;
+
+    /// Takes out the line of the only rule for a target, with its recipe: `unrule TARGET`.
+    fn unrule(alloc: A, target: &[u8]) -> Result<Edit<A>, AllocError>;
+
+    /// Puts a word after the prerequisites of the only rule for a target: `depend TARGET WORD`.
+    fn depend(alloc: A, target: &[u8], word: &[u8]) -> Result<Edit<A>, AllocError>;
+
+    /// Puts a word after the order-only prerequisites of the only rule for a target:
+    /// `depend-order TARGET WORD`.
+    fn depend_order(alloc: A, target: &[u8], word: &[u8]) -> Result<Edit<A>, AllocError>;
+
+    /// Takes a word out of the prerequisites of the only rule for a target: `undepend TARGET WORD`.
+    fn undepend(alloc: A, target: &[u8], word: &[u8]) -> Result<Edit<A>, AllocError>;
+
+    /// Puts a line after the recipe of the only rule for a target: `recipe TARGET LINE`.
+    fn recipe(alloc: A, target: &[u8], line: &[u8]) -> Result<Edit<A>, AllocError>;
+
+    /// Puts a line into the recipe of the only rule for a target, where it gets a number from 1:
+    /// `recipe-insert TARGET K LINE`.
+    fn recipe_insert(
+        alloc: A,
+        target: &[u8],
+        number: u32,
+        line: &[u8],
+    ) -> Result<Edit<A>, AllocError>;
+
+    /// Gives the recipe line of a number another command, in the only rule for a target:
+    /// `recipe-set TARGET K LINE`.
+    fn recipe_set(alloc: A, target: &[u8], number: u32, line: &[u8]) -> Result<Edit<A>, AllocError>;
+
+    /// Takes out the recipe line of a number, in the only rule for a target: `recipe-del TARGET K`.
+    fn recipe_del(alloc: A, target: &[u8], number: u32) -> Result<Edit<A>, AllocError>;
+
+    /// Gives the only recipe line of a text another command, in the only rule for a target:
+    /// `recipe-replace TARGET OLD LINE`.
+    fn recipe_replace(
+        alloc: A,
+        target: &[u8],
+        old: &[u8],
+        line: &[u8],
+    ) -> Result<Edit<A>, AllocError>;
+
+    /// Takes out the only recipe line of a text, in the only rule for a target:
+    /// `recipe-remove TARGET OLD`.
+    fn recipe_remove(alloc: A, target: &[u8], old: &[u8]) -> Result<Edit<A>, AllocError>;
+
+    /// Gives a target another name, wherever it stands as a target or as a prerequisite:
+    /// `rename OLD NEW`.
+    fn rename(alloc: A, old: &[u8], new: &[u8]) -> Result<Edit<A>, AllocError>;
+
+    /// The same edit of another line of its name or target, by its number from 1: `nth N` before
+    /// a command. [`number_edit`] says which number it is, and which edits have none.
+    fn nth(self, number: u32) -> Edit<A>;
+}
+
+impl<A: Allocator + Copy> MakeEdit<A> for Edit<A> {
+    fn set(alloc: A, name: &[u8], value: &[u8]) -> Result<Edit<A>, AllocError>
+        ensures { IfOk result (λ e. edit_of e ≡ edits.SetValue None name.now value.now) }
+    {
+        let name = Vec::from_slice(alloc, name)?;
+        let value = Vec::from_slice(alloc, value)?;
+        Ok(Edit::SetValue {
+            nth: None,
+            name,
+            value,
+        })
+    }
+
+    fn append(alloc: A, name: &[u8], value: &[u8]) -> Result<Edit<A>, AllocError>
+        ensures { IfOk result (λ e. edit_of e ≡ edits.AppendValue None name.now value.now) }
+    {
+        let name = Vec::from_slice(alloc, name)?;
+        let value = Vec::from_slice(alloc, value)?;
+        Ok(Edit::AppendValue {
+            nth: None,
+            name,
+            value,
+        })
+    }
+
+    fn add_word(alloc: A, name: &[u8], word: &[u8]) -> Result<Edit<A>, AllocError>
+        ensures { IfOk result (λ e. edit_of e ≡ edits.AddWord None name.now word.now) }
+    {
+        let name = Vec::from_slice(alloc, name)?;
+        let word = Vec::from_slice(alloc, word)?;
+        Ok(Edit::AddWord {
+            nth: None,
+            name,
+            word,
+        })
+    }
+
+    fn drop_word(alloc: A, name: &[u8], word: &[u8]) -> Result<Edit<A>, AllocError>
+        ensures { IfOk result (λ e. edit_of e ≡ edits.RemoveWord None name.now word.now) }
+    {
+        let name = Vec::from_slice(alloc, name)?;
+        let word = Vec::from_slice(alloc, word)?;
+        Ok(Edit::RemoveWord {
+            nth: None,
+            name,
+            word,
+        })
+    }
+
+    fn all_set(alloc: A, name: &[u8], value: &[u8]) -> Result<Edit<A>, AllocError>
+        ensures { IfOk result (λ e. edit_of e ≡ edits.ChangeValues name.now (edits.Set value.now)) }
+    {
+        let name = Vec::from_slice(alloc, name)?;
+        let value = Vec::from_slice(alloc, value)?;
+        Ok(Edit::ChangeValues {
+            name,
+            change: ValueChange::Set(value),
+        })
+    }
+
+    fn all_append(alloc: A, name: &[u8], value: &[u8]) -> Result<Edit<A>, AllocError>
+        ensures { IfOk result (λ e. edit_of e
+            ≡ edits.ChangeValues name.now (edits.Append value.now)) }
+    {
+        let name = Vec::from_slice(alloc, name)?;
+        let value = Vec::from_slice(alloc, value)?;
+        Ok(Edit::ChangeValues {
+            name,
+            change: ValueChange::Append(value),
+        })
+    }
+
+    fn all_add_word(alloc: A, name: &[u8], word: &[u8]) -> Result<Edit<A>, AllocError>
+        ensures { IfOk result (λ e. edit_of e ≡ edits.ChangeValues name.now (edits.Add word.now)) }
+    {
+        let name = Vec::from_slice(alloc, name)?;
+        let word = Vec::from_slice(alloc, word)?;
+        Ok(Edit::ChangeValues {
+            name,
+            change: ValueChange::Add(word),
+        })
+    }
+
+    fn all_drop_word(alloc: A, name: &[u8], word: &[u8]) -> Result<Edit<A>, AllocError>
+        ensures { IfOk result (λ e. edit_of e
+            ≡ edits.ChangeValues name.now (edits.Remove word.now)) }
+    {
+        let name = Vec::from_slice(alloc, name)?;
+        let word = Vec::from_slice(alloc, word)?;
+        Ok(Edit::ChangeValues {
+            name,
+            change: ValueChange::Remove(word),
+        })
+    }
+
+    fn unset(alloc: A, name: &[u8]) -> Result<Edit<A>, AllocError>
+        ensures { IfOk result (λ e. edit_of e ≡ edits.RemoveAssign None name.now) }
+    {
+        let name = Vec::from_slice(alloc, name)?;
+        Ok(Edit::RemoveAssign { nth: None, name })
+    }
+
+    fn unrule(alloc: A, target: &[u8]) -> Result<Edit<A>, AllocError>
+        ensures { IfOk result (λ e. edit_of e ≡ edits.RemoveRule None target.now) }
+    {
+        let target = Vec::from_slice(alloc, target)?;
+        Ok(Edit::RemoveRule { nth: None, target })
+    }
+
+    fn depend(alloc: A, target: &[u8], word: &[u8]) -> Result<Edit<A>, AllocError>
+        ensures { IfOk result (λ e. edit_of e ≡ edits.AddPrereq false None target.now word.now) }
+    {
+        let target = Vec::from_slice(alloc, target)?;
+        let word = Vec::from_slice(alloc, word)?;
+        Ok(Edit::AddPrereq {
+            order: false,
+            nth: None,
+            target,
+            word,
+        })
+    }
+
+    fn depend_order(alloc: A, target: &[u8], word: &[u8]) -> Result<Edit<A>, AllocError>
+        ensures { IfOk result (λ e. edit_of e ≡ edits.AddPrereq true None target.now word.now) }
+    {
+        let target = Vec::from_slice(alloc, target)?;
+        let word = Vec::from_slice(alloc, word)?;
+        Ok(Edit::AddPrereq {
+            order: true,
+            nth: None,
+            target,
+            word,
+        })
+    }
+
+    fn undepend(alloc: A, target: &[u8], word: &[u8]) -> Result<Edit<A>, AllocError>
+        ensures { IfOk result (λ e. edit_of e ≡ edits.RemovePrereq None target.now word.now) }
+    {
+        let target = Vec::from_slice(alloc, target)?;
+        let word = Vec::from_slice(alloc, word)?;
+        Ok(Edit::RemovePrereq {
+            nth: None,
+            target,
+            word,
+        })
+    }
+
+    fn recipe(alloc: A, target: &[u8], line: &[u8]) -> Result<Edit<A>, AllocError>
+        ensures { IfOk result (λ e. edit_of e ≡ edits.AddRecipe None target.now line.now) }
+    {
+        let target = Vec::from_slice(alloc, target)?;
+        let line = Vec::from_slice(alloc, line)?;
+        Ok(Edit::AddRecipe {
+            nth: None,
+            target,
+            line,
+        })
+    }
+
+    fn recipe_insert(
+        alloc: A,
+        target: &[u8],
+        number: u32,
+        line: &[u8],
+    ) -> Result<Edit<A>, AllocError>
+        ensures { IfOk result (λ e. edit_of e
+            ≡ edits.InsertRecipe None target.now number line.now) }
+    {
+        let target = Vec::from_slice(alloc, target)?;
+        let line = Vec::from_slice(alloc, line)?;
+        Ok(Edit::InsertRecipe {
+            nth: None,
+            target,
+            number,
+            line,
+        })
+    }
+
+    fn recipe_set(alloc: A, target: &[u8], number: u32, line: &[u8]) -> Result<Edit<A>, AllocError>
+        ensures { IfOk result (λ e. edit_of e ≡ edits.SetRecipe None target.now number line.now) }
+    {
+        let target = Vec::from_slice(alloc, target)?;
+        let line = Vec::from_slice(alloc, line)?;
+        Ok(Edit::SetRecipe {
+            nth: None,
+            target,
+            number,
+            line,
+        })
+    }
+
+    fn recipe_del(alloc: A, target: &[u8], number: u32) -> Result<Edit<A>, AllocError>
+        ensures { IfOk result (λ e. edit_of e ≡ edits.RemoveRecipe None target.now number) }
+    {
+        let target = Vec::from_slice(alloc, target)?;
+        Ok(Edit::RemoveRecipe {
+            nth: None,
+            target,
+            number,
+        })
+    }
+
+    fn recipe_replace(
+        alloc: A,
+        target: &[u8],
+        old: &[u8],
+        line: &[u8],
+    ) -> Result<Edit<A>, AllocError>
+        ensures { IfOk result (λ e. edit_of e
+            ≡ edits.SetRecipeByText None target.now old.now line.now) }
+    {
+        let target = Vec::from_slice(alloc, target)?;
+        let old = Vec::from_slice(alloc, old)?;
+        let line = Vec::from_slice(alloc, line)?;
+        Ok(Edit::SetRecipeByText {
+            nth: None,
+            target,
+            old,
+            line,
+        })
+    }
+
+    fn recipe_remove(alloc: A, target: &[u8], old: &[u8]) -> Result<Edit<A>, AllocError>
+        ensures { IfOk result (λ e. edit_of e ≡ edits.RemoveRecipeByText None target.now old.now) }
+    {
+        let target = Vec::from_slice(alloc, target)?;
+        let old = Vec::from_slice(alloc, old)?;
+        Ok(Edit::RemoveRecipeByText {
+            nth: None,
+            target,
+            old,
+        })
+    }
+
+    fn rename(alloc: A, old: &[u8], new: &[u8]) -> Result<Edit<A>, AllocError>
+        ensures { IfOk result (λ e. edit_of e ≡ edits.RenameTarget old.now new.now) }
+    {
+        let from = Vec::from_slice(alloc, old)?;
+        let to = Vec::from_slice(alloc, new)?;
+        Ok(Edit::RenameTarget { from, to })
+    }
+
+    fn nth(mut self, number: u32) -> Edit<A>
+        ensures { edit_of result ≡ numbered number (edit_of self) }
+    {
+        number_edit(&mut self, number);
+        self
+    }
+}
+
+/// Gives an edit the number of the line that it means, from 1, among the lines of the same name or
+/// target; where it puts a line in, the number of the place. The edits that mean each line of a name,
+/// those by [`MakeEdit::rename`] and the calls that begin with `all`, have no number and stay. Takes
+/// no memory.
+pub fn number_edit<A: Allocator>(edit: &mut Edit<A>, number: u32)
+    ensures { edit_of edit.new ≡ numbered number (edit_of edit.old) }
+{
+    match edit {
+        Edit::SetValue { nth, .. } => *nth = Some(number),
+        Edit::AppendValue { nth, .. } => *nth = Some(number),
+        Edit::AddWord { nth, .. } => *nth = Some(number),
+        Edit::RemoveWord { nth, .. } => *nth = Some(number),
+        Edit::RemoveAssign { nth, .. } => *nth = Some(number),
+        Edit::RemoveRule { nth, .. } => *nth = Some(number),
+        Edit::AddPrereq { nth, .. } => *nth = Some(number),
+        Edit::RemovePrereq { nth, .. } => *nth = Some(number),
+        Edit::AddRecipe { nth, .. } => *nth = Some(number),
+        Edit::SetRecipe { nth, .. } => *nth = Some(number),
+        Edit::RemoveRecipe { nth, .. } => *nth = Some(number),
+        Edit::InsertRecipe { nth, .. } => *nth = Some(number),
+        Edit::SetRecipeByText { nth, .. } => *nth = Some(number),
+        Edit::RemoveRecipeByText { nth, .. } => *nth = Some(number),
+        Edit::AddAssign { place, .. } => number_place(place, number),
+        Edit::AddRule { place, .. } => number_place(place, number),
+        Edit::ChangeValues { .. } | Edit::RenameTarget { .. } => {}
+    }
+}
