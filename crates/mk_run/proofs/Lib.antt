@@ -1,2 +1,4 @@
 -- Lemmas by subject
 pub mod on_runs
+-- Texts that are written in parts
+pub mod WritesLemmas

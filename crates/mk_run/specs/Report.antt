@@ -12,8 +12,12 @@ detail_text (Count n) = codes " " ++ decimal n
 detail_text (Field f) = codes " " ++ field_name f
 detail_text Nothing = []
 
+-- what is said of a refusal: its number and its name, and a line feed
+abbrev pub refusal_text : Refusal → List ℕ
+refusal_text r =
+    codes "refused " ++ (decimal (number_of r) ++ (codes " " ++ (name_of r
+    ++ (detail_text (detail_of r) ++ codes "\n"))))
+
 -- the line on the refusal of the command in the script's line of this number
 abbrev pub report_line : (line : ℕ) → Refusal → List ℕ
-report_line line r =
-    decimal line ++ (codes ": refused " ++ (decimal (number_of r) ++ (codes " " ++ (name_of r
-    ++ (detail_text (detail_of r) ++ codes "\n")))))
+report_line line r = (decimal line ++ codes ": ") ++ refusal_text r

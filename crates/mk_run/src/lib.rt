@@ -24,4 +24,6 @@ pub use engine::{read_script, run, run_steps};
 pub use mk_script::{ScriptFault, Step, parse_script};
 pub use mk_session::Command;
 pub use outcome::{Outcome, message, status};
+pub use report::write_refusal;
+pub use step::{RefusedCommand, obey_step};
 pub use witness::{Reported, Witness};

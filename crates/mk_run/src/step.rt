@@ -15,11 +15,11 @@ use std::alloc::Allocator;
 
 /// A refusal that a step comes to, with the number of the line in the script.
 #[derive(Clone, Copy, Debug)]
-pub(crate) struct RefusedCommand {
+pub struct RefusedCommand {
     /// The number of the line, from 1.
-    pub(crate) line: u64,
+    pub line: u64,
     /// Why the command of the line was refused.
-    pub(crate) refusal: Refusal,
+    pub refusal: Refusal,
 }
 
 /// Obeys a step.
@@ -29,7 +29,7 @@ pub(crate) struct RefusedCommand {
 /// The refusal that is to be told, with the number of its line: that of a command alone; behind
 /// `try` one that is not idle; of a chain one that ends it, unless there is nothing to do.
 /// [`Refusal::NoMemory`] if a growth was refused.
-pub(crate) fn obey_step<A: Allocator + Copy, T: Witness<A>>(
+pub fn obey_step<A: Allocator + Copy, T: Witness<A>>(
     session: &mut Session<A>,
     step: &Step<A>,
     witness: &mut T,

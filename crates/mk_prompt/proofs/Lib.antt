@@ -1,0 +1,2 @@
+mod LineLemmas
+mod StepLemmas

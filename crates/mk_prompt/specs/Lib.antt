@@ -1,0 +1,3 @@
+-- # What the public contracts say
+pub mod InputLines
+pub mod Replies
