@@ -1,5 +1,5 @@
 -- What the readers of a run gave.
-use Rattle.std.proofs.Common.{◌≡◌, refl, sym, subst, arith, ℕ, suc, ◌<◌, Bool, true, false, List, length, replicate, Option, Some, None, Err}
+use Rattle.std.proofs.Common.{◌≡◌, refl, sym, subst, arith, ℕ, suc, ◌<◌, ◌≤◌, Bool, true, false, List, length, replicate, Option, Some, None, Err}
 use Rattle.std.specs.Prelude.{Result, IfSome, IfErr}
 use Rattle.std.proofs.lemmas.List.{length-replicate}
 use Rattle.mk_lines.specs.Limits.{max_text}
@@ -7,8 +7,9 @@ use Rattle.mk_lines.specs.Device.{IsSourceFault}
 use Rattle.mk_lines.specs.declared.fault.Fault as f
 use Rattle.mk_lines.specs.declared.fault.Fault.TheVariants as fault
 use Rattle.mk_run.specs.Outcome.{outcome_of}
-use Rattle.mk_script.specs.Scripts.{Step}
+use Rattle.mk_script.specs.Scripts.{HasNoCommand, IsScript, Step}
 use Rattle.mk_run.specs.Runs.{IsTooLong}
+use Rattle.mk_run.specs.RunEnds.{HasText}
 use Rattle.mk_run.specs.RunSteps.{Gives, GivesSteps, StopsScript, StopsMakefile}
 use Rattle.mk_run.specs.declared.outcome.Outcome.TheVariants.{TooLong}
 
@@ -51,3 +52,14 @@ told-fault {T} bytes failed fault.Write h = absurd h.few
 pub unread : {T : Type 0} (result : Result T f.Fault) (bytes : Option (List ℕ)) (failed : Bool) (e : f.Fault) → result ≡ Err e → SaysFault result bytes failed
     → StopsScript bytes failed (outcome_of e) × StopsMakefile bytes failed (outcome_of e)
 unread {T} result bytes failed e is h = told-fault {T = T} bytes failed e (subst (λ (r : Result T f.Fault). SaysFault r bytes failed) is h)
+
+-- a script of n bytes that was read: it has these steps, or a line that is no command
+module _ (bytes : Option (List ℕ)) (n : ℕ) (text shown : List ℕ) (has_text : HasText bytes text) (counted : n ≡ length text) (within : n ≤ max_text) (same : shown ≡ text) where
+  is-short : IsTooLong text → ⊥
+  is-short long = omega (arith, long, counted, within)
+
+  pub gives-steps : (steps : List Step) → IsScript shown steps → GivesSteps bytes steps
+  gives-steps steps is_script = record { text = text; has_text = has_text; short = is-short; is_script = subst (λ (it : List ℕ). IsScript it steps) same is_script }
+
+  pub gives-no-command : (line : ℕ) → HasNoCommand shown line → Gives bytes (λ text. (IsTooLong text → ⊥) × HasNoCommand text line)
+  gives-no-command line no_command = record { text = text; has_text = has_text; holds = (is-short, subst (λ (it : List ℕ). HasNoCommand it line) same no_command) }

@@ -1,7 +1,8 @@
-use Rattle.std.proofs.Common.{sym, subst}
+use Rattle.std.proofs.Common.{map, sym, subst}
 use Rattle.mk_run.specs.RunSteps.{StopsScript}
 use Rattle.mk_run.specs.declared.outcome.Outcome.{Outcome}
-use Rattle.mk_run.proofs.on_runs.ReadLemmas.{unread}
+use Rattle.mk_script.specs.Scripts.{step_of}
+use Rattle.mk_run.proofs.on_runs.ReadLemmas.{gives-no-command, gives-steps, unread}
 use Rattle.mk_run.proofs.engine.read_script.Goals as goal
 
 pub returns-in-Err-clause-stops : goal.returns-in-Err-clause-stops
@@ -14,3 +15,18 @@ returns-in-Err-clause-stops g c =
 
 pub returns-in-Ok-parse_script-clause-works : goal.returns-in-Ok-parse_script-clause-works
 returns-in-Ok-parse_script-clause-works g c = c.in-Ok.ensures.works (λ no. absurd (cc))
+
+pub returns-in-Ok-parse_script-clause-steps : goal.returns-in-Ok-parse_script-clause-steps
+returns-in-Ok-parse_script-clause-steps g c =
+    gives-steps (g.S.ByteSource.remaining c.args.script.now) c.in-Ok.text.len c.in-Ok.text.items c.as_slice.result.now c.in-Ok.ensures.bytes c.in-Ok.text.ok.0 c.in-Ok.ensures.within c.as_slice.ensures.value
+    (map step_of c.in-Ok-parse_script.steps.items) c.in-Ok-parse_script.ensures.steps
+
+pub returns-in-Err-NotACommand-clause-stops : goal.returns-in-Err-NotACommand-clause-stops
+returns-in-Err-NotACommand-clause-stops g c = (
+  c.in-Ok.ensures.works (λ no. absurd (cc)),
+  gives-no-command (g.S.ByteSource.remaining c.args.script.now) c.in-Ok.text.len c.in-Ok.text.items c.as_slice.result.now c.in-Ok.ensures.bytes
+      c.in-Ok.text.ok.0 c.in-Ok.ensures.within c.as_slice.ensures.value c.in-Err-NotACommand.line (rw c.in-Err-NotACommand.field-0-is at c.in-Err-NotACommand.ensures.fault),
+)
+
+pub returns-clause-stops : goal.returns-clause-stops
+returns-clause-stops g c = c.in-Ok.ensures.works (λ no. absurd (cc))
