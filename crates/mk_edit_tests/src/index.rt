@@ -1,6 +1,6 @@
 //! What an index tells, and what it leaves to a walk over the lines.
 use crate::checks::{Heap, document};
-use crate::edits::{add_assign, remove_rule, rename_target, set_value};
+use crate::edits::{Kind, add_assign, change_values, remove_rule, rename_target, set_value};
 use mk_class::{Flavor, Meter};
 use mk_edit::Edit;
 use mk_edit_parts::address::Address;
@@ -11,10 +11,19 @@ use std::alloc::AllocError;
 use std::test::Fail;
 use watched::Watched;
 
+// A scope of names, of targets and of prerequisites, each if it is asked for.
+fn scope(names: bool, targets: bool, prerequisites: bool) -> Scope {
+    Scope {
+        names,
+        targets,
+        prerequisites,
+    }
+}
+
 // How many lines of a makefile the index tells for a name, unless it leaves the name to a walk.
 fn told<'a>(heap: Heap<'a>, makefile: &[u8], name: &[u8]) -> Result<Option<usize>, Fail> {
     let doc = document(heap, makefile)?;
-    let mut index = Index::new(heap, &doc, Scope::Names)?;
+    let mut index = Index::new(heap, &doc, scope(true, false, false))?;
     index.refresh(&doc)?;
     match index.sought(heap, &doc, Some(Address::Variable(None, name))) {
         Some(sought) => Ok(Some(sought.count)),
@@ -102,6 +111,37 @@ fn a_lookup_walks_over_few_names_of_many(rt: HostRuntime) -> Result<(), Fail> {
     Ok(())
 }
 
+// Whether an index of such a scope tells of a variable, of a rule, and of a rename.
+fn tells<'a>(heap: Heap<'a>, scope: Scope) -> Result<[bool; 3], Fail> {
+    let doc = document(heap, b"A=1\nall: lib\nlib:\n")?;
+    let mut index = Index::new(heap, &doc, scope)?;
+    index.refresh(&doc)?;
+    let variable = Some(Address::Variable(None, b"A"));
+    let rule = Some(Address::Rule(None, b"all"));
+    Ok([
+        index.sought(heap, &doc, variable).is_some(),
+        index.sought(heap, &doc, rule).is_some(),
+        index.for_rename(heap, &doc, b"lib", b"new").is_some(),
+    ])
+}
+
+#[test]
+fn an_index_tells_of_what_it_lists(rt: HostRuntime) -> Result<(), Fail> {
+    let heap = Watched::new(rt.alloc());
+    for (names, targets, prerequisites) in [
+        (false, false, false),
+        (true, false, false),
+        (false, true, false),
+        (false, false, true),
+        (false, true, true),
+        (true, true, true),
+    ] {
+        let told = tells(&heap, scope(names, targets, prerequisites))?;
+        assert_eq!(rt; told, [names, targets, targets && prerequisites]);
+    }
+    Ok(())
+}
+
 // Whether a finder knows something of the lines that an edit means: at the first such edit, and at the
 // second.
 fn known_in_turn<'a>(
@@ -142,6 +182,43 @@ fn the_second_edit_needs_no_walk_over_all_lines(rt: HostRuntime) -> Result<(), F
         assert_eq!(rt; is_known_in_turn(&heap, lines, edit)?, known);
         let edit = add_assign(&heap, b"B", Flavor::Simple, b"2");
         assert_eq!(rt; is_known_in_turn(&heap, lines, edit)?, [true, true]);
+    }
+    Ok(())
+}
+
+// Whether a finder that expects renames knows something of the lines of a rename, of those of another
+// edit after that, and of those of the rename again.
+fn known_where_renames_are_expected<'a>(
+    heap: Heap<'a>,
+    rename: &Edit<Heap<'a>>,
+    other: &Edit<Heap<'a>>,
+) -> Result<[bool; 3], Fail> {
+    let makefile = repeated(heap, b"A=1\nall: lib\n", 512)?;
+    let (doc, end) = Doc::parse_with_end(heap, makefile, &mut Meter::new())?;
+    let mut finder = Finder::over(&doc, end);
+    finder.expect_renames();
+    let first = !matches!(&finder.known(heap, &doc, rename), Known::Nothing);
+    let second = !matches!(&finder.known(heap, &doc, other), Known::Nothing);
+    let third = !matches!(&finder.known(heap, &doc, rename), Known::Nothing);
+    Ok([first, second, third])
+}
+
+#[test]
+fn an_index_for_renames_gives_way_to_one_for_all_edits(rt: HostRuntime) -> Result<(), Fail> {
+    let heap = Watched::new(rt.alloc());
+    let renamed = rename_target(&heap, b"lib", b"new");
+    for other in [
+        set_value(&heap, b"A", b"2"),
+        change_values(&heap, b"A", Kind::Set, b"2"),
+        remove_rule(&heap, b"all"),
+    ] {
+        match (&renamed, &other) {
+            (Ok(rename), Ok(other)) => {
+                let known = known_where_renames_are_expected(&heap, rename, other)?;
+                assert_eq!(rt; known, [true, true, true]);
+            }
+            _ => return Err(Fail::from("no memory for the edit")),
+        }
     }
     Ok(())
 }

@@ -12,18 +12,23 @@ use Rattle.mk_edit_parts.specs.RenamedRanges.{word_parts}
 use Rattle.mk_edit_parts.specs.declared.word_parts.WordParts.{WordParts}
 use Rattle.mk_index.specs.Chains.{hash_of}
 use Rattle.mk_index.specs.declared.keys.Scope.{Scope}
-use Rattle.mk_index.specs.declared.keys.Scope.TheVariants.{Names, Words}
 
--- the words of some parts of a text that an index lists: the targets, or prerequisites too
+-- some words, if they are asked for
+abbrev pub listed : (is_asked : Bool) → (words : List (List ℕ)) → List (List ℕ)
+listed true ws = ws
+listed false ws = []
+
+-- the words of some parts of a text that an index lists: targets and prerequisites
 abbrev pub words_of_parts : Scope → (text : List ℕ) → WordParts → List (List ℕ)
-words_of_parts Names t p = words_in (text_at t p.targets)
-words_of_parts Words t p =
-    words_in (text_at t p.targets) ++ (words_in (text_at t p.normal) ++ words_in (text_at t p.order_only))
+words_of_parts s t p =
+    listed s.targets (words_in (text_at t p.targets))
+    ++ (listed s.prerequisites (words_in (text_at t p.normal))
+    ++ listed s.prerequisites (words_in (text_at t p.order_only)))
 
--- the words of a line of this joined text and class that an index lists: the name that it assigns; or
--- its targets, and its prerequisites too
+-- the words of a line of this joined text and class that an index lists: the name that it assigns, or
+-- its targets and its prerequisites
 abbrev pub keys_in : Scope → (text : List ℕ) → class.Class → List (List ℕ)
-keys_in s t (variants.Assign a p) = text_at t a.name ∷ []
+keys_in s t (variants.Assign a p) = listed s.names (text_at t a.name ∷ [])
 keys_in s t k = words_of_parts s t (word_parts k)
 
 -- the empty word, by which a line is found that sets the recipe prefix in a way that is not read
@@ -37,6 +42,12 @@ keys_of s l = unread_key (is_unread_located l) ++ keys_in s (text_of_line l) l.c
 -- the hashes of a line's keys
 abbrev pub hashes_of : Scope → LocatedLine → List ℕ
 hashes_of s l = map hash_of (keys_of s l)
+
+-- an index lists the name or the target by which an address finds its line
+abbrev pub IsListed : Scope → Option Address → Type 0
+IsListed s None = Unit {0}
+IsListed s (Some (Variable nth n)) = s.names ≡ true
+IsListed s (Some (Rule nth t)) = s.targets ≡ true
 
 -- a number is one of some numbers
 abbrev pub IsOneOf : ℕ → List ℕ → Type 0

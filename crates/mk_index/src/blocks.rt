@@ -1,5 +1,5 @@
 //! The blocks of an index: the lines of a document, cut into stretches.
-ghost use Rattle.std.specs.Prelude.{◌≡◌, ◌<◌, ◌≤◌, ◌+◌, ◌*◌, ◌/◌, false, min, IfOk, length, get_or, set};
+ghost use Rattle.std.specs.Prelude.{◌≡◌, ◌<◌, ◌≤◌, ◌+◌, ◌*◌, ◌/◌, false, min, IfOk, IsTrue, length, get_or, set};
 ghost use Rattle.mk_index.specs.Blocks.{AreFresh, IsGroupOf, blocks_of, unlisted, unlisted_blocks};
 
 use mk_class::Context;
@@ -60,18 +60,21 @@ pub struct Group {
 pub struct Blocks<A: Allocator = Global> {
     items: Vec<Block, A>,
     groups: Vec<Group, A>,
+    // Whether it was noted that no block is stale, and none was changed since then.
+    are_fresh: bool,
 }
 
 impl<A: Allocator> Model for Blocks<A> {
-    ghost use Rattle.std.specs.Prelude.{List};
-    ghost use Rattle.mk_index.specs.Blocks.{AreGroupsOf};
+    ghost use Rattle.std.specs.Prelude.{◌≡◌, List, true};
+    ghost use Rattle.mk_index.specs.Blocks.{AreFresh, AreGroupsOf};
     ghost use Rattle.mk_index.specs.declared.blocks.Block.{Block};
 
     ghost Value = { List Block };
 
     ghost view = { λ b. b.items.items };
 
-    ghost invariant = { λ b. AreGroupsOf b.items.items b.groups.items };
+    ghost invariant = { λ b. AreGroupsOf b.items.items b.groups.items
+        × (b.are_fresh ≡ true → AreFresh b.items.items) };
 }
 
 impl<A: Allocator + Copy> Blocks<A> {
@@ -87,7 +90,11 @@ impl<A: Allocator + Copy> Blocks<A> {
         'groups: for group in 0..items.len() / GROUP + 1 {
             groups.push(group_of(&items, group))?;
         }
-        Ok(Blocks { items, groups })
+        Ok(Blocks {
+            items,
+            groups,
+            are_fresh: false,
+        })
     }
 
     /// How many blocks there are.
@@ -103,6 +110,21 @@ impl<A: Allocator + Copy> Blocks<A> {
         ensures { result ≡ get_or self.now number result }
     {
         self.items[number]
+    }
+
+    /// Whether it was noted that no block is stale, and none was changed since then.
+    pub fn are_fresh(&self) -> bool
+        ensures { IsTrue result → AreFresh self.now }
+    {
+        self.are_fresh
+    }
+
+    /// Notes that no block is stale.
+    pub fn note_all_fresh(&mut self)
+        requires { AreFresh self.old }
+        ensures { self.new ≡ self.old }
+    {
+        self.are_fresh = true;
     }
 
     /// How many groups there are.
@@ -147,6 +169,7 @@ impl<A: Allocator + Copy> Blocks<A> {
         self.items[at] = block;
         let group = at / GROUP;
         self.groups[group] = group_of(&self.items, group);
+        self.are_fresh = false;
     }
 
     /// Puts a fresh block in the place of one that has as many lines, whose number, from 0, is given.
@@ -157,6 +180,7 @@ impl<A: Allocator + Copy> Blocks<A> {
         ensures { self.new ≡ set self.old at fresh }
     {
         self.items[at] = fresh;
+        self.are_fresh = false;
     }
 
     /// Notes that no block of the group of a number, from 0, is stale.

@@ -54,16 +54,16 @@ impl<A: Allocator> IndexedDoc<A> {
 }
 
 impl<A: Allocator + Copy> IndexedDoc<A> {
-    /// Lets the next edit with an address, or the next rename, make an index, as
-    /// [`Finder::expect_edits`] does. Walks over nothing and takes no memory.
+    /// Lets the next edit that asks for an index make one, as [`Finder::expect_edits`] does. Walks over
+    /// nothing and takes no memory.
     pub fn expect_edits(&mut self)
         ensures { self.new ≡ self.old }
     {
         self.finder.expect_edits();
     }
 
-    /// Lets the next index serve renames too, as [`Finder::expect_renames`] does. Walks over nothing and
-    /// takes no memory.
+    /// Lets the next edit that asks for an index make one that serves renames, as
+    /// [`Finder::expect_renames`] does. Walks over nothing and takes no memory.
     pub fn expect_renames(&mut self)
         ensures { self.new ≡ self.old }
     {

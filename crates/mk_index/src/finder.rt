@@ -35,10 +35,11 @@ const FEWEST_LINES: usize = 1_024;
 pub struct Finder<A: Allocator = Global> {
     index: Option<Index<A>>,
     end: Option<End>,
-    // Whether the next edit with an address, or the next rename, makes the index: the last one made do
-    // with a walk, or more edits are expected.
+    // Whether the next edit that asks for an index makes it (an edit with an address, a rename, or a
+    // change of all values of a name): the last one made do with a walk, or more edits are expected.
     is_due: bool,
-    // Which words the index lists, and the next one.
+    // Which words the next index lists, and the index that there is: those that edits have asked for, or
+    // will as far as is expected.
     scope: Scope,
 }
 
@@ -62,7 +63,7 @@ impl<A: Allocator + Copy> Finder<A> {
             index: None,
             end: Some(end),
             is_due: false,
-            scope: Scope::Names,
+            scope: Scope::none(),
         }
     }
 
@@ -78,16 +79,18 @@ impl<A: Allocator + Copy> Finder<A> {
         ensures right { IsKnownFor doc.now self.new }
     {
         if let Edit::RenameTarget { from, to } = edit {
-            self.expect_renames();
+            self.ask_for_renames();
             self.make_due(alloc, doc);
             return windows_known(self.for_rename(alloc, doc, from, to));
         }
         if let Edit::ChangeValues { name, .. } = edit {
+            self.ask_for(Some(Address::Variable(None, name)));
             self.make_due(alloc, doc);
             return windows_known(self.for_values(alloc, doc, name));
         }
         let address = address_of(edit);
         if address.is_some() {
+            self.ask_for(address);
             self.make_due(alloc, doc);
             return line_known(self.by_index(alloc, doc, address));
         }
@@ -95,23 +98,64 @@ impl<A: Allocator + Copy> Finder<A> {
         line_known(self.at_end(doc))
     }
 
-    /// Lets the next edit with an address, or the next rename, make an index, since more edits are to
-    /// come. This call itself walks over nothing and takes no memory.
+    /// Lets the next edit that asks for an index make one, since more edits are to come: an edit with an
+    /// address, a rename, or a change of all values of a name. The index lists the names and the targets
+    /// by which edits with an address find their line; one that does not is dropped. This call walks over
+    /// nothing and takes no memory.
     pub fn expect_edits(&mut self)
-        ensures { self.new ≡ self.old }
+        ensures end { self.new.end ≡ self.old.end }
+        ensures right { (lines : List LocatedLine) → IsKnownFor lines self.old
+            → IsKnownFor lines self.new }
     {
         self.is_due = true;
+        self.widen(Scope::of_addresses());
     }
 
-    /// Lets the next index list prerequisites too, since renames are to come. An index that does not is
-    /// dropped. This call walks over nothing and takes no memory.
+    /// Lets the next edit that asks for an index make one, as [`Finder::expect_edits`] does, since renames
+    /// are to come. The index lists targets and prerequisites, which renames ask for; one that does not is
+    /// dropped. It lists no names, unless an edit has asked for them, or edits besides renames are expected.
+    /// This call walks over nothing and takes no memory.
     pub fn expect_renames(&mut self)
         ensures end { self.new.end ≡ self.old.end }
         ensures right { (lines : List LocatedLine) → IsKnownFor lines self.old
             → IsKnownFor lines self.new }
     {
-        if let Scope::Names = self.scope {
-            self.scope = Scope::Words;
+        self.is_due = true;
+        self.widen(Scope::of_renames());
+    }
+
+    // Has the next index list the words by which edits with an address find their line, unless those of
+    // this address are listed.
+    fn ask_for(&mut self, address: Option<Address>)
+        ensures end { self.new.end ≡ self.old.end }
+        ensures right { (lines : List LocatedLine) → IsKnownFor lines self.old
+            → IsKnownFor lines self.new }
+    {
+        if !self.scope.lists(address) {
+            self.widen(Scope::of_addresses());
+        }
+    }
+
+    // Has the next index list the words that renames and other edits ask for, unless those of renames are
+    // listed.
+    fn ask_for_renames(&mut self)
+        ensures end { self.new.end ≡ self.old.end }
+        ensures right { (lines : List LocatedLine) → IsKnownFor lines self.old
+            → IsKnownFor lines self.new }
+    {
+        if !self.scope.lists_renames() {
+            self.widen(Scope::of_renames().with(Scope::of_addresses()));
+        }
+    }
+
+    // Has the next index list these words too, and drops one that does not.
+    fn widen(&mut self, scope: Scope)
+        ensures end { self.new.end ≡ self.old.end }
+        ensures right { (lines : List LocatedLine) → IsKnownFor lines self.old
+            → IsKnownFor lines self.new }
+    {
+        if !self.scope.has(scope) {
+            self.scope = self.scope.with(scope);
             self.index = None;
         }
     }

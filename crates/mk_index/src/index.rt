@@ -106,9 +106,24 @@ impl<A: Allocator + Copy> Index<A> {
         list_steps(&mut self.chains, &self.blocks, self.scope, doc, patch)
     }
 
-    /// Makes each stale block fresh: lists the keys of its lines, and mends the contexts after it.
+    /// Makes each stale block fresh: lists the keys of its lines, and mends the contexts after it. Where
+    /// no block is stale, as after a patch that was kept for, it looks at none.
     /// [`AllocError`] if a growth was refused: then the index is of no use any more.
     pub fn refresh(&mut self, doc: &Doc<A>) -> Result<(), AllocError>
+        requires faithful { IsFaithful doc.now }
+        requires index { IsIndexOf doc.now self.old }
+        ensures { OnOk result (IsFreshIndexOf doc.now self.new) }
+    {
+        if self.blocks.are_fresh() {
+            return Ok(());
+        }
+        self.refresh_groups(doc)?;
+        self.blocks.note_all_fresh();
+        Ok(())
+    }
+
+    // Makes each stale block fresh, in a walk over all groups.
+    fn refresh_groups(&mut self, doc: &Doc<A>) -> Result<(), AllocError>
         requires faithful { IsFaithful doc.now }
         requires index { IsIndexOf doc.now self.old }
         ensures { OnOk result (IsFreshIndexOf doc.now self.new) }
@@ -256,6 +271,9 @@ impl<A: Allocator + Copy> Index<A> {
             AreWindows (concerns (address_seen address.entry)) first_place doc.now windows.items) }
         ensures same { self.new ≡ self.old }
     {
+        if !self.scope.lists(address) {
+            return None;
+        }
         self.windows(alloc, doc, UNREAD, key_of(address))
     }
 
@@ -274,10 +292,10 @@ impl<A: Allocator + Copy> Index<A> {
             AreWindows (concerns_rename old.now new.now) first_place doc.now windows.items) }
         ensures same { self.new ≡ self.old }
     {
-        match self.scope {
-            Scope::Names => None,
-            Scope::Words => self.windows(alloc, doc, hash_of(old), hash_of(new)),
+        if !self.scope.lists_renames() {
+            return None;
         }
+        self.windows(alloc, doc, hash_of(old), hash_of(new))
     }
 
     // The blocks that are marked, as windows of the document, and its end.

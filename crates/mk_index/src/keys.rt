@@ -1,17 +1,19 @@
 //! The keys of a line, listed with its block.
-ghost use Rattle.std.specs.Prelude.{◌≡◌, List, map, IsTrue, IfOk, OnOk};
+ghost use Rattle.std.specs.Prelude.{◌≡◌, List, map, true, IsTrue, IfOk, OnOk};
 ghost use Rattle.mk_lines.specs.Words.{words_in};
 ghost use Rattle.mk_tree.specs.LocatedLines.{text_of_line};
 ghost use Rattle.mk_tree.specs.Trees.{line_view};
+ghost use Rattle.mk_edit_parts.specs.AddressViews.{address_seen};
 ghost use Rattle.mk_edit_parts.specs.LocatedParts.{IsClassed, is_unread_located};
 ghost use Rattle.mk_edit_parts.specs.RenamedRanges.{word_parts};
 ghost use Rattle.mk_index.specs.Chains.{AreChainsOf, HaveListed, Mention, hash_of};
 ghost use Rattle.mk_index.specs.Exchanges.{AreAlike, HaveExchanged, HaveListedBut};
-ghost use Rattle.mk_index.specs.Keys.{hashes_of, unread_key, words_of_parts};
+ghost use Rattle.mk_index.specs.Keys.{IsListed, hashes_of, listed, unread_key, words_of_parts};
 
 use crate::bucket::hash_of;
 use crate::chains::Chains;
 use mk_class::Class;
+use mk_edit_parts::address::Address;
 use mk_edit_parts::tally::has_parts;
 use mk_edit_parts::text::is_same_text;
 use mk_edit_parts::word_parts::parts_of;
@@ -23,17 +25,83 @@ use std::alloc::{AllocError, Allocator};
 
 /// Which words an index lists.
 #[derive(Clone, Copy)]
-pub enum Scope {
-    /// The names that lines assign, and targets: by these an edit with an address finds its line.
-    Names,
-    /// Prerequisites too, which a rename asks for.
-    Words,
+pub struct Scope {
+    /// The names that lines assign: by these an edit of a variable finds its line.
+    pub names: bool,
+    /// Targets: by these an edit of a rule finds its line.
+    pub targets: bool,
+    /// Prerequisites, which a rename asks for besides targets.
+    pub prerequisites: bool,
 }
 
-/// Lists the keys of a line with the block in which it stands: the name that it assigns, or its
-/// targets, and its prerequisites if they are to be listed; and the empty word, if it sets the recipe prefix in a way that is not
-/// read. The caller has the class of the line at hand. [`AllocError`] if a growth was refused, or if
-/// the chains are full.
+impl Scope {
+    /// No words.
+    pub(crate) fn none() -> Scope {
+        Scope {
+            names: false,
+            targets: false,
+            prerequisites: false,
+        }
+    }
+
+    /// The words that edits with an address ask for.
+    pub(crate) fn of_addresses() -> Scope {
+        Scope {
+            names: true,
+            targets: true,
+            prerequisites: false,
+        }
+    }
+
+    /// The words that renames ask for.
+    pub(crate) fn of_renames() -> Scope {
+        Scope {
+            names: false,
+            targets: true,
+            prerequisites: true,
+        }
+    }
+
+    /// The words of this scope, and those of another one.
+    pub(crate) fn with(self, other: Scope) -> Scope {
+        Scope {
+            names: self.names || other.names,
+            targets: self.targets || other.targets,
+            prerequisites: self.prerequisites || other.prerequisites,
+        }
+    }
+
+    /// Whether all words of another scope are words of this one.
+    pub(crate) fn has(self, other: Scope) -> bool {
+        (self.names || !other.names)
+            && (self.targets || !other.targets)
+            && (self.prerequisites || !other.prerequisites)
+    }
+
+    /// Whether the words are listed by which an address finds its line.
+    pub(crate) fn lists(self, address: Option<Address>) -> bool
+        ensures { IsTrue result → IsListed self (address_seen address.entry) }
+    {
+        match address {
+            Some(Address::Variable(_, _)) => self.names,
+            Some(Address::Rule(_, _)) => self.targets,
+            None => true,
+        }
+    }
+
+    /// Whether the words are listed that a rename asks for.
+    pub(crate) fn lists_renames(self) -> bool
+        ensures targets { IsTrue result → self.targets ≡ true }
+        ensures prerequisites { IsTrue result → self.prerequisites ≡ true }
+    {
+        self.targets && self.prerequisites
+    }
+}
+
+/// Lists the keys of a line with the block in which it stands: the name that it assigns, its targets
+/// and its prerequisites, each if such words are to be listed; and the empty word, if it sets the recipe
+/// prefix in a way that is not read. The caller has the class of the line at hand. [`AllocError`] if a
+/// growth was refused, or if the chains are full.
 pub fn list_keys<A: Allocator + Copy>(
     chains: &mut Chains<A>,
     scope: Scope,
@@ -49,6 +117,9 @@ pub fn list_keys<A: Allocator + Copy>(
     list_unread(chains, line, class, block)?;
     match class {
         Class::Assign(assignment, _) => {
+            if !scope.names {
+                return Ok(());
+            }
             let name = part(text_of_line(line), assignment.name);
             chains.list(hash_of(name), block)
         }
@@ -75,7 +146,7 @@ fn list_unread<A: Allocator + Copy>(
     chains.list(hash_of(b""), block)
 }
 
-// Lists the targets of a line, and its prerequisites if they are to be listed.
+// Lists the targets of a line and its prerequisites, each if such words are to be listed.
 fn list_parts<A: Allocator + Copy>(
     chains: &mut Chains<A>,
     scope: Scope,
@@ -94,14 +165,30 @@ fn list_parts<A: Allocator + Copy>(
     }
     let text = text_of_line(line);
     let parts = parts_of(line, class);
-    list_words(chains, part(text, parts.targets), block)?;
-    match scope {
-        Scope::Names => Ok(()),
-        Scope::Words => {
-            list_words(chains, part(text, parts.normal), block)?;
-            list_words(chains, part(text, parts.order_only), block)
-        }
+    list_asked(chains, scope.targets, part(text, parts.targets), block)?;
+    list_asked(chains, scope.prerequisites, part(text, parts.normal), block)?;
+    list_asked(
+        chains,
+        scope.prerequisites,
+        part(text, parts.order_only),
+        block,
+    )
+}
+
+// Lists the words of a text, if they are to be listed.
+fn list_asked<A: Allocator + Copy>(
+    chains: &mut Chains<A>,
+    is_asked: bool,
+    text: &[u8],
+    block: u32,
+) -> Result<(), AllocError>
+    ensures { (ms : List Mention) → AreChainsOf ms chains.old → OnOk result
+        (HaveListed (map hash_of (listed is_asked (words_in text.now))) block ms chains.new) }
+{
+    if !is_asked {
+        return Ok(());
     }
+    list_words(chains, text, block)
 }
 
 // Lists the words of a text.
@@ -187,29 +274,46 @@ fn list_parts_but<A: Allocator + Copy>(
     let after = text_of_line(line);
     let there = parts_of(old, was);
     let here = parts_of(line, class);
-    list_words_but(
+    list_asked_but(
         chains,
+        scope.targets,
         part(before, there.targets),
         part(after, here.targets),
         block,
     )?;
-    match scope {
-        Scope::Names => Ok(()),
-        Scope::Words => {
-            list_words_but(
-                chains,
-                part(before, there.normal),
-                part(after, here.normal),
-                block,
-            )?;
-            list_words_but(
-                chains,
-                part(before, there.order_only),
-                part(after, here.order_only),
-                block,
-            )
-        }
+    list_asked_but(
+        chains,
+        scope.prerequisites,
+        part(before, there.normal),
+        part(after, here.normal),
+        block,
+    )?;
+    list_asked_but(
+        chains,
+        scope.prerequisites,
+        part(before, there.order_only),
+        part(after, here.order_only),
+        block,
+    )
+}
+
+// Lists the words of a text, if they are to be listed, but for those that another text has at the same
+// place.
+fn list_asked_but<A: Allocator + Copy>(
+    chains: &mut Chains<A>,
+    is_asked: bool,
+    there: &[u8],
+    text: &[u8],
+    block: u32,
+) -> Result<(), AllocError>
+    ensures { (ms : List Mention) → AreChainsOf ms chains.old → OnOk result (HaveListedBut
+        (map hash_of (listed is_asked (words_in there.now)))
+        (map hash_of (listed is_asked (words_in text.now))) block ms chains.new) }
+{
+    if !is_asked {
+        return Ok(());
     }
+    list_words_but(chains, there, text, block)
 }
 
 // Lists the words of a text, but for those that another text has at the same place.

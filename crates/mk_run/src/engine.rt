@@ -85,30 +85,48 @@ fn expect_steps<A: Allocator + Copy>(session: &mut Session<A>, steps: &[Step<A>]
     if steps.len() < MANY_STEPS {
         return;
     }
-    session.expect_edits();
-    if have_rename(steps) {
+    let asked = asked_by(steps);
+    if asked.renames {
         session.expect_renames();
+    }
+    if asked.others {
+        session.expect_edits();
     }
 }
 
-// Whether one of some steps may be a rename.
-fn have_rename<A: Allocator>(steps: &[Step<A>]) -> bool {
+// Which edits some steps ask for.
+#[derive(Clone, Copy)]
+struct Asked {
+    renames: bool,
+    // Edits besides renames.
+    others: bool,
+}
+
+// Which edits some steps ask for. Of a chain it says that it asks for edits besides renames: a rename in
+// a chain has an index made that serves it.
+fn asked_by<A: Allocator>(steps: &[Step<A>]) -> Asked {
+    let mut asked = Asked {
+        renames: false,
+        others: false,
+    };
     for step in steps {
-        match step {
-            Step::Alone(numbered) => {
-                if let Command::Apply(Edit::RenameTarget { .. }) = &numbered.command {
-                    return true;
-                }
+        let edit = match step {
+            Step::Alone(numbered) => match &numbered.command {
+                Command::Apply(edit) => edit,
+                _ => continue,
+            },
+            Step::Try(tried) => &tried.edit,
+            Step::Chain(_) => {
+                asked.others = true;
+                continue;
             }
-            Step::Try(numbered) => {
-                if let Edit::RenameTarget { .. } = &numbered.edit {
-                    return true;
-                }
-            }
-            Step::Chain(_) => {}
+        };
+        match edit {
+            Edit::RenameTarget { .. } => asked.renames = true,
+            _ => asked.others = true,
         }
     }
-    false
+    asked
 }
 
 // Obeys the steps in order, and answers how many refusals were told. The line on each refusal is

@@ -137,9 +137,10 @@ impl<A: Allocator + Copy> Session<A> {
     }
 
     /// Tells the session that many edits are to come. Nothing that is shown changes. In a document
-    /// of 1,024 lines or more the next edit of a variable, a rule or a rename then makes an index of
-    /// all variables and rules, which otherwise the second one would make. The call reads no line and
-    /// takes no memory.
+    /// of 1,024 lines or more the next edit of a variable or a rule, or the next rename, then makes an
+    /// index of all variables and rules, which otherwise the second one would make. For a session in
+    /// which all edits are renames, call [`Session::expect_renames`] in place of this. The call reads no
+    /// line and takes no memory.
     pub fn expect_edits(&mut self)
         ensures same { self.new.shown ≡ self.old.shown }
         ensures none_read { self.new.rereads ≡ self.old.rereads }
@@ -147,9 +148,10 @@ impl<A: Allocator + Copy> Session<A> {
         self.doc.expect_edits();
     }
 
-    /// Tells the session that a rename is to come. Nothing that is shown changes. An index that is made
-    /// from then on also has all prerequisites, which a rename asks for; one that has not is dropped.
-    /// The call reads no line and takes no memory.
+    /// Tells the session that many renames are to come. Nothing that is shown changes. The next edit then
+    /// makes an index, as after [`Session::expect_edits`], but one of all targets and prerequisites, which
+    /// renames ask for. After both calls the index has variables too. An index that has not all of these
+    /// is dropped. The call reads no line and takes no memory.
     pub fn expect_renames(&mut self)
         ensures same { self.new.shown ≡ self.old.shown }
         ensures none_read { self.new.rereads ≡ self.old.rereads }

@@ -25,9 +25,8 @@ use Rattle.mk_edit_parts.proofs.on_finding.PartLemmas.{seen-header, seen-target_
 use Rattle.mk_edit_parts.proofs.on_renaming.AbsentWords.{part-lacks}
 use Rattle.mk_edit_parts.proofs.on_renaming.RangeLemmas.{part-within}
 use Rattle.mk_index.specs.Chains.{AreMentioned, IsMentioned, Mention, hash_of}
-use Rattle.mk_index.specs.Keys.{IsOneOf, keys_in, words_of_parts, IsKeyOf, hashes_of, keys_of, unread_key}
+use Rattle.mk_index.specs.Keys.{IsListed, IsOneOf, keys_in, listed, words_of_parts, IsKeyOf, hashes_of, keys_of, unread_key}
 use Rattle.mk_index.specs.declared.keys.Scope.{Scope}
-use Rattle.mk_index.specs.declared.keys.Scope.TheVariants.{Names, Words}
 
 -- ---- mentions
 
@@ -75,24 +74,36 @@ hashes-three a b c =
     append_assoc (map hash_of a) (map hash_of b) (map hash_of c)
     ∙ (ap (λ z. map hash_of a ++ z) (sym (map-append hash_of b c)) ∙ sym (map-append hash_of a (b ++ c)))
 
--- the hashes of the words of three parts
-pub hashes-parts : (t u : List ℕ) (p q : WordParts) (x y z : List ℕ) → t ≡ u → p ≡ q → x ≡ text_at t p.targets → y ≡ text_at t p.normal → z ≡ text_at t p.order_only
-    → (map hash_of (words_in x) ++ map hash_of (words_in y)) ++ map hash_of (words_in z) ≡ map hash_of (words_of_parts Words u q)
-hashes-parts t u p q x y z h i j k l =
-    ap (λ w. (map hash_of (words_in w) ++ map hash_of (words_in y)) ++ map hash_of (words_in z)) j
-    ∙ (ap (λ w. (map hash_of (words_in (text_at t p.targets)) ++ map hash_of (words_in w)) ++ map hash_of (words_in z)) k
-    ∙ (ap (λ w. (map hash_of (words_in (text_at t p.targets)) ++ map hash_of (words_in (text_at t p.normal))) ++ map hash_of (words_in w)) l
-    ∙ (hashes-three (words_in (text_at t p.targets)) (words_in (text_at t p.normal)) (words_in (text_at t p.order_only))
-    ∙ (ap (λ v. map hash_of (words_of_parts Words v p)) h ∙ ap (λ v. map hash_of (words_of_parts Words u v)) i))))
+-- the hashes of the words of three parts that are asked for
+pub hashes-parts : (s : Scope) (t u : List ℕ) (p q : WordParts) (x y z : List ℕ) → t ≡ u → p ≡ q → x ≡ text_at t p.targets → y ≡ text_at t p.normal → z ≡ text_at t p.order_only
+    → (map hash_of (listed s.targets (words_in x)) ++ map hash_of (listed s.prerequisites (words_in y))) ++ map hash_of (listed s.prerequisites (words_in z)) ≡ map hash_of (words_of_parts s u q)
+hashes-parts s t u p q x y z h i j k l =
+    let T : List ℕ → List ℕ = λ w. map hash_of (listed s.targets (words_in w)) in
+    let P : List ℕ → List ℕ = λ w. map hash_of (listed s.prerequisites (words_in w)) in
+    ap (λ w. (T w ++ P y) ++ P z) j
+    ∙ (ap (λ w. (T (text_at t p.targets) ++ P w) ++ P z) k
+    ∙ (ap (λ w. (T (text_at t p.targets) ++ P (text_at t p.normal)) ++ P w) l
+    ∙ (hashes-three (listed s.targets (words_in (text_at t p.targets))) (listed s.prerequisites (words_in (text_at t p.normal))) (listed s.prerequisites (words_in (text_at t p.order_only)))
+    ∙ (ap (λ v. map hash_of (words_of_parts s v p)) h ∙ ap (λ v. map hash_of (words_of_parts s u v)) i))))
 
--- the hashes of the words of one part
-pub hashes-targets : (t u : List ℕ) (p q : WordParts) (x : List ℕ) → t ≡ u → p ≡ q → x ≡ text_at t p.targets → map hash_of (words_in x) ≡ map hash_of (words_of_parts Names u q)
-hashes-targets t u p q x h i j =
-    ap (λ w. map hash_of (words_in w)) j ∙ (ap (λ v. map hash_of (words_of_parts Names v p)) h ∙ ap (λ v. map hash_of (words_of_parts Names u v)) i)
+-- words that are not asked for
+pub listed-none : (b : Bool) (ws : List (List ℕ)) → b ≡ false → listed b ws ≡ []
+listed-none true ws h = absurd (false≢true (sym h))
+listed-none false ws h = refl
+
+-- words that are asked for
+pub listed-all : (b : Bool) (ws : List (List ℕ)) → b ≡ true → listed b ws ≡ ws
+listed-all true ws h = refl
+listed-all false ws h = absurd (false≢true h)
+
+listed-empty : (b : Bool) → listed b [] ≡ []
+listed-empty true = refl
+listed-empty false = refl
 
 none-of-none : (s : Scope) (t : List ℕ) → words_of_parts s t (record { targets = span 0 0; normal = span 0 0; order_only = span 0 0 }) ≡ []
-none-of-none Names t = refl
-none-of-none Words t = refl
+none-of-none s t =
+    ap (λ (x : List (List ℕ)). x ++ (listed s.prerequisites [] ++ listed s.prerequisites [])) (listed-empty s.targets)
+    ∙ ap (λ (x : List (List ℕ)). x ++ x) (listed-empty s.prerequisites)
 
 -- a line of a class without parts has no words there
 pub no-words : (s : Scope) (t : List ℕ) (k : class.Class) → has_parts k ≡ false → words_of_parts s t (word_parts k) ≡ []
@@ -152,22 +163,24 @@ not-unread : (u : Bool) → is_one_of [] (unread_key u) ≡ false → u ≡ fals
 not-unread true h = absurd (false≢true (sym h))
 not-unread false h = refl
 
-not-assigned : (s : Scope) (t w : List ℕ) (k : class.Class) → is_one_of w (keys_in s t k) ≡ false → assigns_in t w k ≡ false
-not-assigned s t w (variants.Assign a p) h = not-same (text_at t a.name) w (or_parts (bytes_eq w (text_at t a.name)) false h).0
-not-assigned s t w variants.Endef h = refl
-not-assigned s t w (variants.Body d) h = refl
-not-assigned s t w variants.Recipe h = refl
-not-assigned s t w variants.Opaque h = refl
-not-assigned s t w variants.Blank h = refl
-not-assigned s t w variants.Comment h = refl
-not-assigned s t w (variants.DefineHead p) h = refl
-not-assigned s t w variants.If h = refl
-not-assigned s t w variants.Else h = refl
-not-assigned s t w variants.Endif h = refl
-not-assigned s t w variants.Directive h = refl
-not-assigned s t w (variants.TargetAssign a) h = refl
-not-assigned s t w variants.Rough h = refl
-not-assigned s t w (variants.Header x) h = refl
+not-assigned : (s : Scope) (t w : List ℕ) (k : class.Class) → s.names ≡ true → is_one_of w (keys_in s t k) ≡ false → assigns_in t w k ≡ false
+not-assigned s t w (variants.Assign a p) asked h =
+    let lack : is_one_of w (text_at t a.name ∷ []) ≡ false = ap (is_one_of w) (sym (listed-all s.names (text_at t a.name ∷ []) asked)) ∙ h in
+    not-same (text_at t a.name) w (or_parts (bytes_eq w (text_at t a.name)) false lack).0
+not-assigned s t w variants.Endef asked h = refl
+not-assigned s t w (variants.Body d) asked h = refl
+not-assigned s t w variants.Recipe asked h = refl
+not-assigned s t w variants.Opaque asked h = refl
+not-assigned s t w variants.Blank asked h = refl
+not-assigned s t w variants.Comment asked h = refl
+not-assigned s t w (variants.DefineHead p) asked h = refl
+not-assigned s t w variants.If asked h = refl
+not-assigned s t w variants.Else asked h = refl
+not-assigned s t w variants.Endif asked h = refl
+not-assigned s t w variants.Directive asked h = refl
+not-assigned s t w (variants.TargetAssign a) asked h = refl
+not-assigned s t w variants.Rough asked h = refl
+not-assigned s t w (variants.Header x) asked h = refl
 
 -- what a word is not that is no word of some parts
 record PartsLack (t w : List ℕ) (p : WordParts) : Type 0 where
@@ -175,32 +188,41 @@ record PartsLack (t w : List ℕ) (p : WordParts) : Type 0 where
   normal : is_one_of w (words_in (text_at t p.normal)) ≡ false
   order_only : is_one_of w (words_in (text_at t p.order_only)) ≡ false
 
-parts-lack : (t w : List ℕ) (p : WordParts) → is_one_of w (words_of_parts Words t p) ≡ false → PartsLack t w p
-parts-lack t w p h =
-    let first = not-both w (words_in (text_at t p.targets)) (words_in (text_at t p.normal) ++ words_in (text_at t p.order_only)) h in
-    let others = not-both w (words_in (text_at t p.normal)) (words_in (text_at t p.order_only)) first.1 in
-    record { targets = first.0; normal = others.0; order_only = others.1 }
+parts-lack : (s : Scope) (t w : List ℕ) (p : WordParts) → s.targets ≡ true → s.prerequisites ≡ true → is_one_of w (words_of_parts s t p) ≡ false → PartsLack t w p
+parts-lack s t w p targets prerequisites h =
+    let T = words_in (text_at t p.targets) in
+    let N = words_in (text_at t p.normal) in
+    let O = words_in (text_at t p.order_only) in
+    let first = not-both w (listed s.targets T) (listed s.prerequisites N ++ listed s.prerequisites O) h in
+    let others = not-both w (listed s.prerequisites N) (listed s.prerequisites O) first.1 in
+    record {
+      targets = ap (is_one_of w) (sym (listed-all s.targets T targets)) ∙ first.0;
+      normal = ap (is_one_of w) (sym (listed-all s.prerequisites N prerequisites)) ∙ others.0;
+      order_only = ap (is_one_of w) (sym (listed-all s.prerequisites O prerequisites)) ∙ others.1;
+    }
 
-targets-lack : (s : Scope) (t w : List ℕ) (p : WordParts) → is_one_of w (words_of_parts s t p) ≡ false → is_one_of w (words_in (text_at t p.targets)) ≡ false
-targets-lack Names t w p h = h
-targets-lack Words t w p h = (parts-lack t w p h).targets
+targets-lack : (s : Scope) (t w : List ℕ) (p : WordParts) → s.targets ≡ true → is_one_of w (words_of_parts s t p) ≡ false → is_one_of w (words_in (text_at t p.targets)) ≡ false
+targets-lack s t w p asked h =
+    let T = words_in (text_at t p.targets) in
+    let first = not-both w (listed s.targets T) (listed s.prerequisites (words_in (text_at t p.normal)) ++ listed s.prerequisites (words_in (text_at t p.order_only))) h in
+    ap (is_one_of w) (sym (listed-all s.targets T asked)) ∙ first.0
 
-not-target : (s : Scope) (t w : List ℕ) (k : class.Class) → is_one_of w (keys_in s t k) ≡ false → is_target_in t w k ≡ false
-not-target s t w (variants.Header x) h = targets-lack s t w (word_parts (variants.Header x)) h
-not-target s t w (variants.TargetAssign a) h = targets-lack s t w (word_parts (variants.TargetAssign a)) h
-not-target s t w (variants.Assign a p) h = refl
-not-target s t w variants.Endef h = refl
-not-target s t w (variants.Body d) h = refl
-not-target s t w variants.Recipe h = refl
-not-target s t w variants.Opaque h = refl
-not-target s t w variants.Blank h = refl
-not-target s t w variants.Comment h = refl
-not-target s t w (variants.DefineHead p) h = refl
-not-target s t w variants.If h = refl
-not-target s t w variants.Else h = refl
-not-target s t w variants.Endif h = refl
-not-target s t w variants.Directive h = refl
-not-target s t w variants.Rough h = refl
+not-target : (s : Scope) (t w : List ℕ) (k : class.Class) → s.targets ≡ true → is_one_of w (keys_in s t k) ≡ false → is_target_in t w k ≡ false
+not-target s t w (variants.Header x) asked h = targets-lack s t w (word_parts (variants.Header x)) asked h
+not-target s t w (variants.TargetAssign a) asked h = targets-lack s t w (word_parts (variants.TargetAssign a)) asked h
+not-target s t w (variants.Assign a p) asked h = refl
+not-target s t w variants.Endef asked h = refl
+not-target s t w (variants.Body d) asked h = refl
+not-target s t w variants.Recipe asked h = refl
+not-target s t w variants.Opaque asked h = refl
+not-target s t w variants.Blank asked h = refl
+not-target s t w variants.Comment asked h = refl
+not-target s t w (variants.DefineHead p) asked h = refl
+not-target s t w variants.If asked h = refl
+not-target s t w variants.Else asked h = refl
+not-target s t w variants.Endif asked h = refl
+not-target s t w variants.Directive asked h = refl
+not-target s t w variants.Rough asked h = refl
 
 -- a line of which a word is no target is no header of a rule for it
 not-rule : (t w : List ℕ) (k : class.Class) → is_target_in t w k ≡ false → is_rule_for_in t w k ≡ false
@@ -221,24 +243,24 @@ not-rule t w variants.Directive h = refl
 not-rule t w variants.Rough h = refl
 
 -- a word that is no key of a line is no target of it
-untargeted : (s : Scope) (word : List ℕ) (l : LocatedLine) → (IsOneOf (hash_of word) (hashes_of s l) → ⊥) → is_target_located word l ≡ false
-untargeted s word l h = not-target s (text_of_line l) word l.class (no-key s word l h).1
+untargeted : (s : Scope) (word : List ℕ) (l : LocatedLine) → s.targets ≡ true → (IsOneOf (hash_of word) (hashes_of s l) → ⊥) → is_target_located word l ≡ false
+untargeted s word l asked h = not-target s (text_of_line l) word l.class asked (no-key s word l h).1
 
 -- an address whose key is no key of a line does not mean it
-not-meant : (s : Scope) (a : Option Address) (l : LocatedLine) (h : ℕ) → IsKeyOf a h → (IsOneOf h (hashes_of s l) → ⊥) → may_mean a l ≡ false
-not-meant s None l h key none = refl
-not-meant s (Some (Variable nth n)) l h key none = not-assigned s (text_of_line l) n l.class (no-key s n l (λ m. none (subst (λ i. IsOneOf i (hashes_of s l)) (sym key) m))).1
-not-meant s (Some (Rule nth t)) l h key none = not-rule (text_of_line l) t l.class (untargeted s t l (λ m. none (subst (λ i. IsOneOf i (hashes_of s l)) (sym key) m)))
+not-meant : (s : Scope) (a : Option Address) (l : LocatedLine) (h : ℕ) → IsListed s a → IsKeyOf a h → (IsOneOf h (hashes_of s l) → ⊥) → may_mean a l ≡ false
+not-meant s None l h asked key none = refl
+not-meant s (Some (Variable nth n)) l h asked key none = not-assigned s (text_of_line l) n l.class asked (no-key s n l (λ m. none (subst (λ i. IsOneOf i (hashes_of s l)) (sym key) m))).1
+not-meant s (Some (Rule nth t)) l h asked key none = not-rule (text_of_line l) t l.class (untargeted s t l asked (λ m. none (subst (λ i. IsOneOf i (hashes_of s l)) (sym key) m)))
 
 -- a line decides nothing for an address if neither the address's key nor the empty word is a key of
 -- the line
-pub unconcerned : (s : Scope) (a : Option Address) (l : LocatedLine) (h : ℕ) → IsKeyOf a h → (IsOneOf h (hashes_of s l) → ⊥) → (IsOneOf 0 (hashes_of s l) → ⊥) → concerns a l ≡ false
-unconcerned s a l h key none read =
-    ap (λ b. b || is_unread_located l) (not-meant s a l h key none) ∙ not-unread (is_unread_located l) (no-key s [] l read).0
+pub unconcerned : (s : Scope) (a : Option Address) (l : LocatedLine) (h : ℕ) → IsListed s a → IsKeyOf a h → (IsOneOf h (hashes_of s l) → ⊥) → (IsOneOf 0 (hashes_of s l) → ⊥) → concerns a l ≡ false
+unconcerned s a l h asked key none read =
+    ap (λ b. b || is_unread_located l) (not-meant s a l h asked key none) ∙ not-unread (is_unread_located l) (no-key s [] l read).0
 
 -- a line of which a word is no key has no range in which a rename replaces the word
-unrenamed : (old : List ℕ) (l : LocatedLine) → IsClassed l → (IsOneOf (hash_of old) (hashes_of Words l) → ⊥) → renamed_ranges old l ≡ []
-unrenamed old l c h = go l.class refl (no-key Words old l h).1
+unrenamed : (s : Scope) (old : List ℕ) (l : LocatedLine) → s.targets ≡ true → s.prerequisites ≡ true → IsClassed l → (IsOneOf (hash_of old) (hashes_of s l) → ⊥) → renamed_ranges old l ≡ []
+unrenamed s old l targets prerequisites c h = go l.class refl (no-key s old l h).1
   where
     cs : List Cell
     cs = line_cells l.bytes
@@ -248,13 +270,13 @@ unrenamed old l c h = go l.class refl (no-key Words old l h).1
         ap (λ z. z ++ (part_ranges cs old p.normal ++ part_ranges cs old p.order_only)) (part-lacks cs p.targets old within.0 lack.targets)
         ∙ (ap (λ z. z ++ part_ranges cs old p.order_only) (part-lacks cs p.normal old within.1 lack.normal) ∙ part-lacks cs p.order_only old within.2 lack.order_only)
 
-    go : (k : class.Class) → l.class ≡ k → is_one_of old (keys_in Words (text_of_line l) k) ≡ false → parts_ranges cs old (word_parts k) ≡ []
+    go : (k : class.Class) → l.class ≡ k → is_one_of old (keys_in s (text_of_line l) k) ≡ false → parts_ranges cs old (word_parts k) ≡ []
     go (variants.Header x) is lack =
         let seen = seen-header l c x is in
-        none (word_parts (variants.Header x)) (part-within _ _ _ _ _ seen.2.targets, part-within _ _ _ _ _ seen.2.normal, part-within _ _ _ _ _ seen.2.order_only) (parts-lack (text_of_line l) old (word_parts (variants.Header x)) lack)
+        none (word_parts (variants.Header x)) (part-within _ _ _ _ _ seen.2.targets, part-within _ _ _ _ _ seen.2.normal, part-within _ _ _ _ _ seen.2.order_only) (parts-lack s (text_of_line l) old (word_parts (variants.Header x)) targets prerequisites lack)
     go (variants.TargetAssign a) is lack =
         let seen = seen-target_assign l c a is in
-        none (word_parts (variants.TargetAssign a)) (part-within _ _ _ _ _ seen.2.targets, (omega arith, omega arith), (omega arith, omega arith)) (parts-lack (text_of_line l) old (word_parts (variants.TargetAssign a)) lack)
+        none (word_parts (variants.TargetAssign a)) (part-within _ _ _ _ _ seen.2.targets, (omega arith, omega arith), (omega arith, omega arith)) (parts-lack s (text_of_line l) old (word_parts (variants.TargetAssign a)) targets prerequisites lack)
     go (variants.Assign a p) is lack = refl
     go variants.Endef is lack = refl
     go (variants.Body d) is lack = refl
@@ -270,9 +292,9 @@ unrenamed old l c h = go l.class refl (no-key Words old l h).1
     go variants.Rough is lack = refl
 
 -- a line without the words of a rename does not concern it
-pub unrenaming : (old new : List ℕ) (l : LocatedLine) → IsClassed l → (IsOneOf (hash_of old) (hashes_of Words l) → ⊥) → (IsOneOf (hash_of new) (hashes_of Words l) → ⊥) → (IsOneOf 0 (hashes_of Words l) → ⊥) → concerns_rename old new l ≡ false
-unrenaming old new l classed none_old none_new read =
-    let unread : is_unread_located l ≡ false = unconcerned Words None l 0 tt read read in
-    let ranges : nat_lt 0 (length (renamed_ranges old l)) ≡ false = ap (λ (xs : List Span). nat_lt 0 (length xs)) (unrenamed old l classed none_old) in
-    let target : is_target_located new l ≡ false = untargeted Words new l none_new in
+pub unrenaming : (s : Scope) (old new : List ℕ) (l : LocatedLine) → s.targets ≡ true → s.prerequisites ≡ true → IsClassed l → (IsOneOf (hash_of old) (hashes_of s l) → ⊥) → (IsOneOf (hash_of new) (hashes_of s l) → ⊥) → (IsOneOf 0 (hashes_of s l) → ⊥) → concerns_rename old new l ≡ false
+unrenaming s old new l targets prerequisites classed none_old none_new read =
+    let unread : is_unread_located l ≡ false = unconcerned s None l 0 tt tt read read in
+    let ranges : nat_lt 0 (length (renamed_ranges old l)) ≡ false = ap (λ (xs : List Span). nat_lt 0 (length xs)) (unrenamed s old l targets prerequisites classed none_old) in
+    let target : is_target_located new l ≡ false = untargeted s new l targets none_new in
     rw (unread, ranges, target) refl

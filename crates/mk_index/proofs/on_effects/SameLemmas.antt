@@ -1,5 +1,5 @@
 -- A line in the place of another, which assigns the same variable.
-use Rattle.std.proofs.Common.{◌≡◌, sym, ap, ◌∙◌, subst, arith, ℕ, zero, suc, ◌+◌, ◌-◌, ◌≤◌, ◌||◌, List, [], ◌∷◌, ◌++◌, Bool, length, take, drop, map, Option, Some, None, if◌then◌else◌, inl, inr}
+use Rattle.std.proofs.Common.{◌≡◌, sym, ap, ◌∙◌, subst, arith, ℕ, zero, suc, ◌+◌, ◌-◌, ◌≤◌, ◌||◌, List, [], ◌∷◌, ◌++◌, Bool, true, length, take, drop, map, Option, Some, None, if◌then◌else◌, inl, inr}
 use Rattle.std.specs.Prelude.{IfSome, slice_get, ◌⊎◌}
 use Rattle.std.specs.List.{list_any}
 use Rattle.mk_class.specs.Contexts.{Context, context_after_located, start}
@@ -15,10 +15,9 @@ use Rattle.mk_index.specs.Effects.{AssignSame, IsKnownFor, Known}
 use Rattle.mk_index.specs.Exchanges.{IsHeld, TakesPlace}
 use Rattle.mk_index.specs.Indexes as indexes
 use Rattle.mk_index.specs.Indexes.{IsIndexOf}
-use Rattle.mk_index.specs.Keys.{hashes_of, keys_in, unread_key}
+use Rattle.mk_index.specs.Keys.{hashes_of, keys_in, listed, unread_key}
 use Rattle.mk_index.specs.declared.blocks.Block.{Block}
 use Rattle.mk_index.specs.declared.keys.Scope.{Scope}
-use Rattle.mk_index.specs.declared.keys.Scope.TheVariants.{Names}
 use Rattle.mk_index.proofs.on_blocks.ChangedLines.{with-back, with-front, with-length, with_lines}
 
 -- a line that assigns the same variable takes the place of another one, in each block
@@ -35,7 +34,7 @@ same-place k l h s ms n = record {
     hashes : hashes_of s k ≡ hashes_of s l
     hashes = ap (λ (b : Bool). map hash_of (unread_key b ++ keys_in s (text_of_line k) k.class)) unread
         ∙ ap (λ (keys : List (List ℕ)). map hash_of (unread_key (is_unread_located l) ++ keys))
-        (ap (keys_in s (text_of_line k)) h.old_is ∙ (ap (λ (n : List ℕ). n ∷ []) h.name_is ∙ sym (ap (keys_in s (text_of_line l)) h.new_is)))
+        (ap (keys_in s (text_of_line k)) h.old_is ∙ (ap (λ (n : List ℕ). listed s.names (n ∷ [])) h.name_is ∙ sym (ap (keys_in s (text_of_line l)) h.new_is)))
 
 -- some lines with another at an index
 abbrev with_line : (at : ℕ) → LocatedLine → List LocatedLine → List LocatedLine
@@ -153,7 +152,8 @@ end-same ls at k l (Some e) there leads unread h = end-same-of ls at k l e there
 pub exchanged-same : (doc : List LocatedLine) (ms : List Move) (at : ℕ) (k l : LocatedLine) → ms ≡ Exchange at l ∷ [] → Some k ≡ slice_get doc at → AssignSame k l → (known : Known) → IsKnownFor doc known → IsKnownFor (after_moves ms doc) known
 exchanged-same doc ms at k l is there same known h =
     let place = same-place k l same in
-    let one = place Names [] 0 in
+    let every : Scope = record { names = true; targets = true; prerequisites = true } in
+    let one = place every [] 0 in
     subst (λ (ns : List Move). IsKnownFor (after_moves ns doc) known) (sym is) (record { index_is = index-same doc at k l known.index there place h.index_is; end_is = end-same doc at k l known.end there one.context_is one.unread_is h.end_is })
 
 -- the line that goes in has its class

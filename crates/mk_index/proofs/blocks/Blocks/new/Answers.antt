@@ -1,5 +1,6 @@
 use Rattle.std.proofs.Common.{◌≡◌, [], ◌∷◌, subst, rules, arith, List, length}
 use Rattle.std.proofs.lemmas.List.{length-append}
+use Rattle.std.proofs.lemmas.Bool.{false≢true}
 use Rattle.mk_index.specs.Blocks.{IsGroupOf, blocks_of}
 use Rattle.mk_index.specs.declared.blocks.Block.{Block}
 use Rattle.mk_index.proofs.on_blocks.GroupLemmas.{groups-more}
@@ -20,8 +21,10 @@ groups-preserved g c =
 pub invariant_of-result : goal.invariant_of-result
 invariant_of-result g c =
     let bs = c.push.new.self.items in
-    let count : c.len.result ≡ length bs = search rules in
-    record {
-      count_is = omega (arith, c.groups.invariant.count_is, c.groups-test.false, c.groups.auto.group-end, count);
-      each = c.groups.invariant.each;
-    }
+    let count : c.len.result ≡ length bs = search rules in (
+      record {
+        count_is = omega (arith, c.groups.invariant.count_is, c.groups-test.false, c.groups.auto.group-end, count);
+        each = c.groups.invariant.each;
+      },
+      λ e. absurd (false≢true e),
+    )

@@ -30,5 +30,5 @@ pub returns-in-ChangeValues : goal.returns-in-ChangeValues
 returns-in-ChangeValues g c =
     let doc = c.args.doc.now in
     let w = c.in-ChangeValues in
-    let windows = subst (λ n. IfSome c.for_values.result (λ ws. AreWindows (concerns_name n) first_place doc ws.items)) c.deref-in-ChangeValues.ensures.value c.for_values.ensures.windows in
+    let windows = subst (λ n. IfSome c.for_values.result (λ ws. AreWindows (concerns_name n) first_place doc ws.items)) c.deref-in-ChangeValues-2.ensures.value c.for_values.ensures.windows in
     rw w.is (record { known = c.windows_known-in-ChangeValues.ensures.values w.name.items (value_change_of w.change) doc windows; right = c.for_values.ensures.right })

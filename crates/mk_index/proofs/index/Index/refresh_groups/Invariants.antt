@@ -1,7 +1,7 @@
 -- The blocks of the groups passed are fresh, and the others are blocks of the lines below.
 use Rattle.std.proofs.Common.{◌≡◌, ◌*◌, length}
 use Rattle.mk_index.proofs.on_blocks.RefreshLemmas.{Refreshing}
-use Rattle.mk_index.proofs.index.Index.refresh.Given as goal
+use Rattle.mk_index.proofs.index.Index.refresh_groups.Given as goal
 
 abbrev pub invariant-groups : goal.invariant-groups
 invariant-groups g l = record {

@@ -5,8 +5,8 @@ use Rattle.mk_index.specs.Blocks.{AreFresh, blocks_of, lines_in}
 use Rattle.mk_index.specs.Indexes.{IsFreshIndexOf, Stored}
 use Rattle.mk_index.specs.Walks.{IsRefreshed}
 use Rattle.mk_index.proofs.on_blocks.RefreshLemmas.{Refreshing, refreshed-within, refreshing-enough, refreshing-from, refreshing-past}
-use Rattle.mk_index.proofs.index.Index.refresh.Goals as goal
-use Rattle.mk_index.proofs.index.Index.refresh.Goals.{then-may_be_stale+in_ok-carried, else-may_be_stale+else-is_some, in-Some, in_default}
+use Rattle.mk_index.proofs.index.Index.refresh_groups.Goals as goal
+use Rattle.mk_index.proofs.index.Index.refresh_groups.Goals.{then-may_be_stale+in_ok-carried, else-may_be_stale+else-is_some, in-Some, in_default}
 
 pub groups-init : goal.groups-init
 groups-init g c = record { walk = refreshing-from c.args.doc.now c.args.self.now c.requires.index; count = refl }
