@@ -18,7 +18,7 @@ With --all the prover refuses each wrong body, and proves the crates of tests to
 as they are built: all that `rt ci` does at the top of the repository.
 
 The last line adds the counts up, and says as skipped how many wrong bodies were not tried. The line above
-it says how long the run took, and how much processor time; but for the tries, each step says so too. The
+it says how long the run took, and how much processor time. Each step but that of the tries says so too. The
 status is 0 only where nothing failed. No step takes anything from what `rt check` has left, and none leaves
 anything in the repository: what is proved is copied to a folder outside (part.py).
 """
