@@ -1,6 +1,6 @@
 use Rattle.std.proofs.Common.{rules}
 use Rattle.mk_lines.proofs.PrefixLemmas.{AppendsPrefix-front}
-use Rattle.mkedit.proofs.WritesLemmas.{writes-then}
+use Rattle.mk_run.proofs.WritesLemmas.{writes-then}
 use Rattle.mkedit.proofs.mistakes.put_line.Goals as goal
 
 pub returns : goal.returns
