@@ -86,11 +86,14 @@ fn expect_steps<A: Allocator + Copy>(session: &mut Session<A>, steps: &[Step<A>]
         return;
     }
     let asked = asked_by(steps);
-    if asked.renames {
-        session.expect_renames();
-    }
-    if asked.others {
-        session.expect_edits();
+    match (asked.renames, asked.others) {
+        (true, true) => {
+            session.expect_renames();
+            session.expect_edits();
+        }
+        (true, false) => session.expect_renames(),
+        (false, true) => session.expect_edits(),
+        (false, false) => {}
     }
 }
 
