@@ -23,7 +23,7 @@ fn scope(names: bool, targets: bool, prerequisites: bool) -> Scope {
 // How many lines of a makefile the index tells for a name, unless it leaves the name to a walk.
 fn told<'a>(heap: Heap<'a>, makefile: &[u8], name: &[u8]) -> Result<Option<usize>, Fail> {
     let doc = document(heap, makefile)?;
-    let mut index = Index::new(heap, &doc, scope(true, false, false))?;
+    let mut index = Index::new(heap, &doc, scope(true, true, false))?;
     index.refresh(&doc)?;
     match index.sought(heap, &doc, Some(Address::Variable(None, name))) {
         Some(sought) => Ok(Some(sought.count)),
