@@ -29,6 +29,9 @@ OBEYED = b"make may obey this as a line of a conditional"
 DEFINED = b"make may begin a define here"
 UNFOUND = b"make may set a variable here that no edit finds"
 PREFIX_SET = b"make may set the recipe prefix here"
+ELSEWHERE = b"make may take nothing from this rule: another one has the recipe of its target"
+# The most bytes of a makefile.
+MOST_BYTES = 2**24
 
 
 class Context(NamedTuple):
@@ -511,9 +514,31 @@ def assignment_caveat(raw, kind, parts):
     return PREFIX_SET if is_reference and len(value) == 1 else None
 
 
+def is_plain_target(target):
+    """Whether a target is none of a special rule, a suffix rule or a pattern rule, and has no reference."""
+    is_dotted = target.startswith(b".") and b"/" not in target
+    return not is_dotted and not set(target) & set(b"$%")
+
+
+def bare_rules(text):
+    """The numbers of the lines of bare rules whose target has a recipe in another rule.
+
+    As many bare rules are looked at as the largest makefile has room for texts like this one.
+    """
+    lines = read(text)[0]
+    rules = [(line, recipe_lines(lines[at + 1 :])) for at, line in enumerate(lines) if is_rule(line, None)]
+    made = {target for it, count in rules if count or it.parts[-1] is not None for target in it.parts[0]}
+    alone = (b":", None, (), (), None)
+    bare = [it for it, count in rules if count == 0 and it.parts[1:] == alone and len(it.parts[0]) == 1]
+    plain = [it for it in bare if is_plain_target(it.parts[0][0])]
+    looks = MOST_BYTES // max(len(text), 1)
+    return {it.number for it in plain[:looks] if it.parts[0][0] in made}
+
+
 def caveats_text(text):
     """What `mkedit caveats` prints."""
     for_make, outside, context, out = [], [], Context(), b""
+    elsewhere = bare_rules(text)
     for number, raw in logical_lines(text):
         kind, parts = class_of(raw, context)
         flag_outside = flag_after(outside)
@@ -521,6 +546,7 @@ def caveats_text(text):
             recipe_caveat(raw, context, kind, flag_after(for_make), flag_outside)
             or word_caveat(raw, context, kind, flag_outside)
             or assignment_caveat(raw, kind, parts)
+            or (ELSEWHERE if number in elsewhere else None)
         )
         out += b"%d: %s\n" % (number, said) if said else b""
         line = raw, context, kind, parts

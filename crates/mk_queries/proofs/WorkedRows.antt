@@ -157,6 +157,74 @@ row_caveats_of_a_define_after_a_byte_order_mark : caveats_text (codes "ï»¿def
 unfolding digits
 row_caveats_of_a_define_after_a_byte_order_mark = refl
 
+row_caveats_of_a_bare_rule_below_a_rule_with_a_recipe : caveats_text (codes "t: a\n\tb\nt:\n") ≡ (codes "3: make may take nothing from this rule: another one has the recipe of its target\n")
+unfolding digits
+row_caveats_of_a_bare_rule_below_a_rule_with_a_recipe = refl
+
+row_caveats_of_a_bare_rule_above_a_rule_with_a_recipe : caveats_text (codes "t:\nX = 1\nt: a\n\tb\n") ≡ (codes "1: make may take nothing from this rule: another one has the recipe of its target\n")
+unfolding digits
+row_caveats_of_a_bare_rule_above_a_rule_with_a_recipe = refl
+
+row_caveats_of_a_bare_rule_alone : caveats_text (codes "t:\nu:\n\tx\nt:\n") ≡ []
+unfolding digits
+row_caveats_of_a_bare_rule_alone = refl
+
+row_caveats_of_a_bare_rule_for_a_target_with_an_inline_recipe : caveats_text (codes "t: ; x\nt : # c\n") ≡ (codes "2: make may take nothing from this rule: another one has the recipe of its target\n")
+unfolding digits
+row_caveats_of_a_bare_rule_for_a_target_with_an_inline_recipe = refl
+
+row_caveats_of_bare_rules_for_one_of_several_targets : caveats_text (codes "a t b:\n\tx\nt:\nX = 1\nb:\n") ≡ (codes "3: make may take nothing from this rule: another one has the recipe of its target\n5: make may take nothing from this rule: another one has the recipe of its target\n")
+unfolding digits
+row_caveats_of_bare_rules_for_one_of_several_targets = refl
+
+row_caveats_of_a_bare_rule_for_a_target_of_a_static_pattern : caveats_text (codes "a b: %: c\n\tx\na:\n") ≡ (codes "3: make may take nothing from this rule: another one has the recipe of its target\n")
+unfolding digits
+row_caveats_of_a_bare_rule_for_a_target_of_a_static_pattern = refl
+
+row_caveats_of_a_bare_rule_for_a_prerequisite : caveats_text (codes "a: t | u\n\tx\nt:\nu:\n") ≡ []
+unfolding digits
+row_caveats_of_a_bare_rule_for_a_prerequisite = refl
+
+row_caveats_of_a_rule_with_prerequisites_is_none : caveats_text (codes "t:\n\tx\nt: a\nt: | b\n") ≡ []
+unfolding digits
+row_caveats_of_a_rule_with_prerequisites_is_none = refl
+
+row_caveats_of_a_rule_with_an_empty_inline_recipe_is_none : caveats_text (codes "t:\n\tx\nt: ;\n") ≡ []
+unfolding digits
+row_caveats_of_a_rule_with_an_empty_inline_recipe_is_none = refl
+
+row_caveats_of_a_rule_with_a_recipe_below_a_conditional_is_none : caveats_text (codes "t:\n\tx\nt:\n# c\n\nifdef Z\n\ty\nendif\n") ≡ []
+unfolding digits
+row_caveats_of_a_rule_with_a_recipe_below_a_conditional_is_none = refl
+
+row_caveats_of_a_bare_rule_where_another_has_its_recipe_below_a_conditional : caveats_text (codes "t:\nX = 1\nt:\n# c\n\nifdef Z\n\ty\nendif\n") ≡ (codes "1: make may take nothing from this rule: another one has the recipe of its target\n")
+unfolding digits
+row_caveats_of_a_bare_rule_where_another_has_its_recipe_below_a_conditional = refl
+
+row_caveats_of_a_rule_with_two_colons_is_none : caveats_text (codes "t::\n\tx\nt::\nu:\n\ty\nu &:\n") ≡ []
+unfolding digits
+row_caveats_of_a_rule_with_two_colons_is_none = refl
+
+row_caveats_of_a_rule_with_two_targets_is_none : caveats_text (codes "a b:\n\tx\na b:\n") ≡ []
+unfolding digits
+row_caveats_of_a_rule_with_two_targets_is_none = refl
+
+row_caveats_of_a_bare_rule_for_a_target_with_a_dot : caveats_text (codes ".PHONY:\n\tx\n.PHONY:\n./t:\n\ty\n./t:\n.c.o:\n\tz\n.c.o:\n") ≡ (codes "6: make may take nothing from this rule: another one has the recipe of its target\n")
+unfolding digits
+row_caveats_of_a_bare_rule_for_a_target_with_a_dot = refl
+
+row_caveats_of_a_bare_rule_for_a_pattern_or_a_reference : caveats_text (codes "%.o:\n\tx\n%.o:\n$(T):\n\tx\n$(T):\n") ≡ []
+unfolding digits
+row_caveats_of_a_bare_rule_for_a_pattern_or_a_reference = refl
+
+row_caveats_of_bare_rules_in_a_define_and_below_it : caveats_text (codes "define D\nt:\nendef\nt:\n\tx\nifdef Z\nt:\nendif\n") ≡ (codes "7: make may take nothing from this rule: another one has the recipe of its target\n")
+unfolding digits
+row_caveats_of_bare_rules_in_a_define_and_below_it = refl
+
+row_caveats_of_bare_rules_among_other_lines : caveats_text (codes "\u{c}X = 1\na:\n\tx\nb: ; y\na:\n\u{c}X = 2\nb:\n") ≡ (codes "1: make may set a variable here that no edit finds\n5: make may take nothing from this rule: another one has the recipe of its target\n6: make may set a variable here that no edit finds\n7: make may take nothing from this rule: another one has the recipe of its target\n")
+unfolding digits
+row_caveats_of_bare_rules_among_other_lines = refl
+
 row_recipes_of_an_empty_file : recipes_text [] ≡ []
 unfolding digits
 row_recipes_of_an_empty_file = refl

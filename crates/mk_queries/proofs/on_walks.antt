@@ -4,4 +4,5 @@ pub mod UnreadLemmas
 pub mod VariableLemmas
 pub mod RuleLemmas
 pub mod RecipeLemmas
+pub mod BareRuleLemmas
 pub mod CaveatLemmas

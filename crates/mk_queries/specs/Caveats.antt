@@ -1,9 +1,10 @@
 -- What make may read in a line otherwise than it is read here.
 -- Told in docs/LANGUAGE.md, chapter 8.
-use Rattle.std.specs.Prelude.{ℕ, ◌==◌, if◌then◌else◌, Bool, true, false, not, ◌&&◌, ◌||◌, nat_le, nat_lt, List, [], ◌∷◌, ◌++◌, map, length, Option, Some, None, codes, decimal}
+use Rattle.std.specs.Prelude.{ℕ, ◌==◌, if◌then◌else◌, Bool, true, false, not, ◌&&◌, ◌||◌, nat_le, nat_lt, List, [], ◌∷◌, ◌++◌, length, Option, Some, None, codes, decimal}
 use Rattle.std.specs.Str.{bytes_eq}
 use Rattle.std.specs.Option.{option_or}
-use Rattle.mk_lines.specs.Lists.{concat, leading, after_leading}
+use Rattle.mk_lines.specs.Limits.{max_text}
+use Rattle.mk_lines.specs.Lists.{leading, after_leading}
 use Rattle.mk_lines.specs.Cells.{joined_byte}
 use Rattle.mk_lines.specs.FirstUnit.{after_first_unit}
 use Rattle.mk_lines.specs.Ranges.{text_at}
@@ -21,9 +22,10 @@ use Rattle.mk_class.specs.declared.class.Class.TheVariants as variants
 use Rattle.mk_tree.specs.LineTexts.{context_of, StandingLine}
 use Rattle.mk_tree.specs.LocatedLines.{LocatedLine, located_line, text_of_line}
 use Rattle.mk_queries.specs.declared.caveat.Caveat.{Caveat}
-use Rattle.mk_queries.specs.declared.caveat.Caveat.TheVariants.{AfterEmpty, AfterConditional, Conditional, Define, Assignment, Prefix}
+use Rattle.mk_queries.specs.declared.caveat.Caveat.TheVariants.{AfterEmpty, AfterConditional, Conditional, Define, Assignment, Prefix, BareRule}
 use Rattle.mk_queries.specs.declared.seen.Seen.{Seen}
 use Rattle.mk_queries.specs.StandingLines.{standing_lines, line_number}
+use Rattle.mk_queries.specs.BareRules.{has_recipe_for, left_below, looked_at}
 
 -- ---- the first word of a line, as make finds it
 
@@ -180,6 +182,14 @@ assignment_caveat bytes t (variants.Assign at p) =
     named_caveat (text_at t at.name) (text_at t at.value)
 assignment_caveat bytes t k = None
 
+-- ---- a bare rule
+
+-- the caveat of a bare rule with this target that is looked at, if there is one: another rule of the
+-- text has a recipe for the target
+abbrev pub bare_caveat : (text : List ℕ) → (target : Option (List ℕ)) → Option Caveat
+bare_caveat t None = None
+bare_caveat t (Some g) = if has_recipe_for g (standing_lines t) then Some BareRule else None
+
 -- ---- the text
 
 -- the caveat of a line that stands in a context, below lines that leave these flags
@@ -199,18 +209,29 @@ sentence Conditional = codes "make may obey this as a line of a conditional"
 sentence Define = codes "make may begin a define here"
 sentence Assignment = codes "make may set a variable here that no edit finds"
 sentence Prefix = codes "make may set the recipe prefix here"
+sentence BareRule =
+    codes "make may take nothing from this rule: another one has the recipe of its target"
 
 -- a line of text on a caveat, where there is one
 abbrev pub caveat_text : (number : ℕ) → Option Caveat → List ℕ
 caveat_text n None = []
 caveat_text n (Some k) = decimal n ++ (codes ": " ++ (sentence k ++ codes "\n"))
 
--- the same of a line where it stands
-abbrev pub caveat_line : StandingLine → List ℕ
-caveat_line s =
-    caveat_text (line_number s)
-    (caveat_of (context_of s.above) (seen_above s.above) (located_line s.line))
+-- the caveat of a line where it stands in a text; `target` is that of the bare rule which begins with
+-- the line, if it is looked at
+abbrev pub caveat_at : (text : List ℕ) → (target : Option (List ℕ)) → StandingLine → Option Caveat
+caveat_at t target s =
+    option_or (caveat_of (context_of s.above) (seen_above s.above) (located_line s.line))
+    (bare_caveat t target)
+
+-- a line of text on the caveat of each of some lines of a text; looks may go through `left` bytes
+abbrev pub caveat_lines : (text : List ℕ) → (left : ℕ) → List StandingLine → List ℕ
+caveat_lines t left [] = []
+caveat_lines t left (s ∷ ss) =
+    let target = looked_at (length t) left s in
+    caveat_text (line_number s) (caveat_at t target s)
+    ++ caveat_lines t (left_below (length t) left target) ss
 
 -- the text of `caveats`
 abbrev pub caveats_text : List ℕ → List ℕ
-caveats_text t = concat (map caveat_line (standing_lines t))
+caveats_text t = caveat_lines t max_text (standing_lines t)

@@ -33,6 +33,8 @@ pub(crate) enum Caveat {
     Assignment,
     /// An assignment of the recipe prefix.
     Prefix,
+    /// A rule that has one target and nothing else, where another one has a recipe for the target.
+    BareRule,
 }
 
 impl Caveat {
@@ -51,6 +53,9 @@ impl Caveat {
             Caveat::Define => "make may begin a define here",
             Caveat::Assignment => "make may set a variable here that no edit finds",
             Caveat::Prefix => "make may set the recipe prefix here",
+            Caveat::BareRule => {
+                "make may take nothing from this rule: another one has the recipe of its target"
+            }
         }
     }
 }

@@ -21,11 +21,15 @@
 //! - `seen`: what the lines above tell of rules, where make passes some of them.
 //! - `caveat`: what make may read in a line otherwise.
 //! - `wanted`: the one name or target that a query is asked for, and how it then sees the lines.
+//! - `header_parts`: the parts of a header, by their offsets.
+//! - `bare_rule`: rules that have one target and nothing else, and recipes for their targets.
 //! - `query`: the five queries, each in the module of its name.
 #![tactic(auto)]
 
+mod bare_rule;
 mod caveat;
 mod gathering;
+mod header_parts;
 mod make_word;
 mod position;
 mod query;

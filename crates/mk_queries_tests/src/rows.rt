@@ -47,7 +47,7 @@ pub struct Row {
     pub text: &'static [u8],
 }
 
-pub static ROWS: [Row; 53] = [
+pub static ROWS: [Row; 57] = [
     // vars of an empty file
     Row {
         query: Query::Vars,
@@ -359,6 +359,30 @@ pub static ROWS: [Row; 53] = [
         query: Query::Caveats,
         makefile: b"ifndef W\nt:\n\telse\nendif\n",
         text: b"3: make may obey this as a line of a conditional\n",
+    },
+    // caveats of bare rules above and below a rule with a recipe
+    Row {
+        query: Query::Caveats,
+        makefile: b"t:\nX = 1\nt: a\n\tb\nt: # c\n",
+        text: b"1: make may take nothing from this rule: another one has the recipe of its target\n5: make may take nothing from this rule: another one has the recipe of its target\n",
+    },
+    // caveats of a bare rule for one of several targets
+    Row {
+        query: Query::Caveats,
+        makefile: b"a t b: ; x\n\nifdef Z\nt:\nendif\nb::\n",
+        text: b"4: make may take nothing from this rule: another one has the recipe of its target\n",
+    },
+    // caveats of rules that are not bare
+    Row {
+        query: Query::Caveats,
+        makefile: b"t:\n\tx\nt: a\nt: | a\nt: ;\nt u:\n.PHONY: t\n%.o: ; x\n%.o:\nt:\n# c\n\n\ty\n",
+        text: b"",
+    },
+    // caveats of bare rules that are alone
+    Row {
+        query: Query::Caveats,
+        makefile: b"a: b\n\tx\nb:\nb:\n",
+        text: b"",
     },
     // caveats of a clean file
     Row {

@@ -159,3 +159,27 @@ fn many_recipe_lines_are_counted(rt: HostRuntime) -> Result<(), Fail> {
     assert_eq!(rt; out.bytes(), b"1:0: a: [100000]\n".as_slice());
     Ok(())
 }
+
+// What `caveats` says of two bare rules whose targets have a recipe, in a text of so many bytes.
+fn of_two_bare_rules(rt: &HostRuntime, size: usize) -> Result<Vec<u8>, Fault> {
+    let mut makefile = Vec::from_slice(rt.alloc(), b"a:\n\tx\na:\na:\n#")?;
+    while makefile.len() < size {
+        makefile.extend_from_slice(&[b'x'; 65_536])?;
+    }
+    makefile.truncate(size);
+    let doc = document(rt, &makefile)?;
+    let mut out = sink(rt, ALL);
+    Query::Caveats.ask(&doc, &mut out)?;
+    Ok(Vec::from_slice(rt.alloc(), out.bytes())?)
+}
+
+// Bare rules are looked at as long as the looks go through no more bytes than the longest text has.
+#[test]
+fn looks_go_through_the_bytes_of_the_longest_text(rt: HostRuntime) -> Result<(), Fail> {
+    let first: &[u8] = b"3: make may take nothing from this rule: another one has the recipe of its target\n";
+    let second: &[u8] = b"4: make may take nothing from this rule: another one has the recipe of its target\n";
+    let both = of_two_bare_rules(&rt, 8_388_608)?;
+    assert_eq!(rt; both.as_slice(), [first, second].concat(rt.alloc())?.as_slice());
+    assert_eq!(rt; of_two_bare_rules(&rt, 8_388_609)?.as_slice(), first);
+    Ok(())
+}

@@ -52,7 +52,7 @@ more-closed None m = refl
 more-closed (Some k) m = let e : k + 1 + m ≡ k + suc m = omega arith in ap count_text e
 
 -- the number of recipe lines from a line of this class on, from the number of those below it
-abbrev recipe_length : Class Cell → ℕ → ℕ
+abbrev pub recipe_length : Class Cell → ℕ → ℕ
 recipe_length Recipe m = suc m
 recipe_length Blank m = m
 recipe_length Comment m = m
@@ -61,7 +61,7 @@ recipe_length Else m = m
 recipe_length Endif m = m
 recipe_length k m = 0
 
-length-recipe_lines : (l : ClassedLine) (ls : List ClassedLine) → length (recipe_lines (l ∷ ls)) ≡ recipe_length l.class (length (recipe_lines ls))
+pub length-recipe_lines : (l : ClassedLine) (ls : List ClassedLine) → length (recipe_lines (l ∷ ls)) ≡ recipe_length l.class (length (recipe_lines ls))
 length-recipe_lines l ls = go l.class refl
   where
     recipes : List ClassedLine → List ClassedLine

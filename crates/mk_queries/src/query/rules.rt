@@ -1,29 +1,27 @@
 //! The query `rules`: the headers of rules.
 ghost use Rattle.std.specs.Prelude.{◌≡◌, ◌+◌, ◌<◌, ◌^◌, false, IfOk, length, option_map};
 ghost use Rattle.mk_lines.specs.Device.{Writes};
-ghost use Rattle.mk_lines.specs.Ranges.{text_at};
 ghost use Rattle.mk_tree.specs.Documents.{IsFaithful};
 ghost use Rattle.mk_tree.specs.LocatedLines.{located_text, text_of_line};
 ghost use Rattle.mk_tree.specs.Printing.{Gathers};
 ghost use Rattle.mk_tree.specs.Trees.{line_view};
 ghost use Rattle.mk_queries.specs.PartTexts.{order_only_text, pattern_text};
-ghost use Rattle.mk_queries.specs.LocatedTexts.{IsClassedIn, IsHeaderWithin, count_of, count_located, counted_after, header_located, one_more, pattern_span, rule_located};
-ghost use Rattle.mk_class.specs.LineParts.{order_only_span};
+ghost use Rattle.mk_queries.specs.LocatedTexts.{IsClassedIn, IsHeaderWithin, count_of, count_located, counted_after, header_located, one_more, rule_located};
 ghost use Rattle.mk_lines.specs.Words.{words_in};
 ghost use Rattle.mk_queries.specs.Queries.{rules_for_text, rules_text};
 ghost use Rattle.mk_queries.specs.WantedLines.{rules_wanted, target_class};
 
 use crate::gathering::put_parts;
+use crate::header_parts::{normal, order_only, pattern, targets};
 use crate::position::{line_feeds, put_position};
 use crate::spacing::put_each_after_space;
 use crate::targets::put_targets;
 use crate::wanted::target_class;
 use mk_class::{Class, Context, Header};
 use mk_lines::sink::{ByteSink, write_all};
-use mk_lines::split::Span;
 use mk_lines::{Fault, split_first_word};
 use mk_tree::gathering::Gathered;
-use mk_tree::part::{part, text_of_line};
+use mk_tree::part::text_of_line;
 use mk_tree::{Doc, Line};
 use std::alloc::Allocator;
 
@@ -180,38 +178,10 @@ fn put_header<W: ByteSink>(
     ensures { Gathers W.contents W.failed W.flushes out.old out.new gathered.old.items
         gathered.new.items result (header_located text.now at.now) }
 {
-    let targets = Span {
-        start: 0,
-        end: at.targets_end,
-    };
-    let normal = Span {
-        start: at.normal_start,
-        end: at.normal_end,
-    };
-    put_targets(gathered, out, part(text, targets), at.separator)?;
+    put_targets(gathered, out, targets(text, at), at.separator)?;
     put_pattern(gathered, out, pattern(text, at))?;
-    put_each_after_space(gathered, out, part(text, normal))?;
+    put_each_after_space(gathered, out, normal(text, at))?;
     put_order_only(gathered, out, order_only(text, at))
-}
-
-/// The pattern of a header with the blanks around it; the empty text if there is no pattern.
-pub(crate) fn pattern<'a>(text: &'a [u8], at: &Header) -> &'a [u8]
-    requires { IsHeaderWithin (length text.now) at.now }
-    ensures { result.now ≡ text_at text.now (pattern_span at.now) }
-{
-    let start = at.targets_end + at.separator.text().len();
-    let end = at.normal_start - usize::from(at.has_pattern);
-    part(text, Span { start, end })
-}
-
-/// The order-only prerequisites of a header.
-pub(crate) fn order_only<'a>(text: &'a [u8], at: &Header) -> &'a [u8]
-    requires { IsHeaderWithin (length text.now) at.now }
-    ensures { result.now ≡ text_at text.now (order_only_span at.now) }
-{
-    let start = at.normal_end + usize::from(at.has_order_only);
-    let end = at.head_end;
-    part(text, Span { start, end })
 }
 
 // Puts a pattern, the first word of the text, behind the texts that are held back, with a space
