@@ -7,3 +7,4 @@ pub mod on_walks
 -- Definitions computed
 mod WorkedRows
 mod ChosenRows
+mod LookRows

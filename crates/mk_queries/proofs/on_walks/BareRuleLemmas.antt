@@ -1,5 +1,5 @@
 -- What walks find of bare rules, and of recipes for their targets, is what the lines of the text have.
-use Rattle.std.proofs.Common.{lt-ltb, ◌≡◌, refl, sym, ap, ◌∙◌, arith, ℕ, zero, suc, ◌+◌, ◌<◌, List, [], ◌∷◌, ◌++◌, length, drop, append_assoc, Bool, true, false, not, ◌&&◌, ◌||◌, if◌then◌else◌, Option, Some, None}
+use Rattle.std.proofs.Common.{lt-ltb, ◌≡◌, refl, sym, ap, ◌∙◌, arith, ℕ, suc, ◌+◌, ◌<◌, List, [], ◌∷◌, ◌++◌, length, drop, append_assoc, Bool, true, false, not, ◌&&◌, ◌||◌, if◌then◌else◌, Option, Some, None}
 use Rattle.std.specs.Prelude.{nat_lt}
 use Rattle.std.specs.List.{list_any}
 use Rattle.std.proofs.lemmas.List.{drop-drop, length-drop}
@@ -22,7 +22,7 @@ use Rattle.mk_class.specs.declared.class.Class as class
 use Rattle.mk_class.specs.declared.class.Class.TheVariants as variants
 use Rattle.mk_class.proofs.on_classes.LinePartLemmas.{header-located}
 use Rattle.mk_tree.specs.Items.{Item, header_item, items_of_line, raw_units}
-use Rattle.mk_tree.specs.LineTexts.{context_of, StandingLine}
+use Rattle.mk_tree.specs.LineTexts.{context_of}
 use Rattle.mk_tree.specs.RecipeLines.{recipe_lines}
 use Rattle.mk_tree.specs.Documents.{IsFaithful}
 use Rattle.mk_tree.specs.LocatedLines.{LocatedLine, located_line, located_lines, located_text, text_of_line}
@@ -31,7 +31,7 @@ use Rattle.mk_queries.specs.StandingLines.{standing_below, standing_lines}
 use Rattle.mk_queries.specs.PartTexts.{inline_count}
 use Rattle.mk_queries.specs.LocatedTexts.{pattern_span, words_at}
 use Rattle.mk_queries.specs.BareRules.{bare_header, bare_item, bare_target, gives_recipe, has_recipe_for, lone_target}
-use Rattle.mk_queries.specs.BareRuleWalks.{bare_ahead, bare_located, gives_located, looked_ahead, open_after, recipe_ahead, recipe_for_ahead, recipe_from}
+use Rattle.mk_queries.specs.BareRuleWalks.{bare_located, gives_located, looked_ahead, open_after, recipe_ahead, recipe_for_ahead, recipe_from}
 use Rattle.mk_queries.proofs.WalksAhead.{class_for}
 use Rattle.mk_queries.proofs.on_parts.AssignmentPartLemmas.{words-part}
 use Rattle.mk_queries.proofs.on_parts.HeaderPartLemmas.{targets-part}

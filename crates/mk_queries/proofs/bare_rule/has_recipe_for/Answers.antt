@@ -1,9 +1,8 @@
-use Rattle.std.proofs.Common.{◌≡◌, ◌∙◌, ap, refl, sym, subst, false}
-use Rattle.std.specs.Prelude.{Some}
+use Rattle.std.proofs.Common.{◌≡◌, ◌∙◌, ap, sym, subst, false}
 use Rattle.mk_class.specs.Contexts.{start}
 use Rattle.mk_tree.specs.Trees.{line_view}
 use Rattle.mk_tree.specs.TreeWalks.{LinesInContext}
-use Rattle.mk_queries.specs.BareRuleWalks.{gives_located, recipe_for_ahead}
+use Rattle.mk_queries.specs.BareRuleWalks.{recipe_for_ahead}
 use Rattle.mk_queries.proofs.on_walks.BareRuleLemmas.{found-here, found-next, recipe-found}
 use Rattle.mk_queries.proofs.on_walks.VariableLemmas.{AreClassedIn, document-classed, first-classed, rest-classed}
 use Rattle.mk_queries.proofs.bare_rule.has_recipe_for.Goals as goal
@@ -33,7 +32,7 @@ lines-preserved g c =
       tt,
       rest-classed c.lines.context-iterator c.next.new.self c.in-Some.context l c.in-Some.ensures.steps.0 c.in-Some.ensures.steps.1 c.in-Some.ensures.steps.2 c.lines.invariant.2,
       found-next c.args.target.now c.lines.is_open c.is_open_after-is_open.result c.target_class-class.result l c.lines.context-iterator.lines c.next.new.self.lines c.in-Some.ensures.steps.1 c.target_class-class.ensures (sym c.gives_recipe.ensures ∙ c.if-gives_recipe.false) c.is_open_after-is_open.ensures
-      ∙ c.lines.invariant.3,
+          ∙ c.lines.invariant.3,
     )
 
 pub returns : goal.returns
