@@ -44,7 +44,7 @@ recipe_ahead [] = false
 recipe_ahead (l ∷ ls) = recipe_from l.class (recipe_ahead ls)
 
 -- the target of the bare rule that begins with the first of some lines
-abbrev pub bare_ahead : LocatedLine → (below : List LocatedLine) → Option (List ℕ)
+abbrev bare_ahead : LocatedLine → (below : List LocatedLine) → Option (List ℕ)
 bare_ahead l ls = if recipe_ahead ls then None else bare_located (text_of_line l) l.class
 
 -- the same, if a look may still go through the text

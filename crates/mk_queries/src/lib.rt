@@ -9,7 +9,9 @@
 //!   show it.
 //!
 //! A query walks over the lines of a document and takes no memory. [`caveats`] reads each opaque
-//! line once more, on a meter of its own; no other query reads a line anew. The formats are this project's profile.
+//! line once more, on a meter of its own; no other query reads a line anew. It also goes through all
+//! lines once more for each of the rules that may add nothing, of which it looks at so many that it
+//! takes linear time. The formats are this project's profile.
 //!
 //! The modules, lowest first:
 //!

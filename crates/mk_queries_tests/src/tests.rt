@@ -176,10 +176,15 @@ fn of_two_bare_rules(rt: &HostRuntime, size: usize) -> Result<Vec<u8>, Fault> {
 // Bare rules are looked at as long as the looks go through no more bytes than the longest text has.
 #[test]
 fn looks_go_through_the_bytes_of_the_longest_text(rt: HostRuntime) -> Result<(), Fail> {
-    let first: &[u8] = b"3: make may take nothing from this rule: another one has the recipe of its target\n";
-    let second: &[u8] = b"4: make may take nothing from this rule: another one has the recipe of its target\n";
+    let first: &[u8] =
+        b"3: make may take nothing from this rule: another one has the recipe of its target\n";
+    let second: &[u8] =
+        b"4: make may take nothing from this rule: another one has the recipe of its target\n";
     let both = of_two_bare_rules(&rt, 8_388_608)?;
-    assert_eq!(rt; both.as_slice(), [first, second].concat(rt.alloc())?.as_slice());
+    assert_eq!(rt;
+        both.as_slice(),
+        [first, second].concat(rt.alloc())?.as_slice()
+    );
     assert_eq!(rt; of_two_bare_rules(&rt, 8_388_609)?.as_slice(), first);
     Ok(())
 }

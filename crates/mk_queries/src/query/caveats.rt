@@ -66,6 +66,10 @@ fn bare_caveat<A: Allocator>(doc: &Doc<A>, target: Option<&[u8]>) -> Option<Cave
 /// 9: make may begin a define here
 /// ```
 ///
+/// A rule that has one target and nothing else is named if another rule has a recipe for its target.
+/// For each such rule all lines are gone through once more, as long as these looks together go
+/// through no more than 16,777,216 bytes. Those below the last one that is looked at are not named.
+///
 /// A makefile of which nothing is said may still mean something else to make: `docs/LANGUAGE.md`
 /// has what is known, in its chapter "Where make reads otherwise", and of which of it this query
 /// tells. An opaque line is read once more.
