@@ -1,9 +1,9 @@
 //! The query `caveats`: one walk, which reads no text but that of opaque lines, of recipe lines in
-//! conditionals, and of values of one byte.
+//! conditionals, of values of one byte and of headers; and one for each bare rule that is looked at.
 
 use crate::bytes::Digits;
 use crate::class::{Class, Context, Flag, conditionals_below, read_class};
-use crate::document::Document;
+use crate::document::{Document, MAX_TEXT};
 use crate::tree::Line;
 use std::io::{self, Write};
 
@@ -13,6 +13,7 @@ const DEFINE: &str = "make may begin a define here";
 const CONDITIONAL: &str = "make may obey this as a line of a conditional";
 const ASSIGNMENT: &str = "make may set a variable here that no edit finds";
 const PREFIX: &str = "make may set the recipe prefix here";
+const BARE: &str = "make may take nothing from this rule: another one has the recipe of its target";
 
 /// What the lines above leave: flag A and flag B of LANGUAGE.md, and the open conditionals.
 #[derive(Default)]
@@ -87,17 +88,77 @@ fn opaque_caveat(line: &Line, text: &[u8]) -> Option<&'static str> {
     }
 }
 
+fn words(text: &[u8]) -> impl Iterator<Item = &[u8]> {
+    text.split(|it| matches!(it, b' ' | b'\t')).filter(|it| !it.is_empty())
+}
+
+/// The target of a header that has one, with a `:` and nothing else.
+fn bare_target<'a>(line: &'a Line, text: &'a [u8]) -> Option<&'a [u8]> {
+    let Class::Header(it) = line.class else {
+        return None;
+    };
+    let text = line.joined(text);
+    let rest = &text[it.words.into()..it.end.into()];
+    if it.has_recipe || it.words > it.targets_end + 1 || rest.iter().any(|it| !b" \t|".contains(it)) {
+        return None;
+    }
+    let mut targets = words(&text[..it.targets_end.into()]);
+    let target = targets.next().filter(|_| targets.next().is_none())?;
+    let is_dotted = target[0] == b'.' && !target.contains(&b'/');
+    (!is_dotted && !target.iter().any(|it| b"$%".contains(it))).then_some(target)
+}
+
+/// Whether a rule for a target has a recipe.
+fn has_recipe(document: &Document, target: &[u8]) -> bool {
+    let (mut is_open, mut is_found) = (false, false);
+    document.lines.walk(&mut |line| match line.class {
+        Class::Header(it) => {
+            is_open = words(&line.joined(&document.text)[..it.targets_end.into()]).any(|it| it == target);
+            is_found |= is_open && it.has_recipe;
+        }
+        Class::Recipe => is_found |= is_open,
+        Class::Blank | Class::Comment | Class::If | Class::Else | Class::Endif => (),
+        _ => is_open = false,
+    });
+    is_found
+}
+
+fn put(out: &mut impl Write, number: usize, sentence: &str) -> io::Result<()> {
+    let digits = Digits::of(number);
+    let parts = [digits.as_bytes(), b": ", sentence.as_bytes(), b"\n"];
+    parts.iter().try_for_each(|it| out.write_all(it))
+}
+
 pub fn caveats(document: &Document, out: &mut impl Write) -> io::Result<()> {
     let (mut number, mut seen, mut done) = (1, Seen::default(), Ok(()));
+    // The line of a rule that is bare so far, with its target; no line of it has a caveat but this one.
+    let (mut bare, mut left) = (None, MAX_TEXT);
+    let mut end_rule = |bare: &mut Option<(usize, &[u8])>, out: &mut _| match bare.take() {
+        Some((number, target)) if document.size <= left => {
+            left -= document.size;
+            if has_recipe(document, target) { put(out, number, BARE) } else { Ok(()) }
+        }
+        _ => Ok(()),
+    };
     document.lines.walk(&mut |line| {
+        if done.is_err() {
+            return;
+        }
+        match line.class {
+            Class::Recipe => bare = None,
+            Class::Blank | Class::Comment | Class::If | Class::Else | Class::Endif => (),
+            _ => done = end_rule(&mut bare, out),
+        }
         if let (Some(it), true) = (seen.caveat(line, &document.text), done.is_ok()) {
-            let digits = Digits::of(number);
-            let parts = [digits.as_bytes(), b": ", it.as_bytes(), b"\n"];
-            done = parts.iter().try_for_each(|it| out.write_all(it));
+            done = put(out, number, it);
+        }
+        if let Some(target) = bare_target(line, &document.text) {
+            bare = Some((number, target));
         }
         seen.pass(line, &document.text);
         number += line.physical_lines();
     });
     done?;
+    end_rule(&mut bare, out)?;
     out.flush()
 }
