@@ -6,6 +6,7 @@ use mk_edit::Edit;
 use mk_edit_parts::address::Address;
 use mk_edit_parts::window::Known;
 use mk_index::{Finder, Index, Scope};
+use mk_patch::{PatchBuilder, Step};
 use mk_tree::Doc;
 use std::alloc::AllocError;
 use std::test::Fail;
@@ -108,6 +109,84 @@ fn a_lookup_walks_over_few_names_of_many(rt: HostRuntime) -> Result<(), Fail> {
         assert_eq!(rt; told(&heap, &makefile, name)?, Some(1));
     }
     assert_eq!(rt; told(&heap, &makefile, b"A")?, Some(0));
+    Ok(())
+}
+
+// A line `XY0=1` for each two letters and each digit: more lines than three groups of blocks have.
+fn assignments_of_four_groups<'a>(heap: Heap<'a>) -> Result<Vec<u8, Heap<'a>>, AllocError> {
+    let mut makefile = Vec::new(heap);
+    for first in b'A'..=b'Z' {
+        for second in b'A'..=b'Z' {
+            for digit in b'0'..=b'9' {
+                makefile.extend_from_slice(&[first, second, digit])?;
+                makefile.extend_from_slice(b"=1\n")?;
+            }
+        }
+    }
+    Ok(makefile)
+}
+
+// Takes a line out of a document, which the index follows.
+fn take_out<'a>(
+    heap: Heap<'a>,
+    doc: &mut Doc<Heap<'a>>,
+    index: &mut Index<Heap<'a>>,
+    at: usize,
+) -> Result<bool, Fail> {
+    let mut patch = PatchBuilder::with_room(heap, 1)?;
+    patch.push(Step::TakeOut(at));
+    let patch = patch.finish();
+    let follows = index.follow(&patch);
+    let _back = patch.make(doc);
+    index.refresh(doc)?;
+    Ok(follows)
+}
+
+// Where the lines of three names stand, as an index tells it.
+fn places<'a>(
+    heap: Heap<'a>,
+    doc: &Doc<Heap<'a>>,
+    index: &mut Index<Heap<'a>>,
+) -> Result<[Option<usize>; 3], Fail> {
+    let mut places = [None, None, None];
+    let names: [&[u8]; 3] = [b"AB0", b"MN5", b"ZZ9"];
+    for number in 0..3 {
+        if let Some(sought) = index.sought(
+            heap,
+            doc,
+            Some(Address::Variable(None, names[number])),
+        ) {
+            places[number] = sought.found.map(|found| found.at);
+        }
+    }
+    Ok(places)
+}
+
+#[test]
+fn places_follow_the_lines_that_went_out_above(rt: HostRuntime) -> Result<(), Fail> {
+    let heap = Watched::new(rt.alloc());
+    let mut doc = document(&heap, &assignments_of_four_groups(&heap)?)?;
+    let mut index = Index::new(&heap, &doc, scope(true, false, false))?;
+    index.refresh(&doc)?;
+    assert_eq!(rt;
+        places(&heap, &doc, &mut index)?,
+        [Some(10), Some(3_255), Some(6_759)]
+    );
+    assert!(rt; take_out(&heap, &mut doc, &mut index, 3_000)?);
+    assert_eq!(rt;
+        places(&heap, &doc, &mut index)?,
+        [Some(10), Some(3_254), Some(6_758)]
+    );
+    assert!(rt; take_out(&heap, &mut doc, &mut index, 0)?);
+    assert_eq!(rt;
+        places(&heap, &doc, &mut index)?,
+        [Some(9), Some(3_253), Some(6_757)]
+    );
+    assert!(rt; take_out(&heap, &mut doc, &mut index, 6_000)?);
+    assert_eq!(rt;
+        places(&heap, &doc, &mut index)?,
+        [Some(9), Some(3_253), Some(6_756)]
+    );
     Ok(())
 }
 

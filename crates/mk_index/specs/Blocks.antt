@@ -111,7 +111,23 @@ pub record AreGroupsOf (blocks : List Block) (groups : List Group) : Type 0 wher
   pub count_is : length groups ≡ length blocks / 128 + 1
   pub each : AreFirstGroupsOf blocks groups
 
--- the group of each block that is marked is marked
-pub record AreGroupMarks (blocks groups : List Bool) : Type 0 where
+-- so many of the first groups of some blocks say how many lines stand above them
+pub record ArePlaced (blocks : List Block) (groups : List Group) (placed : ℕ) : Type 0 where
+  pub few : placed ≤ length groups
+  pub each : (k : ℕ) (g : Group) → k < placed → g ≡ get_or groups k g
+      → g.above ≡ lines_in (take (k * 128) blocks)
+
+-- the group of each block that is marked is marked, by 1
+pub record AreGroupMarks (blocks : List Bool) (groups : List ℕ) : Type 0 where
   pub count_is : length groups ≡ length blocks / 128 + 1
-  pub each : (b : ℕ) → get_or blocks b false ≡ true → get_or groups (b / 128) false ≡ true
+  pub each : (b : ℕ) → get_or blocks b false ≡ true → get_or groups (b / 128) 0 ≡ 1
+
+-- no block of the groups from one down to another, but for this one, is marked
+abbrev pub NoneMarked : (from to : ℕ) → List Bool → Type 0
+NoneMarked i j ms = (b : ℕ) → i * 128 ≤ b → b < j * 128 → get_or ms b false ≡ false
+
+-- a group stands at another one or below it, and no block of those before it is marked
+pub record IsNextMarked (from group : ℕ) (marks : List Bool) : Type 0 where
+  pub below : from ≤ group
+  pub there : group ≤ length marks / 128
+  pub none : NoneMarked from group marks

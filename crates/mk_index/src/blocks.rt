@@ -1,6 +1,7 @@
 //! The blocks of an index: the lines of a document, cut into stretches.
-ghost use Rattle.std.specs.Prelude.{◌≡◌, ◌<◌, ◌≤◌, ◌+◌, ◌*◌, ◌/◌, false, min, IfOk, IsTrue, length, get_or, set};
-ghost use Rattle.mk_index.specs.Blocks.{AreFresh, IsGroupOf, blocks_of, unlisted, unlisted_blocks};
+ghost use Rattle.std.specs.Prelude.{◌≡◌, ◌<◌, ◌≤◌, ◌+◌, ◌*◌, ◌/◌, false, min, IfOk, IsTrue, length, get_or, set, take};
+ghost use Rattle.mk_lines.specs.Limits.{max_text};
+ghost use Rattle.mk_index.specs.Blocks.{AreFresh, IsGroupOf, blocks_of, lines_in, unlisted, unlisted_blocks};
 
 use mk_class::Context;
 use std::alloc::{AllocError, Allocator, Global};
@@ -51,8 +52,19 @@ const BLOCK_LINES: usize = 16;
 pub struct Group {
     /// How many lines the blocks have.
     pub lines: usize,
+    /// How many lines stand above the blocks, if that was noted and is right yet (`placed`).
+    pub above: usize,
     /// Whether one of the blocks may be stale.
     pub may_be_stale: bool,
+}
+
+/// Where a group begins.
+#[derive(Clone, Copy)]
+pub struct Start {
+    /// The number of the group, from 0.
+    pub group: usize,
+    /// How many lines stand above it.
+    pub above: usize,
 }
 
 /// The blocks of an index, in groups. Contracts see the blocks.
@@ -62,11 +74,14 @@ pub struct Blocks<A: Allocator = Global> {
     groups: Vec<Group, A>,
     // Whether it was noted that no block is stale, and none was changed since then.
     are_fresh: bool,
+    // Of so many of the first groups it was noted how many lines stand above them, and no block above
+    // them was changed since then.
+    placed: usize,
 }
 
 impl<A: Allocator> Model for Blocks<A> {
     ghost use Rattle.std.specs.Prelude.{◌≡◌, List, true};
-    ghost use Rattle.mk_index.specs.Blocks.{AreFresh, AreGroupsOf};
+    ghost use Rattle.mk_index.specs.Blocks.{AreFresh, AreGroupsOf, ArePlaced};
     ghost use Rattle.mk_index.specs.declared.blocks.Block.{Block};
 
     ghost Value = { List Block };
@@ -74,7 +89,8 @@ impl<A: Allocator> Model for Blocks<A> {
     ghost view = { λ b. b.items.items };
 
     ghost invariant = { λ b. AreGroupsOf b.items.items b.groups.items
-        × (b.are_fresh ≡ true → AreFresh b.items.items) };
+        × (b.are_fresh ≡ true → AreFresh b.items.items)
+        × ArePlaced b.items.items b.groups.items b.placed };
 }
 
 impl<A: Allocator + Copy> Blocks<A> {
@@ -94,6 +110,7 @@ impl<A: Allocator + Copy> Blocks<A> {
             items,
             groups,
             are_fresh: false,
+            placed: 0,
         })
     }
 
@@ -168,8 +185,13 @@ impl<A: Allocator + Copy> Blocks<A> {
     {
         self.items[at] = block;
         let group = at / GROUP;
-        self.groups[group] = group_of(&self.items, group);
+        let above = self.groups[group].above;
+        self.groups[group] = Group {
+            above,
+            ..group_of(&self.items, group)
+        };
         self.are_fresh = false;
+        self.placed = self.placed.min(group + 1);
     }
 
     /// Puts a fresh block in the place of one that has as many lines, whose number, from 0, is given.
@@ -189,11 +211,80 @@ impl<A: Allocator + Copy> Blocks<A> {
         requires fresh { AreFresh (blocks_of group self.old) }
         ensures { self.new ≡ self.old }
     {
-        let lines = self.groups[group].lines;
         self.groups[group] = Group {
-            lines,
             may_be_stale: false,
+            ..self.groups[group]
         };
+    }
+
+    /// Notes how many lines stand above each group. It takes a walk over the groups of which that is not
+    /// known yet.
+    pub fn place_groups(&mut self)
+        requires { lines_in self.old ≤ max_text }
+        ensures { self.new ≡ self.old }
+    {
+        let start = self.start_for(usize::MAX);
+        let mut above = start.above;
+        'groups: for group in start.group..self.group_count() {
+            self.note_above(group, above);
+            above += self.group(group).lines;
+        }
+    }
+
+    // Notes how many lines stand above the group of a number, from 0. It is of use once this was noted of
+    // all groups above.
+    fn note_above(&mut self, group: usize, above: usize)
+        requires in_range { group ≤ length self.old / 128 }
+        requires above { above ≡ lines_in (take (group * 128) self.old) }
+        ensures { self.new ≡ self.old }
+    {
+        self.groups[group] = Group {
+            above,
+            ..self.groups[group]
+        };
+        if self.placed == group {
+            self.placed = group + 1;
+        }
+    }
+
+    /// How many lines stand above the group of a number, from 0. Where that was noted, it takes no walk.
+    pub fn above(&self, group: usize) -> usize
+        requires in_range { group ≤ length self.now / 128 }
+        requires few { lines_in self.now ≤ max_text }
+        ensures { result ≡ lines_in (take (group * 128) self.now) }
+    {
+        if group < self.placed {
+            return self.groups[group].above;
+        }
+        let mut above = 0;
+        'groups: for passed in 0..group {
+            above += self.group(passed).lines;
+        }
+        above
+    }
+
+    /// Where a walk over the groups may begin that looks for the line at an index, from 0: the last
+    /// group above which fewer lines stand, as far as that was noted; or else the first one.
+    pub fn start_for(&self, at: usize) -> Start
+        ensures in_range { result.group ≤ length self.now / 128 }
+        ensures above { result.above ≡ lines_in (take (result.group * 128) self.now) }
+        ensures within { result.above ≤ at }
+    {
+        let mut start = Start { group: 0, above: 0 };
+        let mut end = self.placed;
+        'halves: while end - start.group > 1 {
+            let middle = (start.group + end) / 2;
+            let above = self.groups[middle].above;
+            if above < at {
+                start = Start {
+                    group: middle,
+                    above,
+                };
+            } else {
+                end = middle;
+            }
+        }
+        start
     }
 }
 
@@ -209,6 +300,7 @@ fn group_of(blocks: &[Block], number: usize) -> Group
     }
     Group {
         lines,
+        above: 0,
         may_be_stale: true,
     }
 }

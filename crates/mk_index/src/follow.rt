@@ -69,8 +69,9 @@ fn splice<A: Allocator + Copy>(blocks: &mut Blocks<A>, at: usize, takes: u16, pu
         → IsTrue result → AreBlocks scope mentions number expected
         (take at lines ++ (put_in ++ drop (at + takes) lines)) blocks.new end }
 {
-    let mut above = 0;
-    'groups: for group in 0..blocks.group_count() {
+    let start = blocks.start_for(at);
+    let mut above = start.above;
+    'groups: for group in start.group..blocks.group_count() {
         let lines = blocks.group(group).lines;
         let rest = at - above;
         if rest <= lines && takes as usize <= lines - rest {
@@ -172,8 +173,9 @@ pub(crate) fn is_rising<A: Allocator>(patch: &Patch<A>) -> bool
 pub(crate) fn holder<A: Allocator + Copy>(blocks: &Blocks<A>, at: usize) -> Option<u32>
     ensures { IfSome result (λ number. IsHeld blocks.now at number) }
 {
-    let mut passed = 0;
-    'groups: for group in 0..blocks.group_count() {
+    let start = blocks.start_for(at);
+    let mut passed = start.above;
+    'groups: for group in start.group..blocks.group_count() {
         let lines = blocks.group(group).lines;
         if at - passed < lines {
             return holder_below(blocks, blocks.first_of(group), passed, at);

@@ -118,6 +118,9 @@ impl<A: Allocator + Copy> Index<A> {
             return Ok(());
         }
         self.refresh_groups(doc)?;
+        // The contract of `len` bounds the number of lines.
+        let _lines = doc.len();
+        self.blocks.place_groups();
         self.blocks.note_all_fresh();
         Ok(())
     }
@@ -136,6 +139,7 @@ impl<A: Allocator + Copy> Index<A> {
             let Group {
                 lines,
                 may_be_stale,
+                ..
             } = self.blocks.group(group);
             if may_be_stale || carried.is_some() {
                 carried = self.refresh_group(doc, group, at, carried)?;
@@ -314,17 +318,17 @@ impl<A: Allocator + Copy> Index<A> {
             → IfOk result (λ windows. AreWindows test first_place doc.now windows.items) }
     {
         let mut windows = Vec::new(alloc);
-        let mut at = 0;
-        // The contract of `len` bounds the number of lines.
-        let _lines = doc.len();
-        'groups: for group in 0..self.blocks.group_count() {
-            if marks.is_group_marked(group) {
-                add_windows(&self.blocks, group, at, marks, &mut windows)?;
-            }
-            at += self.blocks.group(group).lines;
+        // The contract of `len` bounds the number of lines; this one bounds that of groups.
+        let lines = doc.len();
+        let _groups = self.blocks.group_count();
+        let mut from = 0;
+        'groups: while let Some(group) = marks.marked_group(from) {
+            let above = self.blocks.above(group);
+            add_windows(&self.blocks, group, above, marks, &mut windows)?;
+            from = group + 1;
         }
         let place = Found {
-            at,
+            at: lines,
             context: self.end,
         };
         windows.push(Window { place, count: 0 })?;

@@ -1,7 +1,9 @@
 //! Which blocks of an index are marked.
-ghost use Rattle.std.specs.Prelude.{◌≡◌, ◌<◌, ◌≤◌, ◌+◌, ◌*◌, ◌/◌, ℕ, true, false, IfOk, length, get_or, replicate};
+ghost use Rattle.std.specs.Prelude.{◌≡◌, ◌<◌, ◌≤◌, ◌+◌, ◌*◌, ◌/◌, ℕ, true, false, IfOk, MatchOption, length, get_or, replicate};
+ghost use Rattle.mk_index.specs.Blocks.{IsNextMarked, NoneMarked};
 
 use crate::blocks::GROUP;
+use memchr::memchr;
 use std::alloc::{AllocError, Allocator, Global};
 use std::marker::Model;
 
@@ -9,8 +11,8 @@ use std::marker::Model;
 #[derive(Drop)]
 pub struct Marks<A: Allocator = Global> {
     blocks: Vec<bool, A>,
-    // Whether a block of each group may be marked.
-    groups: Vec<bool, A>,
+    // For each group 1 if one of its blocks may be marked, and otherwise 0.
+    groups: Vec<u8, A>,
 }
 
 impl<A: Allocator> Model for Marks<A> {
@@ -30,7 +32,7 @@ impl<A: Allocator + Copy> Marks<A> {
         ensures { IfOk result (λ marks. marks ≡ replicate count false) }
     {
         let blocks = Vec::from_elem(alloc, false, count)?;
-        let groups = Vec::from_elem(alloc, false, count / GROUP + 1)?;
+        let groups = Vec::from_elem(alloc, 0, count / GROUP + 1)?;
         Ok(Marks { blocks, groups })
     }
 
@@ -46,11 +48,11 @@ impl<A: Allocator + Copy> Marks<A> {
         ensures length { length self.new ≡ length self.old }
         ensures none { (b : ℕ) → get_or self.new b false ≡ false }
     {
-        'groups: for number in 0..self.groups.len() {
-            if self.groups[number] {
-                self.wipe_group(number);
-                self.groups[number] = false;
-            }
+        let mut from = 0;
+        'groups: while let Some(number) = self.marked_group(from) {
+            self.wipe_group(number);
+            self.groups[number] = 0;
+            from = number + 1;
         }
     }
 
@@ -77,7 +79,7 @@ impl<A: Allocator + Copy> Marks<A> {
     {
         if block < self.blocks.len() {
             self.blocks[block] = true;
-            self.groups[block / GROUP] = true;
+            self.groups[block / GROUP] = 1;
         }
     }
 
@@ -89,12 +91,15 @@ impl<A: Allocator + Copy> Marks<A> {
         self.blocks[number]
     }
 
-    /// Whether a block of the group of a number, from 0, may be marked.
-    pub fn is_group_marked(&self, group: usize) -> bool
-        requires { group ≤ length self.now / 128 }
-        ensures { result ≡ false → (b : ℕ) → group * 128 ≤ b → b < group * 128 + 128
-            → get_or self.now b false ≡ false }
+    /// The number of the first group, from this one on, of which a block may be marked; both count from 0.
+    pub fn marked_group(&self, from: usize) -> Option<usize>
+        requires { from ≤ length self.now / 128 + 1 }
+        ensures { MatchOption result (NoneMarked from (length self.now / 128 + 1) self.now)
+            (λ group. IsNextMarked from group self.now) }
     {
-        self.groups[group]
+        match memchr(1, &self.groups[from..]) {
+            Some(passed) => Some(from + passed),
+            None => None,
+        }
     }
 }

@@ -3,7 +3,7 @@ use Rattle.std.proofs.Common.{◌≡◌, refl, sym, ap, ◌∙◌, subst, arith,
 use Rattle.std.proofs.lemmas.List.{drop-set-lt, drop-set-add, drop-take, get_or_append_left, get_or-drop, get_or-set_other, get_or-set_same, length-drop, length-set, take_all, take-set-le}
 use Rattle.std.proofs.Math.Seq.{get_or-append_seam}
 use Rattle.std.proofs.lemmas.Bool.{cases_eq, cases_lt}
-use Rattle.mk_index.specs.Blocks.{AreFirstGroupsOf, AreFresh, AreGroupsOf, IsGroupOf, blocks_of, lines_in}
+use Rattle.mk_index.specs.Blocks.{AreFirstGroupsOf, AreFresh, AreGroupsOf, ArePlaced, IsGroupOf, blocks_of, lines_in}
 use Rattle.mk_index.specs.declared.blocks.Block.{Block}
 use Rattle.mk_index.specs.declared.blocks.Group.{Group}
 use Rattle.mk_index.proofs.on_blocks.SpliceLemmas.{lines_in-more}
@@ -167,4 +167,37 @@ groups-kept bs gs n new few fresh count h = record {
         lines_are = g.lines_are ∙ sym (count-kept bs (k * 128) 128 n new few count);
         are_fresh = λ e. fresh-kept bs (k * 128) 128 n new fresh (g.are_fresh e);
       };
+}
+
+-- ---- how many lines stand above groups
+
+pub placed-none : (bs : List Block) (gs : List Group) → ArePlaced bs gs 0
+placed-none bs gs = record { few = omega arith; each = λ k x few is. absurd (omega (arith, few)) }
+
+-- a group that says the same of the lines above it, in the place of one
+pub placed-same : (bs : List Block) (gs : List Group) (k placed : ℕ) (old g : Group) → k < length gs → old ≡ get_or gs k old → g.above ≡ old.above → ArePlaced bs gs placed → ArePlaced bs (set gs k g) placed
+placed-same bs gs k placed old g inside was same h = record {
+  few = let l = length-set gs k g in let e = h.few in omega (arith, l, e);
+  each = λ i x within is. elim (cases_eq k i) [
+    | inl e ↦
+        let here : x ≡ g = is ∙ (ap (λ (m : ℕ). get_or (set gs k g) m x) (sym e) ∙ get_or-set_same gs k g x inside) in
+        rw here (same ∙ h.each i old within (was ∙ ap (λ (m : ℕ). get_or gs m old) e))
+    | inr other ↦ h.each i x within (is ∙ get_or-set_other gs k i g x (λ f. other (sym f)))
+  ];
+}
+
+-- the first of the groups, after a change of one block that stands in none above the last of them
+pub placed-above : (bs : List Block) (gs : List Group) (n placed fewer : ℕ) (new : Block) → fewer ≤ placed → fewer ≤ n / 128 + 1 → ArePlaced bs gs placed → ArePlaced (set bs n new) gs fewer
+placed-above bs gs n placed fewer new few most h = record {
+  few = let e = h.few in omega (arith, e, few);
+  each = λ k x within is.
+      let above : take (k * 128) (set bs n new) ≡ take (k * 128) bs = take-set-le (k * 128) bs n new (omega (arith, within, most)) in
+      h.each k x (omega (arith, within, few)) is ∙ ap lines_in (sym above);
+}
+
+-- all of them, after a change of one block into one that has as many lines
+pub placed-kept : (bs : List Block) (gs : List Group) (n placed : ℕ) (new : Block) → n < length bs → new.count ≡ (get_or bs n new).count → ArePlaced bs gs placed → ArePlaced (set bs n new) gs placed
+placed-kept bs gs n placed new few count h = record {
+  few = h.few;
+  each = λ k x within is. h.each k x within is ∙ sym (count-kept bs 0 (k * 128) n new few count);
 }

@@ -1,5 +1,5 @@
 -- The walk that makes windows of the blocks that are marked.
-use Rattle.std.proofs.Common.{◌≡◌, refl, sym, ap, ◌∙◌, subst, arith, ℕ, zero, suc, ◌+◌, ◌≤◌, ◌<◌, ◌⊎◌, inl, inr, List, [], ◌∷◌, ◌++◌, Bool, false, length, length-append, append_assoc, take, drop, get_or, Option, Some}
+use Rattle.std.proofs.Common.{◌≡◌, refl, sym, ap, ◌∙◌, subst, arith, ℕ, zero, suc, ◌+◌, ◌-◌, ◌*◌, ◌≤◌, ◌<◌, ◌⊎◌, inl, inr, List, [], ◌∷◌, ◌++◌, Bool, false, length, length-append, append_assoc, take, drop, get_or, Option, Some}
 use Rattle.std.proofs.lemmas.List.{drop_all, length-drop}
 use Rattle.std.proofs.Math.Seq.{drop-cons}
 use Rattle.mk_class.specs.Contexts.{Context, start, context_after_located}
@@ -8,12 +8,11 @@ use Rattle.mk_edit_parts.specs.LocatedParts.{AreEachClassed}
 use Rattle.mk_edit_parts.specs.Windows.{AreWindows, NonePasses, below, below_all, first_place}
 use Rattle.mk_edit_parts.specs.declared.seek.Found.{Found}
 use Rattle.mk_edit_parts.specs.declared.window.Window.{Window}
-use Rattle.mk_index.specs.Blocks.{AreBlocks, AreFresh, AreLinesMentioned, IsBlock, PassesInMarked, lines_in}
+use Rattle.mk_index.specs.Blocks.{AreBlocks, AreFresh, AreLinesMentioned, IsBlock, NoneMarked, PassesInMarked, blocks_of, lines_in}
 use Rattle.mk_index.specs.Chains.{Mention}
 use Rattle.mk_index.specs.Walks.{HasWindows}
 use Rattle.mk_index.specs.declared.blocks.Block.{Block}
-use Rattle.mk_index.proofs.on_blocks.GroupLemmas.{lines_in-below}
-use Rattle.mk_index.proofs.on_blocks.MadeLemmas.{lines-counted}
+use Rattle.mk_index.proofs.on_blocks.GroupLemmas.{lines_in-below, next-group}
 use Rattle.mk_index.proofs.on_blocks.PartLemmas.{drop-drop, whole-mentioned}
 use Rattle.mk_index.proofs.on_blocks.RefreshLemmas.{expected-fresh, head-of}
 use Rattle.mk_index.specs.declared.keys.Scope.{Scope}
@@ -172,11 +171,6 @@ collected-over s test doc ms blocks end number at windows w past =
       next_is = refl;
     }))
 
--- a test that no line passes
-pub none-of-none : (ls : List LocatedLine) → NonePasses (λ l. false) ls
-none-of-none [] = tt
-none-of-none (l ∷ ls) = (refl, none-of-none ls)
-
 -- ---- groups
 
 windows-over : (s : Scope) (test : LocatedLine → Bool) (doc : List LocatedLine) (ms : List Mention) (blocks : List Block) (end : Context) (number at m : ℕ) (windows : List Window) → HasWindows s test doc ms blocks end number at windows → drop number blocks ≡ [] → number ≤ m → HasWindows s test doc ms blocks end m at windows
@@ -205,14 +199,6 @@ pub windows-to : (s : Scope) (test : LocatedLine → Bool) (doc : List LocatedLi
 windows-to s test doc ms blocks end number at m windows w (inl e) more = subst (λ (n : ℕ). HasWindows s test doc ms blocks end n at windows) e w
 windows-to s test doc ms blocks end number at m windows w (inr past) more = windows-over s test doc ms blocks end number at m windows w (drop_all number blocks past) more
 
--- the lines of the blocks below are lines of the document
-pub windows-within : (s : Scope) (test : LocatedLine → Bool) (doc : List LocatedLine) (ms : List Mention) (blocks : List Block) (end : Context) (number at : ℕ) (windows : List Window) → HasWindows s test doc ms blocks end number at windows → at + lines_in (drop number blocks) ≡ length doc
-windows-within s test doc ms blocks end number at windows w =
-    let e = ap length w.lines_are in
-    let m = length-append w.done w.rest in
-    let below = lines-counted s ms number (Some w.context) w.rest (drop number blocks) end w.below in
-    omega (arith, e, m, w.at_is, below)
-
 -- the walk over one block that is not marked, if there is one more
 windows-one : (s : Scope) (test : LocatedLine → Bool) (doc : List LocatedLine) (ms : List Mention) (marks : List Bool) (blocks : List Block) (end : Context) (number at : ℕ) (windows : List Window) → PassesInMarked s test ms marks → length marks ≡ length blocks
     → get_or marks number false ≡ false → HasWindows s test doc ms blocks end number at windows → HasWindows s test doc ms blocks end (number + 1) (at + lines_in (take 1 (drop number blocks))) windows
@@ -230,7 +216,7 @@ windows-one s test doc ms marks blocks end number at windows idle count mark w =
         subst (λ (x : ℕ). HasWindows s test doc ms blocks end (number + 1) x windows) a next
 
 -- the walk over some blocks none of which is marked
-pub windows-past : (s : Scope) (test : LocatedLine → Bool) (doc : List LocatedLine) (ms : List Mention) (marks : List Bool) (blocks : List Block) (end : Context) (number at m : ℕ) (windows : List Window) → PassesInMarked s test ms marks → length marks ≡ length blocks
+windows-past : (s : Scope) (test : LocatedLine → Bool) (doc : List LocatedLine) (ms : List Mention) (marks : List Bool) (blocks : List Block) (end : Context) (number at m : ℕ) (windows : List Window) → PassesInMarked s test ms marks → length marks ≡ length blocks
     → ((b : ℕ) → number ≤ b → b < number + m → get_or marks b false ≡ false) → HasWindows s test doc ms blocks end number at windows → HasWindows s test doc ms blocks end (number + m) (at + lines_in (take m (drop number blocks))) windows
 windows-past s test doc ms marks blocks end number at zero windows idle count unmarked w =
     let n : number ≡ number + 0 = omega arith in
@@ -248,3 +234,23 @@ windows-past s test doc ms marks blocks end number at (suc m) windows idle count
     let k2 : lines_in (take (1 + m) (drop number blocks)) ≡ lines_in (take (suc m) (drop number blocks)) = ap (λ (i : ℕ). lines_in (take i (drop number blocks))) one_more in
     let a : at + lines_in (take 1 (drop number blocks)) + lines_in (take m (drop (number + 1) blocks)) ≡ at + lines_in (take (suc m) (drop number blocks)) = omega (arith, l, k, k2) in
     subst (λ (x : ℕ). HasWindows s test doc ms blocks end x (at + lines_in (take (suc m) (drop number blocks))) windows) n (subst (λ (x : ℕ). HasWindows s test doc ms blocks end (number + 1 + m) x windows) a rest)
+
+-- the walk over some groups of which no block is marked
+pub windows-skip : (s : Scope) (test : LocatedLine → Bool) (doc : List LocatedLine) (ms : List Mention) (marks : List Bool) (blocks : List Block) (end : Context) (from to : ℕ) (windows : List Window) → PassesInMarked s test ms marks → length marks ≡ length blocks → from ≤ to
+    → NoneMarked from to marks → HasWindows s test doc ms blocks end (from * 128) (lines_in (take (from * 128) blocks)) windows → HasWindows s test doc ms blocks end (to * 128) (lines_in (take (to * 128) blocks)) windows
+windows-skip s test doc ms marks blocks end from to windows idle count below none w =
+    let n = from * 128 in
+    let m = to * 128 - from * 128 in
+    let sum : n + m ≡ to * 128 = omega (arith, below) in
+    let past = windows-past s test doc ms marks blocks end n (lines_in (take n blocks)) m windows idle count (λ b low high. none b low (omega (arith, high, sum))) w in
+    let at : lines_in (take n blocks) + lines_in (take m (drop n blocks)) ≡ lines_in (take (n + m) blocks) = sym (lines_in-below blocks n m) in
+    subst (λ (k : ℕ). HasWindows s test doc ms blocks end k (lines_in (take k blocks)) windows) sum (subst (λ (k : ℕ). HasWindows s test doc ms blocks end (n + m) k windows) at past)
+
+-- the walk over one group more, whose windows were added
+pub windows-added : (s : Scope) (test : LocatedLine → Bool) (doc : List LocatedLine) (ms : List Mention) (blocks : List Block) (end : Context) (k above : ℕ) (windows : List Window) → above ≡ lines_in (take (k * 128) blocks) → HasWindows s test doc ms blocks end (k * 128 + 128) (above + lines_in (blocks_of k blocks)) windows
+    → HasWindows s test doc ms blocks end ((k + 1) * 128) (lines_in (take ((k + 1) * 128) blocks)) windows
+windows-added s test doc ms blocks end k above windows is w =
+    let next : k * 128 + 128 ≡ (k + 1) * 128 = omega arith in
+    let more = next-group blocks k in
+    let at : above + lines_in (blocks_of k blocks) ≡ lines_in (take ((k + 1) * 128) blocks) = omega (arith, more, is) in
+    subst (λ (n : ℕ). HasWindows s test doc ms blocks end n (lines_in (take ((k + 1) * 128) blocks)) windows) next (subst (λ (n : ℕ). HasWindows s test doc ms blocks end (k * 128 + 128) n windows) at w)

@@ -3,7 +3,7 @@ use Rattle.std.proofs.lemmas.List.{length-append}
 use Rattle.std.proofs.lemmas.Bool.{false≢true}
 use Rattle.mk_index.specs.Blocks.{IsGroupOf, blocks_of}
 use Rattle.mk_index.specs.declared.blocks.Block.{Block}
-use Rattle.mk_index.proofs.on_blocks.GroupLemmas.{groups-more}
+use Rattle.mk_index.proofs.on_blocks.GroupLemmas.{groups-more, placed-none}
 use Rattle.mk_index.proofs.blocks.Blocks.new.Goals as goal
 
 pub groups-preserved : goal.groups-preserved
@@ -27,4 +27,5 @@ invariant_of-result g c =
         each = c.groups.invariant.each;
       },
       λ e. absurd (false≢true e),
+      placed-none bs c.groups.groups.items,
     )
