@@ -14,6 +14,8 @@ ghost use Rattle.mkedit.specs.Settled.{IsKeptUnder, draft_of};
 mod comparison;
 mod draft;
 
+pub(crate) use comparison::same_bytes;
+
 use crate::noted::Noted;
 use crate::notes::{Cause, SystemFault};
 use draft::{Draft, Placed, Removed, Unchanged, Unsettled};
