@@ -193,7 +193,7 @@ pub(crate) fn session_file<'a>(alloc: Global) -> Arg<'a>
     ensures rule { rule_of result ≡ session_file_rule }
     ensures local { result.global ≡ false }
 {
-    Arg::new(alloc, FILE)
-        .required(true)
-        .help("The makefile, by its name; the requests come from standard input")
+    Arg::new(alloc, FILE).required(true).help(
+        "The makefile, by its name; the requests come from standard input",
+    )
 }

@@ -1,19 +1,19 @@
 -- One line more that was answered.
 use Rattle.std.proofs.Common.{◌≡◌, refl, sym, ap, ◌∙◌, subst, ℕ, List, [], ◌∷◌, ◌++◌, append_assoc, inl, inr}
-use Rattle.std.specs.Prelude.{◌⊎◌, Option, None, Some, IfSome, ⊤}
+use Rattle.std.specs.Prelude.{◌⊎◌, Option, None, Some, ⊤}
 use Rattle.std.specs.Io.KnownBytes.{Appends, Keeps, IsAtEnd}
 use Rattle.std.proofs.KnownBytes.{Appends-kept, Appends-trans}
 use Rattle.std.proofs.lemmas.List.{append-nil}
 use Rattle.mk_lines.specs.PhysicalLines.{physical_lines}
-use Rattle.mk_prompt.specs.InputLines.{IsLineRead, IsShort, IsLong, LosesLine}
-use Rattle.mk_prompt.specs.Talks.{IsReadReplied, IsReplied, GoesOver, BeginsWith, IsAnsweredToTheEnd, IsAnsweredToALine, IsTalk, SaysOut, greeting, too_long}
+use Rattle.mk_prompt.specs.InputLines.{IsLineRead, LosesLine}
+use Rattle.mk_prompt.specs.Talks.{IsReadReplied, IsReplied, GoesOver, BeginsWith, IsTalk, SaysOut, greeting}
 use Rattle.mk_prompt.specs.declared.line.LineRead as read
 use Rattle.mk_prompt.specs.declared.line.LineRead.TheVariants as line_read
 use Rattle.mk_prompt.specs.declared.talk.After.{After}
 use Rattle.mk_prompt.specs.declared.talk.After.TheVariants.{GoesOn, Ends}
 
 -- the lines of known bytes are these, and those of what is left
-abbrev pub Leads : (before after : Option (List ℕ)) → List (List ℕ) → Type 0
+abbrev Leads : (before after : Option (List ℕ)) → List (List ℕ) → Type 0
 Leads None after lines = ⊤
 Leads (Some xs) None lines = ⊥
 Leads (Some xs) (Some ys) lines = physical_lines xs ≡ lines ++ physical_lines ys
@@ -116,23 +116,38 @@ module _ {L : Type 0} (hears : L → List ℕ → List ℕ → After → L → T
       let whole = subst (Appends before next) (append_assoc greeting h.replies reply) (Appends-trans before out next (greeting ++ h.replies) reply h.is_out is_out) in
       elim (replied y z line b c reply Ends is was (said line told is b c reply after Ends same goes-on says)) [
         | inl (one, loses, last_is) ↦
-          let some = begins source y z h.lines one h.leads loses in
-          (greeting ++ (h.replies ++ reply), whole, (h.replies ++ reply, refl, inr (record {
-            lines = h.lines;
-            last = one;
-            unread = some.0;
-            begins = some.1;
-            middle = b;
-            before = h.replies;
-            reply = reply;
-            goes_over = h.goes_over;
-            ends = last_is;
-            replies_are = refl;
-          })))
-        | inr (end, none, over, kept) ↦ (greeting ++ (h.replies ++ reply), whole, (h.replies ++ reply, refl, inl (record {
-          lines = h.lines;
-          all = ends source y h.lines h.leads end;
-          goes_over = subst (λ it. GoesOver hears h.lines first it c) (sym (ap (λ t. h.replies ++ t) none ∙ append-nil h.replies))
-              (subst (λ it. GoesOver hears h.lines first h.replies it) (sym kept) h.goes_over);
-        })))
+            let some = begins source y z h.lines one h.leads loses in (
+              greeting ++ (h.replies ++ reply),
+              whole,
+              (
+                h.replies ++ reply,
+                refl,
+                inr (record {
+                  lines = h.lines;
+                  last = one;
+                  unread = some.0;
+                  begins = some.1;
+                  middle = b;
+                  before = h.replies;
+                  reply = reply;
+                  goes_over = h.goes_over;
+                  ends = last_is;
+                  replies_are = refl;
+                }),
+              ),
+            )
+        | inr (end, none, over, kept) ↦ (
+          greeting ++ (h.replies ++ reply),
+          whole,
+          (
+            h.replies ++ reply,
+            refl,
+            inl (record {
+              lines = h.lines;
+              all = ends source y h.lines h.leads end;
+              goes_over = subst (λ it. GoesOver hears h.lines first it c) (sym (ap (λ t. h.replies ++ t) none ∙ append-nil h.replies))
+                  (subst (λ it. GoesOver hears h.lines first h.replies it) (sym kept) h.goes_over);
+            }),
+          ),
+        )
       ]

@@ -1,11 +1,11 @@
 -- The lines of a text, one after the other, as a search for line feeds finds them.
-use Rattle.std.proofs.Common.{◌≡◌, refl, sym, ap, ◌∙◌, subst, ℕ, zero, suc, ◌+◌, ◌-◌, ◌<◌, ◌≤◌, List, [], ◌∷◌, ◌++◌, length, take, drop, Some, arith, append_assoc}
+use Rattle.std.proofs.Common.{◌≡◌, refl, sym, ap, ◌∙◌, subst, ℕ, zero, suc, ◌+◌, ◌<◌, ◌≤◌, List, [], ◌∷◌, ◌++◌, length, take, drop, Some, arith, append_assoc}
 use Rattle.std.specs.List.{flat_map}
 use Rattle.std.proofs.lemmas.List.{append-nil}
 use Rattle.memchr.specs.Find.{IsFirstByte, is_byte}
 use Rattle.mk_lines.specs.Lists.{concat}
 use Rattle.mk_lines.specs.PhysicalLines.{physical_lines}
-use Rattle.mk_prompt.specs.AnswerLines.{answer_line, answer_lines, lines_between}
+use Rattle.mk_prompt.specs.AnswerLines.{answer_line, answer_lines}
 
 -- a line feed that a search finds is one of the text's bytes
 pub line-found-within : (text : List ℕ) (feed : ℕ) → IsFirstByte (is_byte 10) text (Some feed) → feed < length text
@@ -97,15 +97,6 @@ all-passed text at i k h whole le =
       front = h.front ∙ ap concat (take-all i k (physical_lines text) none le);
       rest = h.rest ∙ drop-all i k (physical_lines text) none le;
     }
-
--- lines behind others
-pub between : (text rest lines : List ℕ) (b e from to before count : ℕ) → rest ≡ drop b text → lines ≡ take e rest
-    → take e rest ≡ concat (take count (physical_lines rest)) → physical_lines (drop b text) ≡ drop before (physical_lines text)
-    → before ≡ from - 1 → count ≡ to - before → lines ≡ lines_between from to text
-between text rest lines b e from to before count is part front others is-before is-count =
-    let those : physical_lines rest ≡ drop (from - 1) (physical_lines text) = ap physical_lines is ∙ others ∙ ap (λ k. drop k (physical_lines text)) is-before in
-    part ∙ front ∙ ap (λ ls. concat (take count ls)) those
-    ∙ ap (λ k. concat (take k (drop (from - 1) (physical_lines text)))) (is-count ∙ ap (λ k. to - k) is-before)
 
 pub answer-more : (text : List ℕ) (n : ℕ) → physical_lines text ≡ take n text ∷ physical_lines (drop n text)
     → answer_lines text ≡ answer_line (take n text) ++ answer_lines (drop n text)

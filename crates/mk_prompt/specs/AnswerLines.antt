@@ -1,12 +1,12 @@
 -- The lines of an answer, and some lines of a text.
 -- Told in docs/PROTOCOL.md, "Answers".
-use Rattle.std.specs.Prelude.{ℕ, ◌-◌, ◌==◌, if◌then◌else◌, Bool, true, false, List, ◌++◌, length, take, drop, Option, Some, None, codes, slice_get}
+use Rattle.std.specs.Prelude.{ℕ, ◌-◌, ◌==◌, if◌then◌else◌, Bool, false, List, ◌++◌, length, take, drop, Option, Some, None, codes, slice_get}
 use Rattle.std.specs.List.{flat_map}
 use Rattle.mk_lines.specs.Lists.{concat}
 use Rattle.mk_lines.specs.PhysicalLines.{physical_lines}
 
 -- whether a byte that may be there is a line feed
-abbrev pub is_line_feed : Option ℕ → Bool
+abbrev is_line_feed : Option ℕ → Bool
 is_line_feed None = false
 is_line_feed (Some b) = b == 10
 

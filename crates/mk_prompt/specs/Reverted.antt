@@ -4,7 +4,7 @@ use Rattle.std.specs.Prelude.{ℕ, List, [], ◌∷◌}
 use Rattle.mk_history.specs.Shown.{Shown}
 
 -- what is shown after an undo for each of the texts that undoing leads back through
-abbrev pub undone_through : Shown (List ℕ) → (back : List (List ℕ)) → Shown (List ℕ)
+abbrev undone_through : Shown (List ℕ) → (back : List (List ℕ)) → Shown (List ℕ)
 undone_through s [] = s
 undone_through s (text ∷ back) =
     undone_through (record s { text = text; back = back; forward = s.text ∷ s.forward }) back

@@ -15,7 +15,7 @@ abbrev pub greeting : List ℕ
 greeting = codes "mkedit session 1\n"
 
 -- the reply to a line that is too long
-abbrev pub too_long : List ℕ
+abbrev too_long : List ℕ
 too_long = codes "fault line too long\n"
 
 -- A text went out, of which this holds.

@@ -190,12 +190,7 @@ fn request_alone<'a>(word: &[u8]) -> Option<Request<'a>>
 }
 
 // The request of a line by its first three words, of which an empty one is none, and by what follows.
-fn request_by<'a>(
-    first: &[u8],
-    second: &'a [u8],
-    third: &[u8],
-    rest: &[u8],
-) -> Option<Request<'a>>
+fn request_by<'a>(first: &[u8], second: &'a [u8], third: &[u8], rest: &[u8]) -> Option<Request<'a>>
     ensures { option_map asked_of result ≡ request_by first.now second.now third.now rest.now }
 {
     if second.is_empty() {

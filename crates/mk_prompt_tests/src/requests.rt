@@ -1,9 +1,7 @@
 //! Tests of what a line asks for, and of the lines of an answer, over an allocator that refuses each
 //! growth in turn.
 
-use mk_prompt::{
-    Request, RequestWord, answer_lines, line_length, lines_between, read_request,
-};
+use mk_prompt::{Request, RequestWord, answer_lines, line_length, lines_between, read_request};
 use std::process::Abort;
 use std::test::Fail;
 use watched::Watched;

@@ -14,10 +14,9 @@ ghost use Rattle.mkedit.specs.Settled.{IsKeptUnder, draft_of};
 mod comparison;
 mod draft;
 
-pub(crate) use comparison::same_bytes;
-
 use crate::noted::Noted;
 use crate::notes::{Cause, SystemFault};
+pub(crate) use comparison::same_bytes;
 use draft::{Draft, Placed, Removed, Unchanged, Unsettled};
 use mk_lines::{ByteSink, Fault, StdSink};
 

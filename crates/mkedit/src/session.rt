@@ -53,10 +53,7 @@ fn talk<'a>(rt: &'a HostRuntime, mut desk: Desk<'a>) -> End<'a> {
 }
 
 // Opens the makefile, and replies to the lines of standard input.
-fn over_file<'a>(
-    rt: &'a HostRuntime,
-    words: SessionWords<'a>,
-) -> Result<End<'a>, CannotOpen<'a>> {
+fn over_file<'a>(rt: &'a HostRuntime, words: SessionWords<'a>) -> Result<End<'a>, CannotOpen<'a>> {
     match opened(rt, words, open(rt, words.file)?) {
         Ok(desk) => Ok(talk(rt, desk)),
         Err(fault) => Ok(End::of(Outcome::from(fault))),

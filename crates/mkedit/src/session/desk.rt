@@ -86,7 +86,12 @@ impl<'a> Desk<'a> {
     fn diff(&self) -> Result<Vec<u8>, NotDone> {
         let text = self.text()?;
         let name = diff_name(Input::File(self.name));
-        match diff(self.rt.alloc(), self.opened.as_slice(), text.as_slice(), name) {
+        match diff(
+            self.rt.alloc(),
+            self.opened.as_slice(),
+            text.as_slice(),
+            name,
+        ) {
             Ok(text) => self.quoted(text.as_slice()),
             Err(_) => Err(NotDone::NoMemory),
         }
@@ -206,7 +211,9 @@ impl<'a> Desk<'a> {
     {
         let was_warned = mem::replace(&mut self.is_warned, false);
         let request = match request {
-            Request::Word(RequestWord::Quit) if was_warned => Request::Word(RequestWord::QuitAnyway),
+            Request::Word(RequestWord::Quit) if was_warned => Request::Word(
+                RequestWord::QuitAnyway,
+            ),
             request => request,
         };
         let is_done = self.reply(request, out)?;
