@@ -9,6 +9,7 @@ _mkedit_options() {
         vars) echo "--name --notes -h --help" ;;
         rules | recipes) echo "--target --notes -h --help" ;;
         check | caveats) echo "--notes -h --help" ;;
+        session) echo "-d --depth -h --help" ;;
         help) ;;
         *) echo "-h --help" ;;
     esac
@@ -22,11 +23,13 @@ _mkedit_refusals="BadArgument Reserved RecipePrefix NoSuch Ambiguous Absent Alre
 
 _mkedit() {
     local word=${COMP_WORDS[COMP_CWORD]} before=${COMP_WORDS[COMP_CWORD - 1]}
-    local command= commands="edit vars rules recipes check caveats explain help"
+    local command= commands="edit vars rules recipes check caveats explain session help"
     ((COMP_CWORD > 1)) && command=${COMP_WORDS[1]}
     COMPREPLY=()
     if [[ $command == edit && $before == @(-d|--depth|-e|--expression|--backup) ]]; then
         return # a number, a command of a script, or a suffix
+    elif [[ $command == session && $before == @(-d|--depth) ]]; then
+        return # a number
     elif [[ $before == @(--name|--target) ]]; then
         return # a name or a target of a makefile
     elif [[ $word == -* && $before != @(-o|--output) ]]; then

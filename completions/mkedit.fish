@@ -12,10 +12,11 @@ complete -c mkedit -n __fish_use_subcommand -a recipes -d 'Lists the recipe line
 complete -c mkedit -n __fish_use_subcommand -a check -d 'Lists the lines of a makefile that are kept and not read inside'
 complete -c mkedit -n __fish_use_subcommand -a caveats -d 'Lists the lines of a makefile that make may read otherwise'
 complete -c mkedit -n __fish_use_subcommand -a explain -d 'Says why a command is refused, and what to do then'
+complete -c mkedit -n __fish_use_subcommand -a session -d 'Answers commands and requests on one makefile, a line each'
 complete -c mkedit -n __fish_use_subcommand -a help -d 'Prints help for a command'
 
 complete -c mkedit -n '__fish_seen_subcommand_from edit' -s k -l keep-going -d 'Go on after a refused command'
-complete -c mkedit -n '__fish_seen_subcommand_from edit' -s d -l depth -x -d 'How many edits can be undone, from 1 to 10000'
+complete -c mkedit -n '__fish_seen_subcommand_from edit session; and not __fish_seen_subcommand_from help' -s d -l depth -x -d 'How many edits can be undone, from 1 to 10000'
 complete -c mkedit -n '__fish_seen_subcommand_from edit' -s o -l output -r -F -d 'Where the text goes; it may be FILE, which is then named twice'
 complete -c mkedit -n '__fish_seen_subcommand_from edit' -s i -l in-place -d 'FILE gets the text, and is the old file or the new one at every moment'
 complete -c mkedit -n '__fish_seen_subcommand_from edit' -l backup -x -d 'With -i, keeps the old file under FILE with this suffix at its end'
@@ -25,8 +26,8 @@ complete -c mkedit -n '__fish_seen_subcommand_from edit' -s e -l expression -x -
 complete -c mkedit -n '__fish_seen_subcommand_from vars; and not __fish_seen_subcommand_from help' -l name -x -d 'Lists the assignments of this name alone, for targets or not'
 complete -c mkedit -n '__fish_seen_subcommand_from rules recipes; and not __fish_seen_subcommand_from help' -l target -x -d 'Lists what belongs to the rules for this target alone'
 complete -c mkedit -n '__fish_seen_subcommand_from edit vars rules recipes check caveats; and not __fish_seen_subcommand_from help' -l notes -d 'Says below a message why a file could not be opened, read or written'
-complete -c mkedit -n '__fish_seen_subcommand_from edit vars rules recipes check caveats; and not __fish_seen_subcommand_from help' -F
-complete -c mkedit -n '__fish_seen_subcommand_from help' -a 'edit vars rules recipes check caveats explain help'
+complete -c mkedit -n '__fish_seen_subcommand_from edit vars rules recipes check caveats session; and not __fish_seen_subcommand_from help' -F
+complete -c mkedit -n '__fish_seen_subcommand_from help' -a 'edit vars rules recipes check caveats explain session help'
 # made by tools/texts: refusals
 set -l refusals BadArgument Reserved RecipePrefix NoSuch Ambiguous Absent Already Taken SharedRule Straddles OpenValue OpenLine OpenDefine Leans TooLong NothingToUndo NothingToRedo GroupOpen NoGroup NoMemory
 # made until here

@@ -12,6 +12,7 @@ _mkedit_commands() {
         'check:Lists the lines of a makefile that are kept and not read inside'
         'caveats:Lists the lines of a makefile that make may read otherwise'
         'explain:Says why a command is refused, and what to do then'
+        'session:Answers commands and requests on one makefile, a line each'
         'help:Prints help for a command'
     )
     _describe -t commands 'command' commands
@@ -68,6 +69,13 @@ _mkedit_explain() {
         "1:refusal:(${refusals[*]})"
 }
 
+_mkedit_session() {
+    _arguments -s \
+        '(-d --depth)'{-d+,--depth=}'[how many edits can be undone, from 1 to 10000]:depth: ' \
+        '(-h --help)'{-h,--help}'[print help]' \
+        '1:makefile:_files'
+}
+
 _mkedit() {
     local context state state_descr line
     typeset -A opt_args
@@ -83,6 +91,7 @@ _mkedit() {
         rules | recipes) _mkedit_rules ;;
         check | caveats) _mkedit_query ;;
         explain) _mkedit_explain ;;
+        session) _mkedit_session ;;
         help) _arguments '1:command:_mkedit_commands' ;;
     esac
 }

@@ -32,6 +32,7 @@ ZSH_FUNCTIONS = {
     "check": ("_query",),
     "caveats": ("_query",),
     "explain": ("_explain",),
+    "session": ("_session",),
 }
 
 

@@ -8,7 +8,7 @@ use Rattle.clap.specs.declared.builder.action.ArgAction.TheVariants.{Append, Set
 use Rattle.clap.specs.declared.builder.value_parser.ValueParser.TheVariants.{Unsigned}
 use Rattle.mk_command_line.specs.declared.request.TheConstants.{MAX_DEPTH}
 use Rattle.mk_command_line.specs.declared.command_name.CommandName.{CommandName}
-use Rattle.mk_command_line.specs.declared.command_name.CommandName.TheVariants.{Edit, Query, Explain}
+use Rattle.mk_command_line.specs.declared.command_name.CommandName.TheVariants.{Edit, Query, Explain, Session}
 use Rattle.mk_command_line.specs.declared.command_name.QueryName.{QueryName}
 use Rattle.mk_command_line.specs.declared.command_name.QueryName.TheVariants.{Vars, Rules, Recipes, Check, Caveats}
 
@@ -21,11 +21,13 @@ word_of (Query Recipes) = codes "recipes"
 word_of (Query Check) = codes "check"
 word_of (Query Caveats) = codes "caveats"
 word_of Explain = codes "explain"
+word_of Session = codes "session"
 
 -- all commands
 abbrev pub commands : List CommandName
 commands =
-    Edit ∷ Query Vars ∷ Query Rules ∷ Query Recipes ∷ Query Check ∷ Query Caveats ∷ Explain ∷ []
+    Edit ∷ Query Vars ∷ Query Rules ∷ Query Recipes ∷ Query Check ∷ Query Caveats ∷ Explain
+    ∷ Session ∷ []
 
 -- the command that a word names
 abbrev pub command_named : Text → Option CommandName
@@ -125,6 +127,10 @@ target_rule = record (new_rule (codes "target")) {
 abbrev pub refusal_rule : Rule
 refusal_rule = record (new_rule (codes "REFUSAL")) { required = true }
 
+-- FILE of a session, which is required
+abbrev pub session_file_rule : Rule
+session_file_rule = record (new_rule (codes "FILE")) { required = true }
+
 -- ---- the commands
 
 -- those of `edit`, in the order of its help: of the run, of where its text goes, and others
@@ -149,6 +155,7 @@ abbrev arguments_of : CommandName → List Rule
 arguments_of Edit = edit_options ++ script_rule ∷ file_rule ∷ []
 arguments_of (Query query) = choice_of query ++ notes_rule ∷ file_rule ∷ []
 arguments_of Explain = refusal_rule ∷ []
+arguments_of Session = depth_rule ∷ session_file_rule ∷ []
 
 -- a command with these arguments, and without commands of its own
 abbrev shape_with : Text → List Rule → Shape

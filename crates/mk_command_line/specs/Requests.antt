@@ -10,7 +10,7 @@ use Rattle.clap.specs.Words.{Row, Text, all_of, first_of, one_of}
 use Rattle.clap.specs.Walk.{is_empty}
 use Rattle.mk_command_line.specs.Commands.{command_named}
 use Rattle.mk_command_line.specs.declared.command_name.CommandName.{CommandName}
-use Rattle.mk_command_line.specs.declared.command_name.CommandName.TheVariants.{Edit, Query, Explain}
+use Rattle.mk_command_line.specs.declared.command_name.CommandName.TheVariants.{Edit, Query, Explain, Session}
 use Rattle.mk_command_line.specs.declared.request.Input.{Input}
 use Rattle.mk_command_line.specs.declared.request.Input.TheVariants as input
 use Rattle.mk_command_line.specs.declared.request.Script.{Script}
@@ -19,6 +19,7 @@ use Rattle.mk_command_line.specs.declared.request.Output.{Output}
 use Rattle.mk_command_line.specs.declared.request.Output.TheVariants as output
 use Rattle.mk_command_line.specs.declared.request.EditWords.{EditWords}
 use Rattle.mk_command_line.specs.declared.request.QueryWords.{QueryWords}
+use Rattle.mk_command_line.specs.declared.request.SessionWords.{SessionWords}
 use Rattle.mk_command_line.specs.declared.command_name.QueryName.{QueryName}
 use Rattle.mk_command_line.specs.declared.command_name.QueryName.TheVariants.{Vars, Rules, Recipes, Check, Caveats}
 use Rattle.mk_command_line.specs.declared.request.Query as query
@@ -149,6 +150,13 @@ pub record AsksQuery (name : QueryName) (rows : List Row) (words : QueryWords) :
   pub notes : IsFlag (codes "notes") rows words.notes
   pub files : AreMakefiles (words_of (all_of (codes "FILE") rows)) words.files.items
 
+-- ---- the words of a session
+
+pub record AsksSession (rows : List Row) (words : SessionWords) : Type 0 where
+  pub depth : IsDepth (first_of (codes "depth") rows) words.depth
+  pub file : first_of (codes "FILE") rows ≡ Some words.file.now
+  pub named : bytes_eq words.file.now (codes "-") ≡ false
+
 -- ---- all words
 
 module _ {R E : Type 0} (reads : Text → Result R E → Type 0) where
@@ -158,6 +166,7 @@ module _ {R E : Type 0} (reads : Text → Result R E → Type 0) where
   AsksByCommand (Some (Query query)) rows (request.Query words) = AsksQuery query rows words
   AsksByCommand (Some Explain) rows (request.Explain refusal) =
       (word : Text) × (first_of (codes "REFUSAL") rows ≡ Some word) × reads word (Ok refusal)
+  AsksByCommand (Some Session) rows (request.Session words) = AsksSession rows words
   AsksByCommand _ _ _ = ⊥
 
   -- the same, of the word that names the command and its rows

@@ -3,7 +3,7 @@ ghost use Rattle.std.specs.Prelude.{◌≡◌, IfOk, false};
 ghost use Rattle.clap.specs.Words.{rule_of};
 ghost use Rattle.mk_command_line.specs.Commands.{backup_rule, depth_rule, diff_rule, expression_rule, file_rule};
 ghost use Rattle.mk_command_line.specs.Commands.{in_place_rule, keep_going_rule, name_rule, notes_rule, output_rule};
-ghost use Rattle.mk_command_line.specs.Commands.{refusal_rule, script_rule, target_rule};
+ghost use Rattle.mk_command_line.specs.Commands.{refusal_rule, script_rule, session_file_rule, target_rule};
 
 use crate::request::MAX_DEPTH;
 use clap::builder::ValueParser;
@@ -186,4 +186,14 @@ pub(crate) fn refusal<'a>(alloc: Global) -> Arg<'a>
     Arg::new(alloc, REFUSAL)
         .required(true)
         .help("Its number or its name, as the report has them")
+}
+
+/// The makefile of a session.
+pub(crate) fn session_file<'a>(alloc: Global) -> Arg<'a>
+    ensures rule { rule_of result ≡ session_file_rule }
+    ensures local { result.global ≡ false }
+{
+    Arg::new(alloc, FILE).required(true).help(
+        "The makefile, by its name; the requests come from standard input",
+    )
 }

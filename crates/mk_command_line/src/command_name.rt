@@ -26,10 +26,12 @@ pub(crate) enum CommandName {
     Query(QueryName),
     /// What is said of a refusal.
     Explain,
+    /// A session over a makefile.
+    Session,
 }
 
 /// All commands, in the order in which the help lists them.
-pub(crate) const COMMANDS: [CommandName; 7] = [
+pub(crate) const COMMANDS: [CommandName; 8] = [
     CommandName::Edit,
     CommandName::Query(QueryName::Vars),
     CommandName::Query(QueryName::Rules),
@@ -37,6 +39,7 @@ pub(crate) const COMMANDS: [CommandName; 7] = [
     CommandName::Query(QueryName::Check),
     CommandName::Query(QueryName::Caveats),
     CommandName::Explain,
+    CommandName::Session,
 ];
 
 const EDIT: &str = "edit";
@@ -53,6 +56,8 @@ const CAVEATS: &str = "caveats";
 
 const EXPLAIN: &str = "explain";
 
+const SESSION: &str = "session";
+
 impl CommandName {
     /// The word that names the command.
     pub(crate) fn word<'a>(self) -> &'a str
@@ -66,6 +71,7 @@ impl CommandName {
             CommandName::Query(QueryName::Check) => CHECK,
             CommandName::Query(QueryName::Caveats) => CAVEATS,
             CommandName::Explain => EXPLAIN,
+            CommandName::Session => SESSION,
         }
     }
 }
@@ -88,6 +94,8 @@ pub(crate) fn command_named(word: &str) -> Option<CommandName>
         Some(CommandName::Query(QueryName::Caveats))
     } else if word == EXPLAIN {
         Some(CommandName::Explain)
+    } else if word == SESSION {
+        Some(CommandName::Session)
     } else {
         None
     }

@@ -7,7 +7,7 @@ ghost use Rattle.mk_command_line.specs.Commands.{choice_of, first_command, progr
 
 use crate::arguments::{
     backup, depth, diff, expression, file, in_place, keep_going, name, notes, output, refusal,
-    script, target,
+    script, session_file, target,
 };
 use crate::command_name::{COMMANDS, CommandName, QueryName, command_named};
 use crate::help;
@@ -88,6 +88,16 @@ fn with_choice<'a>(alloc: Global, query: QueryName) -> Result<Command<'a>, Alloc
     }
 }
 
+// `session`: a makefile that is edited step by step.
+fn session<'a>(alloc: Global) -> Result<Command<'a>, AllocError>
+    ensures app { IfOk result (λ session. app_of session ≡ command_app CommandName.Session) }
+    ensures local { IfOk result (λ session. (fields_of session).has_globals ≡ false) }
+{
+    titled(alloc, CommandName::Session)
+        .arg(depth(alloc))?
+        .arg(session_file(alloc))
+}
+
 // The command of this name, with its arguments.
 fn command<'a>(alloc: Global, name: CommandName) -> Result<Command<'a>, AllocError>
     ensures app { IfOk result (λ command. app_of command ≡ command_app name) }
@@ -99,6 +109,7 @@ fn command<'a>(alloc: Global, name: CommandName) -> Result<Command<'a>, AllocErr
             .arg(notes(alloc))?
             .arg(file(alloc)),
         CommandName::Explain => titled(alloc, name).arg(refusal(alloc)),
+        CommandName::Session => session(alloc),
     }
 }
 

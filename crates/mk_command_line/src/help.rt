@@ -151,6 +151,30 @@ Example:
 both print the cause of this refusal, an example of it and what to do.
 ";
 
+// What `session` does, in a line.
+const ABOUT_SESSION: &str = "Answers commands and requests on one makefile, a line each";
+
+// Below the help of `session`.
+const SESSION: &str = "\
+Each line of standard input is a command of a script, as `mkedit help edit` lists them, or a request:
+    print    print FROM    print FROM TO    diff    vars    rules    recipes    check    caveats
+    explain REFUSAL    write    write!    revert    quit    quit!
+Each is answered at once: the lines of an answer, each behind `| `, and then a line `ok`, `refused` with
+the number and the name of the refusal, or `fault` with what is wrong. The first line is the version of
+this protocol, which docs/PROTOCOL.md has. FILE changes by `write` and `write!` alone.
+
+Example: with `CC = gcc # c` in config.mk and the lines `set CC clang`, `print`, `undo`, `undo` and `quit`,
+    mkedit session config.mk
+prints
+    mkedit session 1
+    ok
+    | CC = clang # c
+    ok
+    ok
+    refused 16 NothingToUndo
+    ok
+";
+
 /// What a command does, in a line.
 pub(crate) fn about<'a>(name: CommandName) -> &'a str {
     match name {
@@ -161,6 +185,7 @@ pub(crate) fn about<'a>(name: CommandName) -> &'a str {
         CommandName::Query(QueryName::Check) => ABOUT_CHECK,
         CommandName::Query(QueryName::Caveats) => ABOUT_CAVEATS,
         CommandName::Explain => ABOUT_EXPLAIN,
+        CommandName::Session => ABOUT_SESSION,
     }
 }
 
@@ -174,5 +199,6 @@ pub(crate) fn example<'a>(name: CommandName) -> &'a str {
         CommandName::Query(QueryName::Check) => CHECK,
         CommandName::Query(QueryName::Caveats) => CAVEATS,
         CommandName::Explain => EXPLAIN,
+        CommandName::Session => SESSION,
     }
 }

@@ -6,7 +6,7 @@ ghost use Rattle.clap.specs.Words.{all_of, app_of, first_of, found_of, kind_of, 
 ghost use Rattle.clap.specs.Words.{subcommand_of, subcommand_rows_of, takes};
 ghost use Rattle.clap.specs.declared.error.kind.ErrorKind.TheVariants.{OutOfMemory};
 ghost use Rattle.mk_command_line.specs.Commands.{program_for};
-ghost use Rattle.mk_command_line.specs.Requests.{AreApart, Asks, AsksEdit, AsksQuery, GoesTo, IsDepth, IsFlag};
+ghost use Rattle.mk_command_line.specs.Requests.{AreApart, Asks, AsksEdit, AsksQuery, AsksSession, GoesTo, IsDepth, IsFlag};
 ghost use Rattle.mk_command_line.specs.Requests.{AreMakefiles, ReadsFrom, file_named, file_of, words_from};
 ghost use Rattle.mk_command_line.specs.Requests.{IsAsked, IsBackup, is_alone, is_named, is_query, is_suffix};
 
@@ -16,7 +16,9 @@ use crate::arguments::{
 };
 use crate::command_name::{CommandName, QueryName, command_named};
 use crate::commands::program_for;
-use crate::request::{Backup, EditWords, Input, Output, Query, QueryWords, Request, Script};
+use crate::request::{
+    Backup, EditWords, Input, Output, Query, QueryWords, Request, Script, SessionWords,
+};
 use clap::error::ErrorKind;
 use clap::{ArgMatches, Command};
 use std::alloc::{AllocError, Global};
@@ -46,6 +48,8 @@ const BAD_SUFFIX: &str =
 
 const NO_REFUSAL: &str =
     "invalid value for '<REFUSAL>': it is no number from 1 to 20, and no refusal has this name";
+
+const NO_SESSION_FILE: &str = "FILE has to be the name of a file, and not '-'";
 
 // The first value of an argument, if it has one.
 fn value<'a>(matches: &ArgMatches<'a>, id: &str) -> Option<&'a str>
@@ -317,6 +321,22 @@ fn query_words<'a>(
     })
 }
 
+// What the words of `session` ask for.
+fn session_words<'a>(
+    command: &mut Command<'a>,
+    matches: &ArgMatches<'a>,
+) -> Result<SessionWords<'a>, clap::Error>
+    ensures { IfOk result (AsksSession (rows_of (found_of matches.now))) }
+{
+    let Some(depth) = depth_of(matches) else {
+        return Err(command.error(ErrorKind::ValueValidation, BAD_DEPTH)?);
+    };
+    match value(matches, FILE) {
+        Some(file) if file != STANDARD => Ok(SessionWords { depth, file }),
+        _ => Err(command.error(ErrorKind::ValueValidation, NO_SESSION_FILE)?),
+    }
+}
+
 // The refusal that the word of `explain` calls.
 fn explained<'a, R: FromStr + Drop>(
     command: &mut Command<'a>,
@@ -357,6 +377,7 @@ where
         }
         Some(CommandName::Explain) => Ok(Request::Explain(explained(command, matches)?)),
         Some(CommandName::Edit) => Ok(Request::Edit(edit_words(alloc, command, matches)?)),
+        Some(CommandName::Session) => Ok(Request::Session(session_words(command, matches)?)),
         None => Err(command.error(ErrorKind::MissingSubcommand, NO_COMMAND)?),
     }
 }
@@ -371,7 +392,7 @@ where
 /// a script and a makefile that are both standard input; a
 /// word that calls no refusal; several makefiles without `-i`; `-i` beside `-o` or without the name of
 /// a file; a suffix that is empty or has a `/`, or that
-/// stands without `-i`. A query that `clap` takes fails for want of memory alone.
+/// stands without `-i`; a session over `-`. A query that `clap` takes fails for want of memory alone.
 pub fn read_request<'a, R: FromStr + Drop>(
     alloc: Global,
     words: &'a [String],

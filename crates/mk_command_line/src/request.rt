@@ -83,6 +83,15 @@ pub struct QueryWords<'a> {
     pub files: Vec<Input<'a>>,
 }
 
+/// What the words of `mkedit session` say.
+#[derive(Clone, Copy)]
+pub struct SessionWords<'a> {
+    /// How many edits can be undone.
+    pub depth: u32,
+    /// The name of the makefile, which is not `-`.
+    pub file: &'a str,
+}
+
 /// What the command line asks for. `R` is what a refusal is for the caller.
 #[derive(Drop)]
 pub enum Request<'a, R> {
@@ -92,4 +101,6 @@ pub enum Request<'a, R> {
     Query(QueryWords<'a>),
     /// What is said of a refusal.
     Explain(R),
+    /// A session over a makefile.
+    Session(SessionWords<'a>),
 }

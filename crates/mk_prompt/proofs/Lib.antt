@@ -1,2 +1,4 @@
 mod LineLemmas
 mod StepLemmas
+mod TalkLemmas
+mod TextLineLemmas

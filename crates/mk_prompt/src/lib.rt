@@ -2,15 +2,39 @@
 //!
 //! - [`read_line`]: the next line of a source, which may be too long to be a command.
 //! - [`answer_line`]: a command of a script, obeyed by a session, and the reply to it.
+//! - [`read_request`]: what a line asks for that is no command.
+//! - [`answer_lines`]: a text as the lines of an answer, which stand before a reply.
+//! - [`lines_between`]: some lines of a text; [`line_length`]: the first of them.
+//! - [`revert`]: all that can be undone, undone.
+//! - [`converse`]: line after line is read, and a [`Listener`] replies to each.
+//! - [`text_of`]: the text of a document in memory; [`TextSink`]: what is written, in memory.
 //!
 //! The modules:
 //!
 //! - `line`: the lines of a source.
 //! - `answer`: a line, and the reply to it.
+//! - `request`: what a line asks for.
+//! - `lines`: the physical lines of a text.
+//! - `quote`: the lines of an answer.
+//! - `talk`: lines that are read and answered, one after the other.
+//! - `text`: a text in memory.
+//! - `undoing`: all that can be undone, undone.
 #![tactic(auto)]
 
 mod answer;
 mod line;
+mod lines;
+mod quote;
+mod request;
+mod talk;
+mod text;
+mod undoing;
 
 pub use answer::{Heard, answer_line};
 pub use line::{LineRead, MAX_LINE, read_line};
+pub use lines::{line_length, lines_between};
+pub use quote::answer_lines;
+pub use request::{Request, RequestWord, read_request};
+pub use talk::{After, Listener, converse};
+pub use text::{TextSink, text_of};
+pub use undoing::{Reverted, revert};

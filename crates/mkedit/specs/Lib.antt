@@ -9,3 +9,4 @@ pub mod Endings
 pub mod NamedLines
 pub mod Settled
 pub mod DiffRuns
+pub mod SessionFaults

@@ -13,39 +13,9 @@ use mk_diff::diff;
 use mk_lines::sink::write_all;
 use mk_lines::source::read_all;
 use mk_lines::{ByteSink, ByteSource, Fault, StdSource};
+use mk_prompt::TextSink;
 use mk_run::Outcome;
 use std::alloc::Allocator;
-
-// A text in memory, as a sink. Where it cannot grow, the sink fails.
-#[derive(Drop)]
-struct TextSink<A: Allocator> {
-    text: Vec<u8, A>,
-    is_failed: bool,
-}
-
-impl<A: Allocator> ByteSink for TextSink<A> {
-    ghost contents = { λ sink. Some sink.text.items };
-
-    ghost failed = { λ sink. sink.is_failed };
-
-    fn write(&mut self, text: &[u8]) -> Result<usize, Fault> {
-        match self.text.extend_from_slice(text) {
-            Ok(()) => Ok(text.len()),
-            Err(_) => {
-                self.is_failed = true;
-                Err(Fault::Write)
-            }
-        }
-    }
-
-    fn flush(&mut self) -> Result<(), Fault> {
-        Ok(())
-    }
-
-    fn failed(&self) -> bool {
-        self.is_failed
-    }
-}
 
 // The makefile where it could not be read to its end: a source that fails at once, or that never
 // ends. So a run over it ends as it would over the makefile, also where the script is at fault.
@@ -134,10 +104,7 @@ where
         is_endless: fault == Fault::TooLong,
         is_failed: false,
     };
-    let mut sink = TextSink {
-        text: Vec::new(alloc),
-        is_failed: false,
-    };
+    let mut sink = TextSink::new(alloc);
     let outcome = run_to(alloc, words, &mut makefile, script, &mut sink, report);
     if fault == Fault::NoMemory || is_printed(&outcome, words.keep_going) {
         return Outcome::NoMemory;
@@ -178,10 +145,7 @@ where
         Ok(old) => old,
         Err(fault) => return run_unread(alloc, words, fault, script, report),
     };
-    let mut sink = TextSink {
-        text: Vec::new(alloc),
-        is_failed: false,
-    };
+    let mut sink = TextSink::new(alloc);
     let mut source = StdSource::new(old.as_slice());
     let outcome = run_to(alloc, words, &mut source, script, &mut sink, report);
     if sink.is_failed {

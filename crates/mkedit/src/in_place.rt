@@ -16,6 +16,7 @@ mod draft;
 
 use crate::noted::Noted;
 use crate::notes::{Cause, SystemFault};
+pub(crate) use comparison::same_bytes;
 use draft::{Draft, Placed, Removed, Unchanged, Unsettled};
 use mk_lines::{ByteSink, Fault, StdSink};
 

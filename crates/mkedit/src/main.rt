@@ -14,6 +14,7 @@
 //! - `notes`: what is said of that below a message.
 //! - `out_file`: the file that a text goes to; `in_place`: the makefile itself.
 //! - `ending`: the message and the status.
+//! - `session`: a makefile that is edited step by step, by [`mk_prompt`].
 #![tactic(auto)]
 
 mod destination;
@@ -31,6 +32,7 @@ mod noted;
 mod notes;
 mod out_file;
 mod query;
+mod session;
 mod several;
 
 use ending::{BAD_COMMAND_LINE, End, answered, ended};
@@ -67,6 +69,7 @@ fn done(rt: &HostRuntime, words: &[String]) -> ExitCode {
         Ok(Request::Explain(CalledRefusal(refusal))) => {
             ended(rt, &End::of(explain::explain(rt, &refusal)), false)
         }
+        Ok(Request::Session(words)) => session::session(rt, words),
         Err(error) => answered(rt, &error),
     }
 }

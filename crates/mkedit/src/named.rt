@@ -1,9 +1,8 @@
 //! What is said of one of several files: each line begins with the file's name.
-ghost use Rattle.std.specs.Prelude.{◌≡◌, ◌<◌, ◌≤◌, ◌∷◌, ◌++◌, IfOk, drop, length, take};
-ghost use Rattle.mk_lines.specs.PhysicalLines.{physical_lines};
+ghost use Rattle.std.specs.Prelude.{◌≡◌, ◌++◌, IfOk};
 ghost use Rattle.mkedit.specs.NamedLines.{named_line, named_lines};
 
-use memchr::memchr;
+use mk_prompt::line_length;
 use std::alloc::{AllocError, Allocator};
 
 // Puts a line behind a text, with a name and a colon before it.
@@ -17,20 +16,6 @@ fn push_named<A: Allocator>(
     named.extend_from_slice(name)?;
     named.push(b':')?;
     named.extend_from_slice(line)
-}
-
-// How many bytes the first line of a text has, with its line feed.
-fn line_length(text: &[u8]) -> usize
-    requires { 0 < length text.now }
-    ensures line { physical_lines text.now
-        ≡ take result text.now ∷ physical_lines (drop result text.now) }
-    ensures some { 0 < result }
-    ensures within { result ≤ length text.now }
-{
-    match memchr(b'\n', text) {
-        Some(feed) => feed + 1,
-        None => text.len(),
-    }
 }
 
 /// A text with a name and a colon before each of its lines.

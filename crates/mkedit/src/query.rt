@@ -30,8 +30,12 @@ use std::process::ExitCode;
 // A session that is only looked at: the least depth there is.
 const DEPTH: u32 = 1;
 
-// Writes the answer.
-fn put_lines<A: Allocator, W: ByteSink>(
+/// Writes the answer.
+///
+/// # Errors
+///
+/// [`Fault::Write`] where the sink failed.
+pub(crate) fn put_lines<A: Allocator, W: ByteSink>(
     query: Query<'_>,
     doc: &Doc<A>,
     out: &mut W,

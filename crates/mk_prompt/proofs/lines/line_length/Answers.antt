@@ -1,8 +1,8 @@
 use Rattle.std.proofs.Common.{rules, subst}
 use Rattle.memchr.specs.Find.{IsFirstByte, is_byte}
 use Rattle.mk_diff.proofs.PhysicalLineLemmas.{line-at_feed, line-without_feed}
-use Rattle.mkedit.proofs.NamedLineLemmas.{line-found-within}
-use Rattle.mkedit.proofs.named.line_length.Goals as goal
+use Rattle.mk_prompt.proofs.TextLineLemmas.{line-found-within}
+use Rattle.mk_prompt.proofs.lines.line_length.Goals as goal
 
 pub returns-in-Some-clause-line : goal.returns-in-Some-clause-line
 returns-in-Some-clause-line c =

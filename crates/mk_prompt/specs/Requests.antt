@@ -1,0 +1,107 @@
+-- What a line asks for that is no command of a script.
+-- Told in docs/PROTOCOL.md, "Requests".
+use Rattle.std.specs.Prelude.{ℕ, Bool, not, ◌==◌, ◌||◌, ◌&&◌, nat_lt, if◌then◌else◌, List, [], ◌∷◌, length, take, drop, Option, Some, None, option_map, option_and_then, codes}
+use Rattle.std.specs.List.{list_all, prefix_len}
+use Rattle.std.specs.Str.{bytes_eq}
+use Rattle.std.specs.Str.Parse.{digits_value}
+use Rattle.std.specs.Char.{is_ascii_digit}
+use Rattle.mk_script.specs.WordReading.{named}
+use Rattle.mk_prompt.specs.declared.request.RequestWord.{RequestWord}
+use Rattle.mk_prompt.specs.declared.request.RequestWord.TheVariants as word
+use Rattle.mk_prompt.specs.declared.request.Request as r
+use Rattle.mk_prompt.specs.declared.request.Request.TheVariants as request
+
+-- ---- words
+
+-- what may stand between words: a space, a tab, a carriage return or a line feed
+abbrev pub is_gap : ℕ → Bool
+is_gap b = b == 32 || b == 9 || b == 13 || b == 10
+
+-- how many bytes stand before the first word of a text, and the text without them
+abbrev pub gap_length : List ℕ → ℕ
+gap_length text = prefix_len is_gap text
+
+abbrev pub before_word : List ℕ → List ℕ
+before_word text = drop (gap_length text) text
+
+-- how many bytes a text has before its first gap
+abbrev pub word_length : List ℕ → ℕ
+word_length text = prefix_len (λ b. not (is_gap b)) text
+
+-- the first word of a text, which is empty where there is none, and what follows it
+abbrev pub first_word : List ℕ → List ℕ
+first_word text = take (word_length (before_word text)) (before_word text)
+
+abbrev pub after_word : List ℕ → List ℕ
+after_word text = drop (word_length (before_word text)) (before_word text)
+
+-- whether a word is one to nine decimal digits
+abbrev is_number : List ℕ → Bool
+is_number word = not (nat_lt 9 (length word)) && nat_lt 0 (length word) && list_all is_ascii_digit word
+
+-- the number that they write
+abbrev pub number : List ℕ → Option ℕ
+number word = if is_number word then Some (digits_value 10 word) else None
+
+-- ---- requests
+
+-- What is asked for: the lines from one number to another; what is said of a refusal, by a word; or
+-- what one word asks for.
+pub data Asked : Type 0 where
+  Print : (from to : ℕ) → Asked
+  Explain : (refusal : List ℕ) → Asked
+  Word : RequestWord → Asked
+
+-- a request that was read
+abbrev pub asked_of : r.Request → Asked
+asked_of (request.Print from to) = Print from to
+asked_of (request.Explain refusal) = Explain refusal.now
+asked_of (request.Word one) = Word one
+
+-- the requests of one word
+abbrev words : List (RequestWord × List ℕ)
+words =
+    (word.Diff, codes "diff") ∷ (word.Vars, codes "vars") ∷ (word.Rules, codes "rules")
+    ∷ (word.Recipes, codes "recipes") ∷ (word.Check, codes "check") ∷ (word.Caveats, codes "caveats")
+    ∷ (word.Write, codes "write") ∷ (word.WriteAnyway, codes "write!")
+    ∷ (word.Revert, codes "revert") ∷ (word.Quit, codes "quit") ∷ (word.QuitAnyway, codes "quit!") ∷ []
+
+abbrev pub request_named : List ℕ → Option RequestWord
+request_named text = named words text
+
+-- the greatest number of a line, which no line has
+abbrev last_number : ℕ
+last_number = 18446744073709551615
+
+-- a request of one word: `print` asks for all lines
+abbrev pub request_alone : List ℕ → Option Asked
+request_alone first =
+    if bytes_eq first (codes "print") then Some (Print 1 last_number)
+    else option_map (λ one. Word one) (request_named first)
+
+-- a request of two words: `print FROM` or `explain REFUSAL`
+abbrev pub request_with : (first second : List ℕ) → Option Asked
+request_with first second =
+    if bytes_eq first (codes "print") then option_map (λ from. Print from last_number) (number second)
+    else if bytes_eq first (codes "explain") then Some (Explain second)
+    else None
+
+-- `print FROM TO`
+abbrev pub print_between : (from to : List ℕ) → Option Asked
+print_between from to =
+    option_and_then (λ first. option_map (λ last. Print first last) (number to)) (number from)
+
+-- a request by the first three words of a line, of which an empty one is none, and what follows them
+abbrev pub request_by : (first second third rest : List ℕ) → Option Asked
+request_by first second third rest =
+    if length second == 0 then request_alone first
+    else if length third == 0 then request_with first second
+    else if (length rest == 0) && bytes_eq first (codes "print") then print_between second third
+    else None
+
+-- what a line asks for, if it is a request
+abbrev pub request_in : List ℕ → Option Asked
+request_in line =
+    let second = after_word line in
+    let third = after_word second in
+    request_by (first_word line) (first_word second) (first_word third) (before_word (after_word third))

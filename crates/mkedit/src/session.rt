@@ -1,0 +1,66 @@
+//! `mkedit session`: a makefile that is edited step by step. Each line of standard input is a command or
+//! a request, and is answered before the next one is read.
+//!
+//! - `desk`: the makefile that is open, and what it answers.
+//! - `not_done`: why a request is not done.
+//! - `on_disk`: the makefile's file.
+
+mod desk;
+mod not_done;
+mod on_disk;
+
+use crate::ending::{End, finished};
+use crate::files::{CannotOpen, open};
+use crate::noted::Noted;
+use crate::notes::STANDARD_OUTPUT;
+use desk::Desk;
+use mk_command_line::SessionWords;
+use mk_lines::source::read_all;
+use mk_lines::{Fault, StdSink, StdSource};
+use mk_prompt::converse;
+use mk_run::Outcome;
+use std::fs::File;
+use std::mem;
+use std::process::ExitCode;
+
+// How a talk ended.
+fn outcome_of(talked: Result<(), Fault>) -> Outcome {
+    match talked {
+        Ok(()) => Outcome::Done,
+        Err(fault) => Outcome::from(fault),
+    }
+}
+
+// Reads the makefile to its end, and opens a session over it.
+fn opened<'a>(
+    rt: &'a HostRuntime,
+    words: SessionWords<'a>,
+    makefile: File,
+) -> Result<Desk<'a>, Fault> {
+    let text = read_all(rt.alloc(), &mut StdSource::new(makefile))?;
+    Desk::open(rt, words, text)
+}
+
+// Replies to the lines of standard input, on standard output. The session is not given up: the program
+// ends soon.
+fn talk<'a>(rt: &'a HostRuntime, mut desk: Desk<'a>) -> End<'a> {
+    let mut source = StdSource::new(rt.stdin());
+    let mut device = Noted::new(rt.stdout());
+    let mut out = StdSink::new(&mut device);
+    let talked = converse(rt.alloc(), &mut source, &mut desk, &mut out);
+    mem::forget(desk);
+    End::of(outcome_of(talked)).with_fault(device.fault(STANDARD_OUTPUT))
+}
+
+// Opens the makefile, and replies to the lines of standard input.
+fn over_file<'a>(rt: &'a HostRuntime, words: SessionWords<'a>) -> Result<End<'a>, CannotOpen<'a>> {
+    match opened(rt, words, open(rt, words.file)?) {
+        Ok(desk) => Ok(talk(rt, desk)),
+        Err(fault) => Ok(End::of(Outcome::from(fault))),
+    }
+}
+
+/// Opens the makefile, replies to the lines of standard input, and answers the status.
+pub fn session<'a>(rt: &'a HostRuntime, words: SessionWords<'a>) -> ExitCode {
+    finished(rt, over_file(rt, words), false)
+}

@@ -1,0 +1,63 @@
+//! The file of a makefile that is open.
+ghost use Rattle.std.specs.Prelude.{◌≡◌, false};
+
+use super::not_done::NotDone;
+use crate::files::open;
+use crate::in_place::{InPlaceFile, same_bytes};
+use mk_lines::sink::write_all;
+use mk_lines::{ByteSink, StdSource};
+use std::fs;
+
+// Whether a name is that of a regular file: to open another, such as a pipe, may wait without end.
+fn is_regular(rt: &HostRuntime, name: &str) -> bool {
+    match fs::metadata(rt, name) {
+        Ok(metadata) => metadata.is_file(),
+        Err(_) => false,
+    }
+}
+
+/// Looks whether the file of this name has these bytes.
+///
+/// # Errors
+///
+/// [`NotDone::HasChanged`] if it has others; [`NotDone::CannotRead`] if it is no regular file, or cannot
+/// be opened or read.
+pub fn look(rt: &HostRuntime, name: &str, bytes: &[u8]) -> Result<(), NotDone> {
+    if !is_regular(rt, name) {
+        return Err(NotDone::CannotRead);
+    }
+    let Ok(file) = open(rt, name) else {
+        return Err(NotDone::CannotRead);
+    };
+    match same_bytes(&mut StdSource::new(file), &mut StdSource::new(bytes)) {
+        Ok(Some(_)) => Ok(()),
+        Ok(None) => Err(NotDone::HasChanged),
+        Err(_) => Err(NotDone::CannotRead),
+    }
+}
+
+// Writes a text, and puts it into the place of a makefile.
+fn fill<W: ByteSink>(file: &mut W, text: &[u8]) -> bool
+    requires { W.failed file.old ≡ false }
+{
+    match write_all(file, text) {
+        Ok(()) => file.flush().is_ok(),
+        Err(_) => false,
+    }
+}
+
+/// Puts a text into the place of the makefile of this name, in one step.
+///
+/// # Errors
+///
+/// [`NotDone::CannotWrite`]. The makefile is as it was then.
+pub fn put(rt: &HostRuntime, name: &str, text: &[u8]) -> Result<(), NotDone> {
+    let mut file = InPlaceFile::new(rt, name, None);
+    let is_written = fill(&mut file, text);
+    file.close();
+    if is_written {
+        Ok(())
+    } else {
+        Err(NotDone::CannotWrite)
+    }
+}

@@ -1,0 +1,293 @@
+"""Tests of `mkedit session`: each line is answered before the next, and FILE changes by a write alone.
+
+The replies are those of docs/PROTOCOL.md, and answers those of the other commands of the program.
+"""
+
+import os
+import re
+import subprocess
+
+from tests import TOP
+from tests.lib.checks import SECONDS, Outcome
+from tests.lib.rooms import ANSWERS, TEXT, TOO_DEEP, WRITE_FAULT, RoomCase, cannot_open
+
+GREETING = b"mkedit session 1\n"
+PAGE = TOP / "docs/PROTOCOL.md"
+UNWRITTEN = "fault unwritten changes"
+CHANGED = "fault Makefile has changed"
+
+
+class Talk:
+    """A session that is talked to line by line."""
+
+    def __init__(self, room, *words, folder=None):
+        command = [room.program.path, "session", *words]
+        pipe = subprocess.PIPE
+        self.process = subprocess.Popen(command, cwd=folder or room.folder, stdin=pipe, stdout=pipe, stderr=pipe)
+        self.greeting = self.process.stdout.readline()
+
+    def __enter__(self):
+        return self
+
+    def __exit__(self, *_):
+        self.process.kill()
+        self.process.communicate(timeout=SECONDS)
+
+    def tell(self, line):
+        """Sends a line; answers the lines of the answer, and the reply."""
+        self.process.stdin.write(line.encode() + b"\n")
+        self.process.stdin.flush()
+        lines = []
+        while True:
+            line = self.process.stdout.readline()
+            if not line.startswith(b"|"):
+                return lines, line.decode().rstrip("\n")
+            lines.append(line)
+
+    def reply(self, line):
+        return self.tell(line)[1]
+
+    def answer(self, line):
+        """The text of an answer, to which the reply has to be `ok`."""
+        lines, reply = self.tell(line)
+        assert reply == "ok", reply
+        return b"".join(it[3:-1] if it.startswith(b"|~ ") else it[2:] for it in lines)
+
+    def end(self):
+        """Ends standard input, and answers how the session ended; standard output is what was left."""
+        out, errors = self.process.communicate(timeout=SECONDS)
+        return Outcome(out, errors, self.process.returncode)
+
+
+class Session(RoomCase):
+    def talk(self, *words, **how):
+        talk = Talk(self.room, *words, **how)
+        self.addCleanup(talk.__exit__)
+        self.assertEqual(talk.greeting, GREETING)
+        return talk
+
+    def assert_replies(self, talk, *pairs):
+        for line, reply in pairs:
+            self.assertEqual(talk.reply(line), reply, line)
+
+    def assert_talk(self, lines, wanted, *words):
+        """A whole talk at once; wanted is what follows the greeting."""
+        self.assert_run(Outcome(GREETING + wanted, b"", 0), "session", *words, given=lines)
+
+    def test_each_command_is_answered_before_the_next(self):
+        talk = self.talk("Makefile")
+        self.assert_replies(
+            talk,
+            ("set CC clang", "ok"),
+            ("set Y 1", "refused 4 NoSuch"),
+            ("try set Y 1", "ok"),
+            ("undo", "ok"),
+            ("undo", "refused 16 NothingToUndo"),
+            ("redo", "ok"),
+            ("begin", "ok"),
+            ("undo", "refused 18 GroupOpen"),
+            ("append CC -O2", "ok"),
+            ("cancel", "ok"),
+            ("end", "refused 19 NoGroup"),
+            ("frobnicate", "fault not a command"),
+            ("or set CC gcc", "fault not a command"),
+        )
+        self.assertEqual(talk.answer("print"), b"CC = clang # c\n")
+
+    def test_comments_and_blank_lines_have_no_reply(self):
+        self.assert_talk(b"\n# set CC clang\n \t\r\nundo\r\n", b"refused 16 NothingToUndo\n", "Makefile")
+
+    def test_a_last_line_needs_no_line_feed(self):
+        self.assert_talk(b"set CC clang\nprint", b"ok\n| CC = clang # c\nok\n", "Makefile")
+
+    def test_a_line_that_is_too_long_is_skipped(self):
+        long, short = b"x" * 65_536, b"x" * 65_535
+        lines = long + b"\nprint\n" + short + b"\n"
+        wanted = b"fault line too long\n| CC = gcc # c\nok\nfault not a command\n"
+        self.assert_talk(lines, wanted, "Makefile")
+
+    def test_print_has_the_lines_from_one_number_to_another(self):
+        self.room.write("lines", b"A = 1\nB = \\\n2\n\nC = 3")
+        wanted = {
+            "print": b"A = 1\nB = \\\n2\n\nC = 3",
+            " print\t1 5 ": b"A = 1\nB = \\\n2\n\nC = 3",
+            "print 2 3": b"B = \\\n2\n",
+            "print 4": b"\nC = 3",
+            "print 0 1": b"A = 1\n",
+            "print 5 999999999": b"C = 3",
+            "print 6": b"",
+            "print 3 2": b"",
+        }
+        talk = self.talk("lines")
+        for line, text in wanted.items():
+            self.assertEqual(talk.answer(line), text, line)
+        for line in ("print x", "print 1 x", "print -1", "print 1 2 3", "print 1234567890", "Print"):
+            self.assertEqual(talk.reply(line), "fault not a command", line)
+
+    def test_a_last_line_without_a_line_feed_can_be_told(self):
+        self.room.write("open", b"| X = 1\n|~ Y = 2")
+        self.assert_talk(b"print\n", b"| | X = 1\n|~ |~ Y = 2\nok\n", "open")
+
+    def test_an_empty_makefile_has_an_empty_answer(self):
+        self.assert_talk(b"print\ndiff\nvars\nquit\n", b"ok\nok\nok\nok\n", "empty")
+
+    def test_queries_are_answered_as_the_program_does(self):
+        talk = self.talk("queried")
+        for query, answer in ANSWERS.items():
+            self.assertEqual(talk.answer(query), answer, query)
+        self.assert_replies(talk, ("set CC clang", "ok"), ("vars --name CC", "fault not a command"))
+        self.assertEqual(talk.answer("vars"), b"2:1: CC = clang\n")
+
+    def test_a_diff_is_that_of_the_program(self):
+        talk = self.talk("Makefile")
+        self.assertEqual(talk.answer("diff"), b"")
+        self.assertEqual(talk.reply("set CC clang"), "ok")
+        wanted = self.room.run("edit", "--diff", "script", "Makefile").stdout
+        self.assertTrue(wanted)
+        self.assertEqual(talk.answer("diff"), wanted)
+        self.assertEqual(talk.reply("undo"), "ok")
+        self.assertEqual(talk.answer("diff"), b"")
+
+    def test_explain_says_what_the_program_says(self):
+        talk = self.talk("Makefile")
+        for word in ("4", "NoSuch", "ambiguous"):
+            self.assertEqual(talk.answer(f"explain {word}"), self.room.run("explain", word).stdout)
+        self.assert_replies(
+            talk,
+            ("explain 99", "fault no such refusal"),
+            ("explain", "fault not a command"),
+            ("explain 4 5", "fault not a command"),
+        )
+
+    def test_a_script_that_is_told_gives_the_text_of_a_run(self):
+        script = b"set CC clang\nassign bottom X += 1\nbegin\nset X 2\ncancel\nundo\nredo\n"
+        self.room.write("steps", script)
+        talk = self.talk("Makefile")
+        for line in script.decode().splitlines():
+            self.assertEqual(talk.reply(line), "ok", line)
+        self.assertEqual(talk.answer("print"), self.room.run("edit", "steps", "Makefile").stdout)
+
+    def test_the_depth_bounds_what_is_undone(self):
+        talk = self.talk("-d", "1", "Makefile")
+        self.assert_replies(
+            talk,
+            ("set CC a", "ok"),
+            ("set CC b", "ok"),
+            ("revert", "fault edits beyond the depth"),
+            ("undo", "refused 16 NothingToUndo"),
+        )
+        self.assertEqual(talk.answer("print"), b"CC = a # c\n")
+        self.assertEqual(talk.reply("redo"), "ok")
+
+    def test_revert_gives_back_the_text_that_was_opened(self):
+        talk = self.talk("Makefile")
+        self.assert_replies(
+            talk,
+            ("set CC a", "ok"),
+            ("set CC b", "ok"),
+            ("begin", "ok"),
+            ("revert", "refused 18 GroupOpen"),
+            ("end", "ok"),
+            ("revert", "ok"),
+        )
+        self.assertEqual(talk.answer("print"), TEXT)
+        self.assert_replies(talk, ("redo", "ok"), ("redo", "ok"))
+        self.assertEqual(talk.answer("print"), b"CC = b # c\n")
+
+    def test_write_puts_the_text_into_the_file_and_keeps_its_mode(self):
+        self.room.write("Makefile", TEXT, mode=0o640)
+        talk = self.talk("Makefile")
+        self.assert_replies(talk, ("set CC clang", "ok"), ("write", "ok"))
+        self.assert_holds("Makefile", b"CC = clang # c\n")
+        self.assertEqual((self.room.folder / "Makefile").stat().st_mode & 0o777, 0o640)
+        self.assert_replies(talk, ("undo", "ok"), ("quit", UNWRITTEN), ("write", "ok"), ("quit", "ok"))
+        self.assertEqual(talk.end(), Outcome(b"", b"", 0))
+        self.assert_holds("Makefile", TEXT)
+        self.assertEqual(set(os.listdir(self.room.folder)), {"Makefile", *self.room.written})
+
+    def test_a_file_that_has_changed_is_not_overwritten(self):
+        talk = self.talk("Makefile")
+        self.assertEqual(talk.reply("set CC clang"), "ok")
+        self.room.write("Makefile", b"CC = other\n")
+        self.assertEqual(talk.reply("write"), CHANGED)
+        self.assert_well(self.room.changed())
+        self.assertEqual(talk.reply("write!"), "ok")
+        self.assert_holds("Makefile", b"CC = clang # c\n")
+        self.assert_replies(talk, ("write", "ok"), ("quit", "ok"))
+
+    def test_a_file_that_is_gone_is_not_written(self):
+        talk = self.talk("Makefile")
+        self.assertEqual(talk.reply("set CC clang"), "ok")
+        self.room.written.pop("Makefile")
+        (self.room.folder / "Makefile").unlink()
+        self.assert_replies(
+            talk,
+            ("write", "fault cannot read Makefile"),
+            ("write!", "fault cannot write Makefile"),
+        )
+        os.mkfifo(self.room.folder / "Makefile")
+        self.assert_replies(
+            talk,
+            ("write", "fault cannot read Makefile"),
+            ("write!", "fault cannot write Makefile"),
+            ("quit", UNWRITTEN),
+            ("quit", "ok"),
+        )
+
+    def test_a_fault_has_the_name_up_to_a_line_feed(self):
+        self.room.write("a\nb", TEXT)
+        talk = self.talk("a\nb")
+        self.room.write("a\nb", b"")
+        self.assertEqual(talk.reply("write"), "fault a has changed")
+
+    def test_quit_asks_once_where_changes_are_unwritten(self):
+        talk = self.talk("Makefile")
+        self.assert_replies(talk, ("set CC clang", "ok"), ("quit", UNWRITTEN))
+        self.assertEqual(talk.answer("print"), b"CC = clang # c\n")
+        self.assert_replies(talk, ("quit", UNWRITTEN), ("# no reply\nquit", "ok"))
+        self.assertEqual(talk.end(), Outcome(b"", b"", 0))
+
+    def test_quit_ends_where_nothing_is_unwritten(self):
+        self.assert_talk(b"set CC a\nundo\nquit\nundo\n", b"ok\nok\nok\n", "Makefile")
+        self.assert_talk(b"quit\nundo\n", b"ok\n", "Makefile")
+        self.assert_talk(b"set CC a\nquit!\nundo\n", b"ok\nok\n", "Makefile")
+
+    def test_the_end_of_input_ends_the_session_without_a_write(self):
+        self.assert_talk(b"set CC clang\n", b"ok\n", "Makefile")
+        self.assert_talk(b"", b"", "Makefile")
+
+    def test_a_closed_output_ends_the_session_without_a_write(self):
+        talk = self.talk("Makefile")
+        self.assertEqual(talk.reply("set CC clang"), "ok")
+        talk.process.stdout.close()
+        talk.process.stdin.write(b"print\nwrite\n")
+        talk.process.stdin.close()
+        errors = talk.process.stderr.read()
+        talk.process.stderr.close()
+        talk.process.stdin, talk.process.stdout, talk.process.stderr = None, None, None
+        self.assertEqual((errors, talk.process.wait(SECONDS)), (WRITE_FAULT.stderr, WRITE_FAULT.status))
+
+    def test_a_full_output_ends_the_session(self):
+        with open("/dev/full", "wb") as full:
+            self.assert_run(WRITE_FAULT, "session", "Makefile", given=b"write\n", stdout=full)
+
+    def test_a_makefile_that_cannot_be_opened_is_none(self):
+        self.assert_run(cannot_open("missing"), "session", "missing")
+        self.room.write("deep", b"ifdef A\n" * 257)
+        self.assert_run(TOO_DEEP, "session", "deep")
+
+    def test_the_command_line_names_one_file(self):
+        self.assert_bad_command_line("session")
+        self.assert_bad_command_line("session", "-")
+        self.assert_bad_command_line("session", "Makefile", "script")
+        self.assert_bad_command_line("session", "-d", "0", "Makefile")
+        self.assert_bad_command_line("session", "-d", "+1", "Makefile")
+
+    def test_the_page_on_the_protocol_has_every_request_and_fault(self):
+        page = PAGE.read_text()
+        shown = self.room.run("session", "--help").stdout.decode()
+        requests = re.search(r"or a request:\n((?:    .*\n)+)", shown)[1]
+        for words in re.split(r"\n| {2,}", requests.strip()):
+            if words.strip():
+                self.assertIn(f"`{words.strip()}`", page)
+        self.assertIn(GREETING.decode(), page)
