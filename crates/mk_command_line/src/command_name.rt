@@ -24,18 +24,21 @@ pub(crate) enum CommandName {
     Edit,
     /// A query of a makefile.
     Query(QueryName),
+    /// The value of a variable.
+    Get,
     /// What is said of a refusal.
     Explain,
 }
 
 /// All commands, in the order in which the help lists them.
-pub(crate) const COMMANDS: [CommandName; 7] = [
+pub(crate) const COMMANDS: [CommandName; 8] = [
     CommandName::Edit,
     CommandName::Query(QueryName::Vars),
     CommandName::Query(QueryName::Rules),
     CommandName::Query(QueryName::Recipes),
     CommandName::Query(QueryName::Check),
     CommandName::Query(QueryName::Caveats),
+    CommandName::Get,
     CommandName::Explain,
 ];
 
@@ -51,6 +54,8 @@ const CHECK: &str = "check";
 
 const CAVEATS: &str = "caveats";
 
+const GET: &str = "get";
+
 const EXPLAIN: &str = "explain";
 
 impl CommandName {
@@ -65,6 +70,7 @@ impl CommandName {
             CommandName::Query(QueryName::Recipes) => RECIPES,
             CommandName::Query(QueryName::Check) => CHECK,
             CommandName::Query(QueryName::Caveats) => CAVEATS,
+            CommandName::Get => GET,
             CommandName::Explain => EXPLAIN,
         }
     }
@@ -86,6 +92,8 @@ pub(crate) fn command_named(word: &str) -> Option<CommandName>
         Some(CommandName::Query(QueryName::Check))
     } else if word == CAVEATS {
         Some(CommandName::Query(QueryName::Caveats))
+    } else if word == GET {
+        Some(CommandName::Get)
     } else if word == EXPLAIN {
         Some(CommandName::Explain)
     } else {
