@@ -11,6 +11,7 @@ complete -c mkedit -n __fish_use_subcommand -a rules -d 'Lists the rules of a ma
 complete -c mkedit -n __fish_use_subcommand -a recipes -d 'Lists the recipe lines of a makefile with their numbers'
 complete -c mkedit -n __fish_use_subcommand -a check -d 'Lists the lines of a makefile that are kept and not read inside'
 complete -c mkedit -n __fish_use_subcommand -a caveats -d 'Lists the lines of a makefile that make may read otherwise'
+complete -c mkedit -n __fish_use_subcommand -a get -d 'Prints the value of a variable of a makefile'
 complete -c mkedit -n __fish_use_subcommand -a explain -d 'Says why a command is refused, and what to do then'
 complete -c mkedit -n __fish_use_subcommand -a session -d 'Answers commands and requests on one makefile, a line each'
 complete -c mkedit -n __fish_use_subcommand -a help -d 'Prints help for a command'
@@ -25,9 +26,14 @@ complete -c mkedit -n '__fish_seen_subcommand_from edit' -s e -l expression -x -
 
 complete -c mkedit -n '__fish_seen_subcommand_from vars; and not __fish_seen_subcommand_from help' -l name -x -d 'Lists the assignments of this name alone, for targets or not'
 complete -c mkedit -n '__fish_seen_subcommand_from rules recipes; and not __fish_seen_subcommand_from help' -l target -x -d 'Lists what belongs to the rules for this target alone'
-complete -c mkedit -n '__fish_seen_subcommand_from edit vars rules recipes check caveats; and not __fish_seen_subcommand_from help' -l notes -d 'Says below a message why a file could not be opened, read or written'
-complete -c mkedit -n '__fish_seen_subcommand_from edit vars rules recipes check caveats session; and not __fish_seen_subcommand_from help' -F
-complete -c mkedit -n '__fish_seen_subcommand_from help' -a 'edit vars rules recipes check caveats explain session help'
+complete -c mkedit -n '__fish_seen_subcommand_from get; and not __fish_seen_subcommand_from help' -l nth -x -d 'Takes the N-th of several assignments of the name, from 1'
+complete -c mkedit -n '__fish_seen_subcommand_from edit vars rules recipes check caveats get; and not __fish_seen_subcommand_from help' -l notes -d 'Says below a message why a file could not be opened, read or written'
+complete -c mkedit -n '__fish_seen_subcommand_from edit vars rules recipes check caveats get session; and not __fish_seen_subcommand_from help' -F
+complete -c mkedit -n '__fish_seen_subcommand_from help' -a 'edit vars rules recipes check caveats get explain session help'
+# made by tools/texts: commands
+set -l script_commands set append add drop unset assign rule unrule depend depend-order undepend recipe recipe-insert recipe-set recipe-del recipe-replace recipe-remove rename nth all undo redo begin end cancel try or
+# made until here
+complete -c mkedit -n '__fish_seen_subcommand_from help' -a "$script_commands"
 # made by tools/texts: refusals
 set -l refusals BadArgument Reserved RecipePrefix NoSuch Ambiguous Absent Already Taken SharedRule Straddles OpenValue OpenLine OpenDefine Leans TooLong NothingToUndo NothingToRedo GroupOpen NoGroup NoMemory
 # made until here

@@ -11,6 +11,7 @@ _mkedit_commands() {
         'recipes:Lists the recipe lines of a makefile with their numbers'
         'check:Lists the lines of a makefile that are kept and not read inside'
         'caveats:Lists the lines of a makefile that make may read otherwise'
+        'get:Prints the value of a variable of a makefile'
         'explain:Says why a command is refused, and what to do then'
         'session:Answers commands and requests on one makefile, a line each'
         'help:Prints help for a command'
@@ -55,6 +56,29 @@ _mkedit_rules() {
         '--target=[list what belongs to the rules for this target alone]:target: '
 }
 
+_mkedit_get() {
+    _arguments -s \
+        '--nth=[take the N-th of several assignments of the name, from 1]:number: ' \
+        '--notes[say below a message why a file could not be opened, read or written]' \
+        '(-h --help)'{-h,--help}'[print help]' \
+        '1:name: ' \
+        '*:makefile:_files'
+}
+
+_mkedit_help() {
+    local -a words
+    # made by tools/texts: commands
+    words=(
+        set append add drop unset assign rule unrule depend depend-order undepend recipe
+        recipe-insert recipe-set recipe-del recipe-replace recipe-remove rename nth all undo redo
+        begin end cancel try or
+    )
+    # made until here
+    _alternative \
+        'commands:command:_mkedit_commands' \
+        "words:command of a script:(${words[*]})"
+}
+
 _mkedit_explain() {
     local -a refusals
     # made by tools/texts: refusals
@@ -90,9 +114,10 @@ _mkedit() {
         vars) _mkedit_vars ;;
         rules | recipes) _mkedit_rules ;;
         check | caveats) _mkedit_query ;;
+        get) _mkedit_get ;;
         explain) _mkedit_explain ;;
         session) _mkedit_session ;;
-        help) _arguments '1:command:_mkedit_commands' ;;
+        help) _arguments '1:command:_mkedit_help' ;;
     esac
 }
 

@@ -115,7 +115,8 @@ class Texts(InRoom):
         unread = shutil.ignore_patterns("out", "proofs", "must-fail")
         for name in self.FOLDERS:
             shutil.copytree(TOP / name, self.room / name, copy_function=os.symlink, ignore=unread)
-        os.symlink(TOP / "crates.txt", self.room / "crates.txt")
+        for name in ("crates.txt", "README.md"):
+            os.symlink(TOP / name, self.room / name)
 
     def change(self, name, old, new):
         path = self.room / name
@@ -134,6 +135,14 @@ class Texts(InRoom):
     def test_a_source_with_another_text_makes_its_documents_old(self):
         self.change(self.SOURCE, "Nothing has to be done.", "Nothing is to be done.")
         self.assert_old("docs/EDITS.md", "docs/mkedit-script.5")
+
+    def test_another_sentence_on_a_command_makes_its_documents_old(self):
+        self.change("crates/mkedit/src/command_texts.rt", "Takes an assignment away.", "Takes a line away.")
+        self.assert_old("README.md", "docs/EDITS.md", "docs/mkedit-script.5")
+
+    def test_a_command_without_a_text_is_told(self):
+        self.change("crates/mkedit/src/command_texts.rt", "ScriptCommand::Unset => UNSET,", "")
+        self.assert_old("crates/mkedit/src/script_command.rt")
 
     def test_another_name_makes_each_file_old(self):
         for name in (self.SOURCE, self.NUMBERS):

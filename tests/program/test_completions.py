@@ -7,11 +7,16 @@ these two are seldom there.
 import re
 import shutil
 import subprocess
+import sys
 
 from tests import TOP
 from tests.lib.checks import SECONDS
 from tests.lib.documents import refusals
 from tests.lib.rooms import RoomCase
+
+sys.path.insert(0, str(TOP / "tools"))
+# (below the line that says where it is)
+from commands import commands as commands_of_scripts  # noqa: E402
 
 FOLDER = TOP / "completions"
 COMMAND = re.compile(r"^  (\w+) {2}", re.M)
@@ -31,6 +36,7 @@ ZSH_FUNCTIONS = {
     "recipes": ("_rules", "_query"),
     "check": ("_query",),
     "caveats": ("_query",),
+    "get": ("_get",),
     "explain": ("_explain",),
     "session": ("_session",),
 }
@@ -80,7 +86,7 @@ def line_starts(room):
     """Beginnings of command lines, each with the words that have to be offered at its end."""
     yield ["mkedit"], commands(room), ""
     yield ["mkedit"], options(room), "-"
-    yield ["mkedit", "help"], commands(room), ""
+    yield ["mkedit", "help"], commands(room) | {it.word for it in commands_of_scripts()}, ""
     for command in sorted(commands(room) - {"help"}):
         yield ["mkedit", command], options(room, command), "-"
 
@@ -131,11 +137,11 @@ class Completions(RoomCase):
         there = files(self.room)
         for words, wanted, begun in line_starts(self.room):
             self.assertEqual(offered(self.room, words, begun), wanted, f"after {words}")
-        for words in (["edit"], ["edit", "script"], ["edit", "-k"], ["edit", "-o"], ["vars"]):
+        for words in (["edit"], ["edit", "script"], ["edit", "-k"], ["edit", "-o"], ["vars"], ["get", "CC"]):
             self.assertLessEqual(there, offered(self.room, ["mkedit", *words], ""), f"after {words}")
         self.assertEqual(offered(self.room, ["mkedit", "explain"], ""), names_of_refusals())
         # a depth is no file, nor is a name or a target
-        for words in (["edit", "-d"], ["vars", "--name"], ["rules", "--target"]):
+        for words in (["edit", "-d"], ["vars", "--name"], ["rules", "--target"], ["get", "--nth"]):
             self.assertFalse(there & offered(self.room, ["mkedit", *words], ""), words)
 
     def test_bash_completes_what_help_lists(self):

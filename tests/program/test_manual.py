@@ -102,7 +102,7 @@ class Manual(RoomCase):
 
     def test_the_manual_page_has_every_option_and_command_of_the_program(self):
         synopsis = page().partition(".Sh DESCRIPTION")[0]
-        for command in ("edit", "vars", "rules", "recipes", "check", "caveats", "explain", "session", "help"):
+        for command in ("edit", "vars", "rules", "recipes", "check", "caveats", "get", "explain", "session", "help"):
             self.assertIn(f".Cm {command}\n", synopsis)
         shown = self.room.run("--help").stdout.decode() + self.room.run("edit", "--help").stdout.decode()
         for short, long in re.findall(r"^  (?:-(\w),|   ) --([\w-]+)", shown, re.M):

@@ -9,7 +9,7 @@ use Rattle.clap.specs.declared.builder.command.Command.TheViews.{out-Command}
 use Rattle.clap.proofs.OnLiterals.{clap_on_literals}
 use Rattle.mk_command_line.specs.Commands.{asked_commands, has_none, program_with, shape_of_command}
 use Rattle.mk_command_line.specs.declared.command_name.CommandName.{CommandName}
-use Rattle.mk_command_line.specs.declared.command_name.CommandName.TheVariants.{Edit, Query, Explain, Session}
+use Rattle.mk_command_line.specs.declared.command_name.CommandName.TheVariants.{Edit, Query, Get, Explain, Session}
 use Rattle.mk_command_line.specs.declared.command_name.QueryName.TheVariants.{Vars, Rules, Recipes, Check, Caveats}
 
 pub with_argument : (old new : Command) (arg : Arg) (app : App) (rule : Rule) → AddsArg old arg new → arg.global ≡ false
@@ -30,6 +30,7 @@ program_is_simple (Some (Query Rules)) = refl
 program_is_simple (Some (Query Recipes)) = refl
 program_is_simple (Some (Query Check)) = refl
 program_is_simple (Some (Query Caveats)) = refl
+program_is_simple (Some Get) = refl
 program_is_simple (Some Explain) = refl
 program_is_simple (Some Session) = refl
 

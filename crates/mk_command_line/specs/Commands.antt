@@ -8,7 +8,7 @@ use Rattle.clap.specs.declared.builder.action.ArgAction.TheVariants.{Append, Set
 use Rattle.clap.specs.declared.builder.value_parser.ValueParser.TheVariants.{Unsigned}
 use Rattle.mk_command_line.specs.declared.request.TheConstants.{MAX_DEPTH}
 use Rattle.mk_command_line.specs.declared.command_name.CommandName.{CommandName}
-use Rattle.mk_command_line.specs.declared.command_name.CommandName.TheVariants.{Edit, Query, Explain, Session}
+use Rattle.mk_command_line.specs.declared.command_name.CommandName.TheVariants.{Edit, Query, Get, Explain, Session}
 use Rattle.mk_command_line.specs.declared.command_name.QueryName.{QueryName}
 use Rattle.mk_command_line.specs.declared.command_name.QueryName.TheVariants.{Vars, Rules, Recipes, Check, Caveats}
 
@@ -20,13 +20,14 @@ word_of (Query Rules) = codes "rules"
 word_of (Query Recipes) = codes "recipes"
 word_of (Query Check) = codes "check"
 word_of (Query Caveats) = codes "caveats"
+word_of Get = codes "get"
 word_of Explain = codes "explain"
 word_of Session = codes "session"
 
 -- all commands
 abbrev pub commands : List CommandName
 commands =
-    Edit ∷ Query Vars ∷ Query Rules ∷ Query Recipes ∷ Query Check ∷ Query Caveats ∷ Explain
+    Edit ∷ Query Vars ∷ Query Rules ∷ Query Recipes ∷ Query Check ∷ Query Caveats ∷ Get ∷ Explain
     ∷ Session ∷ []
 
 -- the command that a word names
@@ -123,6 +124,17 @@ target_rule = record (new_rule (codes "target")) {
   value_names = 1;
 }
 
+-- --nth N
+abbrev pub nth_rule : Rule
+nth_rule = record (new_rule (codes "nth")) {
+  long = Some (codes "nth");
+  value_names = 1;
+}
+
+-- NAME, which is required
+abbrev pub variable_rule : Rule
+variable_rule = record (new_rule (codes "NAME")) { required = true }
+
 -- REFUSAL, which is required
 abbrev pub refusal_rule : Rule
 refusal_rule = record (new_rule (codes "REFUSAL")) { required = true }
@@ -151,9 +163,14 @@ choice_of Recipes = target_rule ∷ []
 choice_of Check = []
 choice_of Caveats = []
 
+-- those of `get`
+abbrev pub get_options : List Rule
+get_options = nth_rule ∷ notes_rule ∷ []
+
 abbrev arguments_of : CommandName → List Rule
 arguments_of Edit = edit_options ++ script_rule ∷ file_rule ∷ []
 arguments_of (Query query) = choice_of query ++ notes_rule ∷ file_rule ∷ []
+arguments_of Get = get_options ++ variable_rule ∷ file_rule ∷ []
 arguments_of Explain = refusal_rule ∷ []
 arguments_of Session = depth_rule ∷ session_file_rule ∷ []
 

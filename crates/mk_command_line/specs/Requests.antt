@@ -10,7 +10,7 @@ use Rattle.clap.specs.Words.{Row, Text, all_of, first_of, one_of}
 use Rattle.clap.specs.Walk.{is_empty}
 use Rattle.mk_command_line.specs.Commands.{command_named}
 use Rattle.mk_command_line.specs.declared.command_name.CommandName.{CommandName}
-use Rattle.mk_command_line.specs.declared.command_name.CommandName.TheVariants.{Edit, Query, Explain, Session}
+use Rattle.mk_command_line.specs.declared.command_name.CommandName.TheVariants.{Edit, Query, Get, Explain, Session}
 use Rattle.mk_command_line.specs.declared.request.Input.{Input}
 use Rattle.mk_command_line.specs.declared.request.Input.TheVariants as input
 use Rattle.mk_command_line.specs.declared.request.Script.{Script}
@@ -19,6 +19,7 @@ use Rattle.mk_command_line.specs.declared.request.Output.{Output}
 use Rattle.mk_command_line.specs.declared.request.Output.TheVariants as output
 use Rattle.mk_command_line.specs.declared.request.EditWords.{EditWords}
 use Rattle.mk_command_line.specs.declared.request.QueryWords.{QueryWords}
+use Rattle.mk_command_line.specs.declared.request.GetWords.{GetWords}
 use Rattle.mk_command_line.specs.declared.request.SessionWords.{SessionWords}
 use Rattle.mk_command_line.specs.declared.command_name.QueryName.{QueryName}
 use Rattle.mk_command_line.specs.declared.command_name.QueryName.TheVariants.{Vars, Rules, Recipes, Check, Caveats}
@@ -75,9 +76,11 @@ IsFlag flag rows is_set = (one_of flag rows ≡ None → is_set ≡ false)
     × (one_of flag rows ≡ Some (codes "true") → is_set ≡ true)
 
 -- the number that decimal digits write
+abbrev pub IsNumber : Text → ℕ → Type 0
+IsNumber word number = (list_all is_ascii_digit word ≡ true) × (number ≡ digits_value 10 word)
+
 abbrev pub IsDepth : Option Text → ℕ → Type 0
-IsDepth (Some word) depth =
-    (list_all is_ascii_digit word ≡ true) × (depth ≡ digits_value 10 word)
+IsDepth (Some word) depth = IsNumber word depth
 IsDepth None depth = ⊥
 
 -- the lines of -e, and the words that are no option: the script and the makefiles. After -e each of
@@ -150,6 +153,20 @@ pub record AsksQuery (name : QueryName) (rows : List Row) (words : QueryWords) :
   pub notes : IsFlag (codes "notes") rows words.notes
   pub files : AreMakefiles (words_of (all_of (codes "FILE") rows)) words.files.items
 
+-- ---- the words of `get`
+
+-- the number of an option that may be left out
+abbrev pub IsNth : Option Text → Option ℕ → Type 0
+IsNth None None = ⊤
+IsNth (Some word) (Some nth) = IsNumber word nth
+IsNth _ _ = ⊥
+
+pub record AsksGet (rows : List Row) (words : GetWords) : Type 0 where
+  pub nth : IsNth (first_of (codes "nth") rows) words.nth
+  pub name : first_of (codes "NAME") rows ≡ Some words.name.now
+  pub notes : IsFlag (codes "notes") rows words.notes
+  pub files : AreMakefiles (words_of (all_of (codes "FILE") rows)) words.files.items
+
 -- ---- the words of a session
 
 pub record AsksSession (rows : List Row) (words : SessionWords) : Type 0 where
@@ -164,6 +181,7 @@ module _ {R E : Type 0} (reads : Text → Result R E → Type 0) where
   abbrev AsksByCommand : Option CommandName → List Row → Request R → Type 0
   AsksByCommand (Some Edit) rows (request.Edit words) = AsksEdit rows words
   AsksByCommand (Some (Query query)) rows (request.Query words) = AsksQuery query rows words
+  AsksByCommand (Some Get) rows (request.Get words) = AsksGet rows words
   AsksByCommand (Some Explain) rows (request.Explain refusal) =
       (word : Text) × (first_of (codes "REFUSAL") rows ≡ Some word) × reads word (Ok refusal)
   AsksByCommand (Some Session) rows (request.Session words) = AsksSession rows words

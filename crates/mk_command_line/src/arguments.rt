@@ -2,8 +2,8 @@
 ghost use Rattle.std.specs.Prelude.{◌≡◌, IfOk, false};
 ghost use Rattle.clap.specs.Words.{rule_of};
 ghost use Rattle.mk_command_line.specs.Commands.{backup_rule, depth_rule, diff_rule, expression_rule, file_rule};
-ghost use Rattle.mk_command_line.specs.Commands.{in_place_rule, keep_going_rule, name_rule, notes_rule, output_rule};
-ghost use Rattle.mk_command_line.specs.Commands.{refusal_rule, script_rule, session_file_rule, target_rule};
+ghost use Rattle.mk_command_line.specs.Commands.{in_place_rule, keep_going_rule, name_rule, notes_rule, nth_rule, output_rule};
+ghost use Rattle.mk_command_line.specs.Commands.{refusal_rule, script_rule, session_file_rule, target_rule, variable_rule};
 
 use crate::request::MAX_DEPTH;
 use clap::builder::ValueParser;
@@ -36,6 +36,10 @@ pub(crate) const NOTES: &str = "notes";
 pub(crate) const NAME: &str = "name";
 
 pub(crate) const TARGET: &str = "target";
+
+pub(crate) const NTH: &str = "nth";
+
+pub(crate) const VARIABLE: &str = "NAME";
 
 pub(crate) const REFUSAL: &str = "REFUSAL";
 
@@ -176,6 +180,27 @@ pub(crate) fn target<'a>(alloc: Global) -> Arg<'a>
         .long("target")
         .value_name("TARGET")
         .help("Lists what belongs to the rules for TARGET alone")
+}
+
+/// Which of several assignments is meant.
+pub(crate) fn nth<'a>(alloc: Global) -> Arg<'a>
+    ensures rule { rule_of result ≡ nth_rule }
+    ensures local { result.global ≡ false }
+{
+    Arg::new(alloc, NTH)
+        .long("nth")
+        .value_name("N")
+        .help("Takes the N-th of several assignments of NAME, from 1")
+}
+
+/// The variable whose value is asked for.
+pub(crate) fn variable<'a>(alloc: Global) -> Arg<'a>
+    ensures rule { rule_of result ≡ variable_rule }
+    ensures local { result.global ≡ false }
+{
+    Arg::new(alloc, VARIABLE)
+        .required(true)
+        .help("The name of the variable")
 }
 
 /// The word that calls a refusal.

@@ -24,6 +24,8 @@ pub(crate) enum CommandName {
     Edit,
     /// A query of a makefile.
     Query(QueryName),
+    /// The value of a variable.
+    Get,
     /// What is said of a refusal.
     Explain,
     /// A session over a makefile.
@@ -31,13 +33,14 @@ pub(crate) enum CommandName {
 }
 
 /// All commands, in the order in which the help lists them.
-pub(crate) const COMMANDS: [CommandName; 8] = [
+pub(crate) const COMMANDS: [CommandName; 9] = [
     CommandName::Edit,
     CommandName::Query(QueryName::Vars),
     CommandName::Query(QueryName::Rules),
     CommandName::Query(QueryName::Recipes),
     CommandName::Query(QueryName::Check),
     CommandName::Query(QueryName::Caveats),
+    CommandName::Get,
     CommandName::Explain,
     CommandName::Session,
 ];
@@ -53,6 +56,8 @@ const RECIPES: &str = "recipes";
 const CHECK: &str = "check";
 
 const CAVEATS: &str = "caveats";
+
+const GET: &str = "get";
 
 const EXPLAIN: &str = "explain";
 
@@ -70,6 +75,7 @@ impl CommandName {
             CommandName::Query(QueryName::Recipes) => RECIPES,
             CommandName::Query(QueryName::Check) => CHECK,
             CommandName::Query(QueryName::Caveats) => CAVEATS,
+            CommandName::Get => GET,
             CommandName::Explain => EXPLAIN,
             CommandName::Session => SESSION,
         }
@@ -92,6 +98,8 @@ pub(crate) fn command_named(word: &str) -> Option<CommandName>
         Some(CommandName::Query(QueryName::Check))
     } else if word == CAVEATS {
         Some(CommandName::Query(QueryName::Caveats))
+    } else if word == GET {
+        Some(CommandName::Get)
     } else if word == EXPLAIN {
         Some(CommandName::Explain)
     } else if word == SESSION {

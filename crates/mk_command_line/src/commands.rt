@@ -2,12 +2,12 @@
 ghost use Rattle.std.specs.Prelude.{◌≡◌, ◌++◌, IfOk, false, map, [], string_bytes};
 ghost use Rattle.clap.specs.Words.{app_of, with_subcommand};
 ghost use Rattle.clap.specs.declared.builder.command.Command.TheViews.{out-Command as fields_of};
-ghost use Rattle.mk_command_line.specs.Commands.{command_app, commands, edit_options, leaf, output_options, run_options};
+ghost use Rattle.mk_command_line.specs.Commands.{command_app, commands, edit_options, get_options, leaf, output_options, run_options};
 ghost use Rattle.mk_command_line.specs.Commands.{choice_of, first_command, program_for, program_with, shape_of_command, word_of};
 
 use crate::arguments::{
-    backup, depth, diff, expression, file, in_place, keep_going, name, notes, output, refusal,
-    script, session_file, target,
+    backup, depth, diff, expression, file, in_place, keep_going, name, notes, nth, output, refusal,
+    script, session_file, target, variable,
 };
 use crate::command_name::{COMMANDS, CommandName, QueryName, command_named};
 use crate::help;
@@ -88,6 +88,24 @@ fn with_choice<'a>(alloc: Global, query: QueryName) -> Result<Command<'a>, Alloc
     }
 }
 
+// `get` with its options.
+fn get_options<'a>(alloc: Global) -> Result<Command<'a>, AllocError>
+    ensures app { IfOk result (λ get. app_of get ≡ leaf (word_of CommandName.Get) get_options) }
+    ensures local { IfOk result (λ get. (fields_of get).has_globals ≡ false) }
+{
+    titled(alloc, CommandName::Get)
+        .arg(nth(alloc))?
+        .arg(notes(alloc))
+}
+
+// `get`: the value of a variable.
+fn get<'a>(alloc: Global) -> Result<Command<'a>, AllocError>
+    ensures app { IfOk result (λ get. app_of get ≡ command_app CommandName.Get) }
+    ensures local { IfOk result (λ get. (fields_of get).has_globals ≡ false) }
+{
+    get_options(alloc)?.arg(variable(alloc))?.arg(file(alloc))
+}
+
 // `session`: a makefile that is edited step by step.
 fn session<'a>(alloc: Global) -> Result<Command<'a>, AllocError>
     ensures app { IfOk result (λ session. app_of session ≡ command_app CommandName.Session) }
@@ -108,6 +126,7 @@ fn command<'a>(alloc: Global, name: CommandName) -> Result<Command<'a>, AllocErr
         CommandName::Query(query) => with_choice(alloc, query)?
             .arg(notes(alloc))?
             .arg(file(alloc)),
+        CommandName::Get => get(alloc),
         CommandName::Explain => titled(alloc, name).arg(refusal(alloc)),
         CommandName::Session => session(alloc),
     }

@@ -9,7 +9,7 @@ Examples:
     mkedit edit -e 'set CC clang' config.mk      does so by the command that is given
     mkedit vars config.mk                        lists the assignments of config.mk
 
-`mkedit help COMMAND` has an example of each command.
+`mkedit help COMMAND` has an example of each command, and of each command of a script: `mkedit help set`.
 ";
 
 // What `edit` does, in a line.
@@ -32,7 +32,7 @@ PLACE is bottom, before-var NAME, after-var NAME or before-rule TARGET. OP is on
 quotes. `nth N` before a command picks the N-th of several lines that it could mean. `all` before
 set, append, add or drop means all of them. `try` before an edit: it is no refusal that there is nothing
 to do. `or` before an edit: an alternative of the edit in the line above, for the case that there is
-nothing on which that one is to be made.
+nothing on which that one is to be made. `mkedit help set` says what `set` does, and so for each word.
 
 The text goes to standard output, or to OUT, which may be FILE. Where a command is refused, a line on
 standard error says which one and why, and no text goes out, unless -k is given. `mkedit explain 4`,
@@ -135,6 +135,24 @@ prints
 since make skips `X = 1` where DEBUG is not set, and then the tab begins a recipe line of all.
 ";
 
+// What `get` does, in a line.
+const ABOUT_GET: &str = "Prints the value of a variable of a makefile";
+
+// Below the help of `get`.
+const GET: &str = "\
+The value is that of the assignment that the command `set` of a script would change: of the only one of
+NAME, or of the one that --nth says. It has its folds joined, and no comment. A value that is empty gives
+an empty line. Where `set` would be refused for NAME or for its line, `get` is refused too: a line on
+standard error says why, and the status is 1.
+
+Example: with `ifdef DEBUG`, `CC = gcc -g  # slow`, `else`, `CC = gcc`, `endif` and `AR = ar` in config.mk,
+    mkedit get AR config.mk
+prints `ar`,
+    mkedit get --nth 1 CC config.mk
+prints `gcc -g`, and without `--nth 1` it says
+    refused 5 Ambiguous 2
+";
+
 // What `explain` does, in a line.
 const ABOUT_EXPLAIN: &str = "Says why a command is refused, and what to do then";
 
@@ -184,6 +202,7 @@ pub(crate) fn about<'a>(name: CommandName) -> &'a str {
         CommandName::Query(QueryName::Recipes) => ABOUT_RECIPES,
         CommandName::Query(QueryName::Check) => ABOUT_CHECK,
         CommandName::Query(QueryName::Caveats) => ABOUT_CAVEATS,
+        CommandName::Get => ABOUT_GET,
         CommandName::Explain => ABOUT_EXPLAIN,
         CommandName::Session => ABOUT_SESSION,
     }
@@ -198,6 +217,7 @@ pub(crate) fn example<'a>(name: CommandName) -> &'a str {
         CommandName::Query(QueryName::Recipes) => RECIPES,
         CommandName::Query(QueryName::Check) => CHECK,
         CommandName::Query(QueryName::Caveats) => CAVEATS,
+        CommandName::Get => GET,
         CommandName::Explain => EXPLAIN,
         CommandName::Session => SESSION,
     }

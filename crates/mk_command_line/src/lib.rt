@@ -20,5 +20,6 @@ pub mod request;
 
 pub use reading::read_request;
 pub use request::{
-    Backup, EditWords, Input, MAX_DEPTH, Output, Query, QueryWords, Request, Script, SessionWords,
+    Backup, EditWords, GetWords, Input, MAX_DEPTH, Output, Query, QueryWords, Request, Script,
+    SessionWords,
 };

@@ -6,18 +6,18 @@ ghost use Rattle.clap.specs.Words.{all_of, app_of, first_of, found_of, kind_of, 
 ghost use Rattle.clap.specs.Words.{subcommand_of, subcommand_rows_of, takes};
 ghost use Rattle.clap.specs.declared.error.kind.ErrorKind.TheVariants.{OutOfMemory};
 ghost use Rattle.mk_command_line.specs.Commands.{program_for};
-ghost use Rattle.mk_command_line.specs.Requests.{AreApart, Asks, AsksEdit, AsksQuery, AsksSession, GoesTo, IsDepth, IsFlag};
+ghost use Rattle.mk_command_line.specs.Requests.{AreApart, Asks, AsksEdit, AsksGet, AsksQuery, AsksSession, GoesTo, IsDepth, IsFlag};
 ghost use Rattle.mk_command_line.specs.Requests.{AreMakefiles, ReadsFrom, file_named, file_of, words_from};
-ghost use Rattle.mk_command_line.specs.Requests.{IsAsked, IsBackup, is_alone, is_named, is_query, is_suffix};
+ghost use Rattle.mk_command_line.specs.Requests.{IsAsked, IsBackup, IsNth, IsNumber, is_alone, is_named, is_query, is_suffix};
 
 use crate::arguments::{
-    BACKUP, DEPTH, DIFF, EXPRESSION, FILE, IN_PLACE, KEEP_GOING, NAME, NOTES, OUTPUT, REFUSAL,
-    SCRIPT, TARGET,
+    BACKUP, DEPTH, DIFF, EXPRESSION, FILE, IN_PLACE, KEEP_GOING, NAME, NOTES, NTH, OUTPUT, REFUSAL,
+    SCRIPT, TARGET, VARIABLE,
 };
 use crate::command_name::{CommandName, QueryName, command_named};
 use crate::commands::program_for;
 use crate::request::{
-    Backup, EditWords, Input, Output, Query, QueryWords, Request, Script, SessionWords,
+    Backup, EditWords, GetWords, Input, Output, Query, QueryWords, Request, Script, SessionWords,
 };
 use clap::error::ErrorKind;
 use clap::{ArgMatches, Command};
@@ -28,6 +28,11 @@ use std::str::FromStr;
 const STANDARD: &str = "-";
 
 const BAD_DEPTH: &str = "invalid value for '--depth <DEPTH>': only decimal digits may stand there";
+
+const BAD_NTH: &str =
+    "invalid value for '--nth <N>': it has to be a number in decimal digits, up to 4294967295";
+
+const NO_NAME: &str = "a NAME is required";
 
 const NO_COMMAND: &str = "a command is required";
 
@@ -81,17 +86,36 @@ fn has_digits_alone(word: &str) -> bool
     word.bytes().all(|byte| byte.is_ascii_digit())
 }
 
-// The depth: clap takes a `+` before the digits, and it is no digit.
-fn depth_of(matches: &ArgMatches<'_>) -> Option<u32>
-    ensures { IfSome result (IsDepth (first_of (codes "depth") (rows_of (found_of matches.now)))) }
+// The number that decimal digits write: a parse takes a `+` before them too, and it is no digit.
+fn number(word: &str) -> Option<u32>
+    ensures { IfSome result (IsNumber word.now) }
 {
-    let word = value(matches, DEPTH)?;
     if !has_digits_alone(word) {
         return None;
     }
     match word.parse() {
-        Ok(depth) => Some(depth),
+        Ok(number) => Some(number),
         Err(_) => None,
+    }
+}
+
+// The depth.
+fn depth_of(matches: &ArgMatches<'_>) -> Option<u32>
+    ensures { IfSome result (IsDepth (first_of (codes "depth") (rows_of (found_of matches.now)))) }
+{
+    number(value(matches, DEPTH)?)
+}
+
+// Which of several assignments is meant, if the words say it; or what is wrong with the number.
+fn nth_of(matches: &ArgMatches<'_>) -> Result<Option<u32>, &'static str>
+    ensures { IfOk result (IsNth (first_of (codes "nth") (rows_of (found_of matches.now)))) }
+{
+    let Some(word) = value(matches, NTH) else {
+        return Ok(None);
+    };
+    match number(word) {
+        Some(nth) => Ok(Some(nth)),
+        None => Err(BAD_NTH),
     }
 }
 
@@ -321,6 +345,31 @@ fn query_words<'a>(
     })
 }
 
+// What the words of `get` ask for.
+fn get_words<'a>(
+    alloc: Global,
+    command: &mut Command<'a>,
+    matches: &ArgMatches<'a>,
+) -> Result<GetWords<'a>, clap::Error>
+    ensures { IfOk result (AsksGet (rows_of (found_of matches.now))) }
+{
+    let nth = match nth_of(matches) {
+        Ok(nth) => nth,
+        Err(fault) => return Err(command.error(ErrorKind::ValueValidation, fault)?),
+    };
+    let Some(name) = value(matches, VARIABLE) else {
+        return Err(command.error(ErrorKind::MissingRequiredArgument, NO_NAME)?);
+    };
+    let has_notes = is_set(matches, NOTES);
+    let inputs = makefiles(alloc, None, values(matches, FILE))?;
+    Ok(GetWords {
+        nth,
+        name,
+        notes: has_notes,
+        files: inputs,
+    })
+}
+
 // What the words of `session` ask for.
 fn session_words<'a>(
     command: &mut Command<'a>,
@@ -375,6 +424,7 @@ where
         Some(CommandName::Query(query)) => {
             Ok(Request::Query(query_words(alloc, query, matches)?))
         }
+        Some(CommandName::Get) => Ok(Request::Get(get_words(alloc, command, matches)?)),
         Some(CommandName::Explain) => Ok(Request::Explain(explained(command, matches)?)),
         Some(CommandName::Edit) => Ok(Request::Edit(edit_words(alloc, command, matches)?)),
         Some(CommandName::Session) => Ok(Request::Session(session_words(command, matches)?)),
@@ -390,7 +440,7 @@ where
 /// What `clap` finds wrong with them, which has its text, and help or the version where one is
 /// asked for; a depth that is not written in decimal digits alone, or is not from 1 to 10,000;
 /// a script and a makefile that are both standard input; a
-/// word that calls no refusal; several makefiles without `-i`; `-i` beside `-o` or without the name of
+/// word that calls no refusal; a number of an assignment that is none; several makefiles without `-i`; `-i` beside `-o` or without the name of
 /// a file; a suffix that is empty or has a `/`, or that
 /// stands without `-i`; a session over `-`. A query that `clap` takes fails for want of memory alone.
 pub fn read_request<'a, R: FromStr + Drop>(

@@ -83,6 +83,19 @@ pub struct QueryWords<'a> {
     pub files: Vec<Input<'a>>,
 }
 
+/// What the words of `mkedit get` say.
+#[derive(Drop)]
+pub struct GetWords<'a> {
+    /// Which of several assignments is meant, from 1.
+    pub nth: Option<u32>,
+    /// The name of the variable.
+    pub name: &'a str,
+    /// Whether a message has notes below it.
+    pub notes: bool,
+    /// The makefiles, one or more.
+    pub files: Vec<Input<'a>>,
+}
+
 /// What the words of `mkedit session` say.
 #[derive(Clone, Copy)]
 pub struct SessionWords<'a> {
@@ -99,6 +112,8 @@ pub enum Request<'a, R> {
     Edit(EditWords<'a>),
     /// A query of makefiles.
     Query(QueryWords<'a>),
+    /// The value of a variable in makefiles.
+    Get(GetWords<'a>),
     /// What is said of a refusal.
     Explain(R),
     /// A session over a makefile.

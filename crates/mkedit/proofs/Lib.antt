@@ -1,5 +1,6 @@
--- Lemmas on refusals
+-- Lemmas on refusals, and on commands of a script
 mod RefusalLemmas
+mod CommandLemmas
 mod UntoldLemmas
 -- Lemmas on sources
 mod ComparisonLemmas

@@ -3,6 +3,7 @@
 pub mod QueryTexts
 pub mod Destinations
 pub mod Explanations
+pub mod ScriptCommands
 pub mod Notes
 pub mod MistakeNotes
 pub mod Endings

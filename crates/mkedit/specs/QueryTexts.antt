@@ -1,11 +1,18 @@
--- What a query prints of the text of a makefile, and how it ends where nobody reads on.
+-- What a query prints of the text of a makefile, and how it ends where nobody reads on; the value that
+-- `get` prints, and how it is refused.
 -- Told in docs/EDITS.md, "Queries".
-use Rattle.std.specs.Prelude.{ℕ, List, Bool, true, Some, None}
+use Rattle.std.specs.Prelude.{ℕ, List, [], ◌++◌, Bool, true, Option, Some, None, Result, Ok, Err, codes}
 use Rattle.mk_queries.specs.Queries.{vars_text, vars_named_text, rules_text, rules_for_text, recipes_text, recipes_for_text, check_text}
 use Rattle.mk_queries.specs.Caveats.{caveats_text}
+use Rattle.mk_edit_language.specs.declared.refusal.Refusal.{Refusal}
+use Rattle.mk_lookup.specs.Lookups.{looked_up}
 use Rattle.mk_run.specs.declared.outcome.Outcome.{Outcome}
 use Rattle.mk_run.specs.declared.outcome.Outcome.TheVariants.{Done, Write}
 use Rattle.mk_command_line.specs.declared.request.Query.{Query}
+use Rattle.mkedit.specs.declared.question.Question.{Question}
+use Rattle.mkedit.specs.declared.question.Question.TheVariants as question
+use Rattle.mkedit.specs.declared.question.Found.{Found}
+use Rattle.mkedit.specs.declared.question.Found.TheVariants as found
 use Rattle.mk_command_line.specs.declared.request.Query.TheVariants.{Vars, Rules, Recipes, Check, Caveats}
 
 abbrev pub query_text : Query → List ℕ → List ℕ
@@ -17,6 +24,30 @@ query_text (Recipes None) text = recipes_text text
 query_text (Recipes (Some target)) text = recipes_for_text target.now text
 query_text Check text = check_text text
 query_text Caveats text = caveats_text text
+
+-- a value and the end of its line; nothing where there is a refusal
+abbrev value_line : Result (List ℕ) Refusal → List ℕ
+value_line (Ok value) = value ++ codes "\n"
+value_line (Err refusal) = []
+
+abbrev refusal_in : Result (List ℕ) Refusal → Option Refusal
+refusal_in (Ok value) = None
+refusal_in (Err refusal) = Some refusal
+
+-- what is printed for a question
+abbrev pub answer_text : Question → List ℕ → List ℕ
+answer_text (question.Lines query) text = query_text query text
+answer_text (question.Value nth name) text = value_line (looked_up text nth name.now)
+
+-- the refusal of a question, if it is refused
+abbrev pub answer_refusal : Question → List ℕ → Option Refusal
+answer_refusal (question.Lines query) text = None
+answer_refusal (question.Value nth name) text = refusal_in (looked_up text nth name.now)
+
+-- what is printed of what is found for a question
+abbrev pub found_text : Found → List ℕ → List ℕ
+found_text (found.Lines query) text = query_text query text
+found_text (found.Value value) text = value.now ++ codes "\n"
 
 -- The outcome of a query by how its print ended, and whether a write failed since nobody reads the
 -- output any more. Who reads no more has what is wanted: the query is done.

@@ -5,8 +5,10 @@
 //! - `diff`: the diff of a makefile and its text, in place of that text, by [`mk_diff`].
 //! - `several`: a script over several makefiles, by [`mk_run::run_steps`].
 //! - `destination`: where the text of a makefile goes.
-//! - `query`: what a makefile has, by [`mk_queries`].
+//! - `query`: what a makefile has, by [`mk_queries`] and [`mk_lookup`]; `question`: what is asked of it,
+//!   and what is found.
 //! - `explain`: why a command is refused; `explanations` has the texts.
+//! - `help`: what a command of a script does; `script_command` has the commands, `command_texts` the texts.
 //! - `files`: files beside the standard streams.
 //! - `noted`: readers and writers that remember why they failed.
 //! - `kept`: a source whose bytes are kept; `mistakes`: the note on a line of a script that is no command.
@@ -17,6 +19,7 @@
 //! - `session`: a makefile that is edited step by step, by [`mk_prompt`].
 #![tactic(auto)]
 
+mod command_texts;
 mod destination;
 mod diff;
 mod edit;
@@ -24,6 +27,7 @@ mod ending;
 mod explain;
 mod explanations;
 mod files;
+mod help;
 mod in_place;
 mod kept;
 mod mistakes;
@@ -32,6 +36,8 @@ mod noted;
 mod notes;
 mod out_file;
 mod query;
+mod question;
+mod script_command;
 mod session;
 mod several;
 
@@ -39,6 +45,7 @@ use ending::{BAD_COMMAND_LINE, End, answered, ended};
 use explain::CalledRefusal;
 use mk_command_line::{Request, read_request};
 use mk_run::Outcome;
+use question::Question;
 use std::io::ErrorKind;
 use std::process::ExitCode;
 
@@ -63,9 +70,19 @@ fn words(rt: &HostRuntime) -> Result<Vec<String>, ExitCode> {
 
 // Does what the command line asks for.
 fn done(rt: &HostRuntime, words: &[String]) -> ExitCode {
+    if let Some(command) = help::asked_command(words) {
+        return ended(rt, &End::of(help::help(rt, command)), false);
+    }
     match read_request(rt.alloc(), words) {
         Ok(Request::Edit(words)) => edit::edit(rt, &words),
-        Ok(Request::Query(words)) => query::ask(rt, &words),
+        Ok(Request::Query(words)) => {
+            let question = Question::Lines(words.query);
+            query::ask(rt, question, words.files.as_slice(), words.notes)
+        }
+        Ok(Request::Get(words)) => {
+            let question = Question::Value(words.nth, words.name);
+            query::ask(rt, question, words.files.as_slice(), words.notes)
+        }
         Ok(Request::Explain(CalledRefusal(refusal))) => {
             ended(rt, &End::of(explain::explain(rt, &refusal)), false)
         }

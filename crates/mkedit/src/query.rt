@@ -1,26 +1,29 @@
 //! `mkedit vars`, `mkedit rules`, `mkedit recipes`, `mkedit check` and `mkedit caveats`: what a
-//! makefile has, a line for each thing.
-ghost use Rattle.std.specs.Prelude.{◌≡◌, ◌↔◌, ◌<◌, ◌+◌, ◌||◌, ℕ, List, IsTrue, IfOk, IfErr, IfSome, OnOk, OnErr, false, true, length, is_ok};
+//! makefile has, a line for each thing; and `mkedit get`: the value of a variable.
+ghost use Rattle.std.specs.Prelude.{◌≡◌, ◌↔◌, ◌<◌, ◌+◌, ◌||◌, ℕ, IsTrue, IfSome, OnOk, Err, None, Some, false, true, length, is_ok};
 ghost use Rattle.std.specs.Io.KnownBytes.{Appends};
 ghost use Rattle.mk_lines.specs.Limits.{max_text};
-ghost use Rattle.mk_lines.specs.Device.{AppendsPrefix, Writes};
+ghost use Rattle.mk_lines.specs.Device.{AppendsPrefix};
 ghost use Rattle.mk_tree.specs.LocatedLines.{located_text};
 ghost use Rattle.mk_tree.specs.Documents.{IsFaithful, IsTooDeep};
+ghost use Rattle.mk_edit_language.specs.declared.refusal.Refusal.{Refusal};
+ghost use Rattle.mk_run.specs.Report.{refusal_text};
 ghost use Rattle.mk_run.specs.RunEnds.{PutsOut, PutsOutIf, ReadsOnce};
-ghost use Rattle.mkedit.specs.QueryTexts.{query_outcome, query_text};
+ghost use Rattle.mkedit.specs.declared.query.Unanswered.TheVariants as unanswered;
+ghost use Rattle.mkedit.specs.QueryTexts.{answer_refusal, answer_text, found_text, query_outcome};
 
 use crate::destination::name_of;
 use crate::ending::{CANNOT_OPEN, End, Statuses, finished, tell_not_opened};
 use crate::files::{CannotOpen, open};
 use crate::noted::Noted;
 use crate::notes::{STANDARD_INPUT, STANDARD_OUTPUT};
+use crate::question::{Found, Question, found_for, put_found};
 use crate::several::{kept_outcome, put_named, tell_named};
-use mk_command_line::{Input, Query, QueryWords};
+use mk_command_line::Input;
 use mk_lines::source::{BUFFER, MAX_TEXT, read_all};
 use mk_lines::{ByteSink, ByteSource, Fault, StdSink, StdSource};
-use mk_queries::{caveats, check, recipes, recipes_for, rules, rules_for, vars, vars_named};
-use mk_run::Outcome;
-use mk_session::Session;
+use mk_run::{Outcome, write_refusal};
+use mk_session::{Refusal, Session};
 use mk_tree::Doc;
 use std::alloc::{Allocator, Global};
 use std::io::{ErrorKind, Read};
@@ -30,51 +33,70 @@ use std::process::ExitCode;
 // A session that is only looked at: the least depth there is.
 const DEPTH: u32 = 1;
 
-/// Writes the answer.
-///
-/// # Errors
-///
-/// [`Fault::Write`] where the sink failed.
-pub(crate) fn put_lines<A: Allocator, W: ByteSink>(
-    query: Query<'_>,
-    doc: &Doc<A>,
-    out: &mut W,
-) -> Result<(), Fault>
-    requires faithful { IsFaithful doc.now }
-    requires works { W.failed out.old ≡ false }
-    ensures { Writes W.contents W.failed W.flushes out.old out.new result
-        (query_text query.entry (located_text doc.now)) }
-{
-    match query {
-        Query::Vars(None) => vars(doc, out),
-        Query::Vars(Some(name)) => vars_named(doc, name.as_bytes(), out),
-        Query::Rules(None) => rules(doc, out),
-        Query::Rules(Some(target)) => rules_for(doc, target.as_bytes(), out),
-        Query::Recipes(None) => recipes(doc, out),
-        Query::Recipes(Some(target)) => recipes_for(doc, target.as_bytes(), out),
-        Query::Check => check(doc, out),
-        Query::Caveats => caveats(doc, out),
+/// Why a question has no answer.
+#[derive(Clone, Copy, Debug, PartialEq, Eq)]
+pub enum Unanswered {
+    /// A device, a limit or memory ended it.
+    Fault(Fault),
+    /// `set` would be refused so for the name that it gives.
+    Refused(Refusal),
+}
+
+impl From<Fault> for Unanswered {
+    ghost from_gives = { λ fault answer. answer ≡ unanswered.Fault fault };
+
+    fn from(fault: Fault) -> Unanswered {
+        Unanswered::Fault(fault)
     }
 }
 
-// Writes the answer, and flushes it once.
+// Writes what is found, and flushes it once.
 fn put_out<A: Allocator, W: ByteSink>(
-    query: Query<'_>,
+    found: Found<'_>,
     doc: &Doc<A>,
     out: &mut W,
 ) -> Result<(), Fault>
     requires faithful { IsFaithful doc.now }
     requires works { W.failed out.old ≡ false }
     ensures { PutsOut W.contents W.failed W.flushes W.pending out.old out.new result
-        (query_text query.entry (located_text doc.now)) }
+        (found_text found.entry (located_text doc.now)) }
 {
-    put_lines(query, doc, out)?;
+    put_found(found, doc, out)?;
     out.flush()
+}
+
+// Writes the answer that a document has, and flushes it once.
+fn put_answer<A: Allocator, W: ByteSink>(
+    question: Question<'_>,
+    doc: &Doc<A>,
+    out: &mut W,
+) -> Result<(), Unanswered>
+    requires faithful { IsFaithful doc.now }
+    requires works { W.failed out.old ≡ false }
+    ensures whole { OnOk result (Appends (W.contents out.old) (W.contents out.new)
+        (answer_text question.entry (located_text doc.now))) }
+    ensures prefix { AppendsPrefix (W.contents out.old) (W.contents out.new)
+        (answer_text question.entry (located_text doc.now)) }
+    ensures granted { OnOk result
+        (answer_refusal question.entry (located_text doc.now) ≡ None) }
+    ensures refused { (refusal : Refusal) → result ≡ Err (Unanswered.Refused refusal)
+        → answer_refusal question.entry (located_text doc.now) ≡ Some refusal }
+    ensures fault { (fault : Fault) → result ≡ Err (Unanswered.Fault fault) → fault ≡ Fault.Write }
+    ensures write { result ≡ Err (Unanswered.Fault Fault.Write) ↔ W.failed out.new ≡ true }
+    ensures out { PutsOutIf W.failed W.flushes W.pending out.old out.new (is_ok result) }
+{
+    match found_for(question, doc) {
+        Ok(found) => Ok(put_out(found, doc, out)?),
+        Err(refusal) => Err(Unanswered::Refused(refusal)),
+    }
 }
 
 /// Reads a makefile to its end, and writes the answer, which it flushes once.
 ///
 /// # Errors
+///
+/// [`Unanswered::Refused`] where `set` would be refused so for its name or its line, and nothing was
+/// written or flushed. [`Unanswered::Fault`]:
 ///
 /// - [`Fault::Read`] where a read answered it.
 /// - [`Fault::TooLong`] where the makefile has more than 16,777,216 bytes.
@@ -84,10 +106,10 @@ fn put_out<A: Allocator, W: ByteSink>(
 ///   the answer is out then; after any other fault nothing was written or flushed.
 pub fn answer<A, R, W>(
     alloc: A,
-    query: Query<'_>,
+    question: Question<'_>,
     makefile: &mut R,
     out: &mut W,
-) -> Result<(), Fault>
+) -> Result<(), Unanswered>
 where
     A: Allocator + Copy,
     R: ByteSource,
@@ -95,15 +117,20 @@ where
     requires makefile_works { R.failed makefile.old ≡ false }
     requires out_works { W.failed out.old ≡ false }
     ensures whole { OnOk result (IfSome (R.remaining makefile.old) (λ text.
-        Appends (W.contents out.old) (W.contents out.new) (query_text query.entry text))) }
+        Appends (W.contents out.old) (W.contents out.new) (answer_text question.entry text))) }
     ensures prefix { IfSome (R.remaining makefile.old) (λ text.
-        AppendsPrefix (W.contents out.old) (W.contents out.new) (query_text query.entry text)) }
-    ensures read { result ≡ Err Fault.Read ↔ R.failed makefile.new ≡ true }
-    ensures write { result ≡ Err Fault.Write ↔ W.failed out.new ≡ true }
-    ensures depth { result ≡ Err Fault.BadDepth → ⊥ }
-    ensures too_long { result ≡ Err Fault.TooLong
+        AppendsPrefix (W.contents out.old) (W.contents out.new) (answer_text question.entry text)) }
+    ensures granted { OnOk result (IfSome (R.remaining makefile.old) (λ text.
+        answer_refusal question.entry text ≡ None)) }
+    ensures refused { (refusal : Refusal) → result ≡ Err (Unanswered.Refused refusal)
+        → IfSome (R.remaining makefile.old) (λ text.
+        answer_refusal question.entry text ≡ Some refusal) }
+    ensures read { result ≡ Err (Unanswered.Fault Fault.Read) ↔ R.failed makefile.new ≡ true }
+    ensures write { result ≡ Err (Unanswered.Fault Fault.Write) ↔ W.failed out.new ≡ true }
+    ensures depth { result ≡ Err (Unanswered.Fault Fault.BadDepth) → ⊥ }
+    ensures too_long { result ≡ Err (Unanswered.Fault Fault.TooLong)
         → IfSome (R.remaining makefile.old) (λ text. max_text < length text) }
-    ensures too_deep { result ≡ Err Fault.TooDeep
+    ensures too_deep { result ≡ Err (Unanswered.Fault Fault.TooDeep)
         → IfSome (R.remaining makefile.old) (λ text. IsTooDeep text) }
     ensures shallow { OnOk result (IfSome (R.remaining makefile.old) (λ text. IsTooDeep text → ⊥)) }
     ensures makefile { ReadsOnce R.remaining R.ends makefile.old makefile.new
@@ -112,39 +139,59 @@ where
 {
     let text = read_all(alloc, makefile)?;
     let session = Session::open_vec(alloc, text, DEPTH)?;
-    let answered = put_out(query, session.doc(), out);
+    let answered = put_answer(question, session.doc(), out);
     // The program ends soon: it does not give up a box for each line.
     mem::forget(session);
     answered
 }
 
-// Answers on a sink, and says how that ended.
-fn print<A, R, W>(alloc: A, query: Query<'_>, makefile: &mut R, out: &mut W) -> Outcome
+// Answers on a sink, and says how that ended. A refusal is told on another.
+fn print<A, R, W, P>(
+    alloc: A,
+    question: Question<'_>,
+    makefile: &mut R,
+    out: &mut W,
+    report: &mut P,
+) -> Outcome
 where
     A: Allocator + Copy,
     R: ByteSource,
     W: ByteSink,
+    P: ByteSink,
     requires makefile_works { R.failed makefile.old ≡ false }
     requires out_works { W.failed out.old ≡ false }
+    requires report_works { P.failed report.old ≡ false }
     ensures whole { result ≡ Outcome.Done → IfSome (R.remaining makefile.old) (λ text.
-        Appends (W.contents out.old) (W.contents out.new) (query_text query.entry text)) }
+        Appends (W.contents out.old) (W.contents out.new) (answer_text question.entry text)) }
     ensures prefix { IfSome (R.remaining makefile.old) (λ text.
-        AppendsPrefix (W.contents out.old) (W.contents out.new) (query_text query.entry text)) }
+        AppendsPrefix (W.contents out.old) (W.contents out.new) (answer_text question.entry text)) }
+    ensures granted { result ≡ Outcome.Done → IfSome (R.remaining makefile.old) (λ text.
+        answer_refusal question.entry text ≡ None) }
+    ensures refused { (count : ℕ) → result ≡ Outcome.Refused count → (count ≡ 1)
+        × (refusal : Refusal)
+        × Appends (P.contents report.old) (P.contents report.new) (refusal_text refusal)
+        × IfSome (R.remaining makefile.old) (λ text.
+        answer_refusal question.entry text ≡ Some refusal) }
     ensures read { result ≡ Outcome.Read ↔ R.failed makefile.new ≡ true }
-    ensures write { result ≡ Outcome.Write ↔ W.failed out.new ≡ true }
+    ensures write { result ≡ Outcome.Write
+        ↔ IsTrue (W.failed out.new || P.failed report.new) }
     ensures too_long { result ≡ Outcome.TooLong
         → IfSome (R.remaining makefile.old) (λ text. max_text < length text) }
     ensures too_deep { result ≡ Outcome.TooDeep
         → IfSome (R.remaining makefile.old) (λ text. IsTooDeep text) }
 {
-    match answer(alloc, query, makefile, out) {
+    match answer(alloc, question, makefile, out) {
         Ok(()) => Outcome::Done,
-        Err(fault) => Outcome::from(fault),
+        Err(Unanswered::Fault(fault)) => Outcome::from(fault),
+        Err(Unanswered::Refused(refusal)) => match write_refusal(report, refusal) {
+            Ok(()) => Outcome::Refused(1),
+            Err(fault) => Outcome::from(fault),
+        },
     }
 }
 
 // Puts an answer out with a name before each of its lines, and flushes it once.
-fn put_answer<W: ByteSink>(
+fn put_named_answer<W: ByteSink>(
     alloc: Global,
     name: &str,
     answer: &[u8],
@@ -158,21 +205,23 @@ fn put_answer<W: ByteSink>(
 
 // Answers on a sink, with a name before each line of the answer, and says how that ended. The answer is
 // gathered in memory first.
-fn print_named<R: ByteSource, W: ByteSink>(
+fn print_named<R: ByteSource, W: ByteSink, P: ByteSink>(
     alloc: Global,
-    query: Query<'_>,
+    question: Question<'_>,
     name: &str,
     makefile: &mut R,
     out: &mut W,
+    report: &mut P,
 ) -> Outcome
     requires makefile_works { R.failed makefile.old ≡ false }
     requires out_works { W.failed out.old ≡ false }
+    requires report_works { P.failed report.old ≡ false }
 {
     let mut text = Vec::new(alloc);
     let mut kept = StdSink::new(&mut text);
-    let outcome = print(alloc, query, makefile, &mut kept);
+    let outcome = print(alloc, question, makefile, &mut kept, report);
     match kept_outcome(outcome, kept.failed()) {
-        Outcome::Done => match put_answer(alloc, name, text.as_slice(), out) {
+        Outcome::Done => match put_named_answer(alloc, name, text.as_slice(), out) {
             Ok(()) => Outcome::Done,
             Err(fault) => Outcome::from(fault),
         },
@@ -213,51 +262,88 @@ fn end_of_query<'a, R, W>(
 
 // Answers on standard output. The makefile is called by this name in notes; where there is a prefix,
 // each line gets that name.
-fn print_out<'a, R: Read + Drop>(
+fn print_out<'a, R: Read + Drop, P: ByteSink>(
     rt: &HostRuntime,
-    query: Query<'_>,
+    question: Question<'_>,
     prefix: Option<&str>,
     name: &'a str,
     makefile: R,
-) -> Asked<'a> {
+    report: &mut P,
+) -> Asked<'a>
+    requires { P.failed report.old ≡ false }
+{
     let mut makefile = Noted::new(makefile);
     let mut out = Noted::new(rt.stdout());
     let mut source = StdSource::new(&mut makefile);
     let mut sink = StdSink::new(&mut out);
+    let alloc = rt.alloc();
     let outcome = match prefix {
-        Some(prefix) => print_named(rt.alloc(), query, prefix, &mut source, &mut sink),
-        None => print(rt.alloc(), query, &mut source, &mut sink),
+        Some(prefix) => print_named(alloc, question, prefix, &mut source, &mut sink, report),
+        None => print(alloc, question, &mut source, &mut sink, report),
     };
     end_of_query(outcome, name, &makefile, &out)
 }
 
-// Opens a makefile, and answers what it is asked for.
-fn ask_one<'a>(
+// Opens a makefile, and answers what it is asked for. A refusal is told on the sink.
+fn ask_one<'a, P: ByteSink>(
     rt: &HostRuntime,
-    query: Query<'_>,
+    question: Question<'_>,
     prefix: Option<&str>,
     file: Input<'a>,
-) -> Result<Asked<'a>, CannotOpen<'a>> {
+    report: &mut P,
+) -> Result<Asked<'a>, CannotOpen<'a>>
+    requires { P.failed report.old ≡ false }
+{
     match file {
-        Input::File(name) => Ok(print_out(rt, query, prefix, name, open(rt, name)?)),
-        Input::Standard => Ok(print_out(rt, query, prefix, STANDARD_INPUT, rt.stdin())),
+        Input::File(name) => {
+            let makefile = open(rt, name)?;
+            Ok(print_out(rt, question, prefix, name, makefile, report))
+        }
+        Input::Standard => {
+            let name = STANDARD_INPUT;
+            Ok(print_out(rt, question, prefix, name, rt.stdin(), report))
+        }
     }
 }
 
+// Answers what one of several makefiles is asked for. What is said of a refusal is gathered in memory.
+fn ask_kept<'a>(
+    rt: &HostRuntime,
+    question: Question<'_>,
+    file: Input<'a>,
+    lines: &mut Vec<u8>,
+) -> Result<Asked<'a>, CannotOpen<'a>> {
+    let mut report = StdSink::new(lines);
+    let asked = ask_one(rt, question, Some(name_of(file)), file, &mut report)?;
+    let outcome = kept_outcome(asked.end.outcome, report.failed());
+    Ok(Asked {
+        end: End {
+            outcome,
+            ..asked.end
+        },
+        is_left: asked.is_left,
+    })
+}
+
 // Answers what several makefiles are asked for, in turn, until nobody reads the output any more.
-fn ask_each(rt: &HostRuntime, words: &QueryWords<'_>, files: &[Input<'_>]) -> ExitCode {
+fn ask_each(
+    rt: &HostRuntime,
+    question: Question<'_>,
+    files: &[Input<'_>],
+    notes: bool,
+) -> ExitCode {
     let mut statuses = Statuses::new();
     for file in files {
-        match ask_one(rt, words.query, Some(name_of(*file)), *file) {
+        let mut lines = Vec::new(rt.alloc());
+        match ask_kept(rt, question, *file, &mut lines) {
             Ok(asked) => {
-                let mut none = Vec::new(rt.alloc());
-                statuses.add(tell_named(rt, *file, &mut none, &asked.end, words.notes));
+                statuses.add(tell_named(rt, *file, &mut lines, &asked.end, notes));
                 if asked.is_left {
                     break;
                 }
             }
             Err(cannot) => {
-                tell_not_opened(rt, &cannot, words.notes);
+                tell_not_opened(rt, &cannot, notes);
                 statuses.add(CANNOT_OPEN);
             }
         }
@@ -267,12 +353,13 @@ fn ask_each(rt: &HostRuntime, words: &QueryWords<'_>, files: &[Input<'_>]) -> Ex
 
 /// Answers what the makefiles are asked for, on standard output, and answers the status. Where nobody
 /// reads that to its end, it ends as where all was read.
-pub fn ask(rt: &HostRuntime, words: &QueryWords<'_>) -> ExitCode {
-    match words.files.as_slice() {
+pub fn ask(rt: &HostRuntime, question: Question<'_>, files: &[Input<'_>], notes: bool) -> ExitCode {
+    match files {
         [file] => {
-            let asked = ask_one(rt, words.query, None, *file);
-            finished(rt, asked.map(|asked| asked.end), words.notes)
+            let mut report = StdSink::new(rt.stderr());
+            let asked = ask_one(rt, question, None, *file, &mut report);
+            finished(rt, asked.map(|asked| asked.end), notes)
         }
-        files => ask_each(rt, words, files),
+        files => ask_each(rt, question, files, notes),
     }
 }

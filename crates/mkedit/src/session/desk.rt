@@ -7,7 +7,7 @@ use super::on_disk::{look, put};
 use crate::diff::diff_name;
 use crate::explain::{put_out, refusal_of};
 use crate::explanations::explanation;
-use crate::query::put_lines;
+use crate::question::put_lines;
 use mk_command_line::{Input, Query, SessionWords};
 use mk_diff::diff;
 use mk_lines::sink::write_parts;

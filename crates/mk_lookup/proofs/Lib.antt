@@ -1,0 +1,3 @@
+-- Lemmas on lookups
+mod LookupLemmas
+mod LawLemmas

@@ -1,0 +1,17 @@
+use Rattle.std.proofs.Common.{◌≡◌, ◌∙◌, ℕ, List, Option, Some, None, ap, subst}
+use Rattle.std.specs.Prelude.{IfSome}
+use Rattle.mk_tree.specs.LocatedLines.{located_text}
+use Rattle.mk_session.specs.Sessions.{Seen}
+use Rattle.mkedit.specs.QueryTexts.{answer_refusal}
+use Rattle.mkedit.proofs.query.answer.Goals as goal
+
+-- what holds of a text holds of the bytes that a source told, if it told them
+of_told : (bytes : Option (List ℕ)) (text : List ℕ) (P : List ℕ → Type 0) → IfSome bytes (λ b. text ≡ b) → P text → IfSome bytes P
+of_told None text P h p = tt
+of_told (Some b) text P h p = subst P h p
+
+pub returns-clause-refused : goal.returns-clause-refused
+returns-clause-refused g c = λ refusal is.
+    let read : located_text c.doc.result.now ≡ c.in_ok-text.text.items = c.doc.ensures.bytes ∙ ap (λ (s : Seen). s.shown.text) c.in_ok-session.ensures.opened in
+    of_told (g.R.ByteSource.remaining c.args.makefile.now) c.in_ok-text.text.items (λ t. answer_refusal c.args.question t ≡ Some refusal) c.in_ok-text.ensures.bytes
+    (subst (λ t. answer_refusal c.args.question t ≡ Some refusal) read (c.put_answer-answered.ensures.refused refusal is))

@@ -1,0 +1,440 @@
+//! What is said of each command of a script: what it does, its refusals, and an example.
+//!
+//! `make texts` makes of this file what README.md, docs/EDITS.md, docs/mkedit-script.5 and the completions
+//! say of commands in the same words.
+
+use crate::script_command::ScriptCommand;
+
+const SET: &str = "\
+Gives an assignment another value.
+
+Is refused with BadArgument, Reserved, RecipePrefix, NoSuch, Ambiguous or TooLong.
+
+Example: over
+    CC = gcc # c
+the script
+    set CC clang
+makes
+    CC = clang # c
+";
+
+const APPEND: &str = "\
+Puts text at the end of a value.
+
+Is refused with BadArgument, Reserved, RecipePrefix, NoSuch, Ambiguous, OpenValue or TooLong.
+
+Example: over
+    CFLAGS = -O2 # c
+the script
+    append CFLAGS \"-g -W\"
+makes
+    CFLAGS = -O2 -g -W # c
+";
+
+const ADD: &str = "\
+Puts a word at the end of a value, unless it is there.
+
+Is refused with BadArgument, Reserved, RecipePrefix, NoSuch, Ambiguous, Already, OpenValue or
+TooLong.
+
+Example: over
+    CFLAGS = -O2
+the script
+    add CFLAGS -g
+makes
+    CFLAGS = -O2 -g
+";
+
+const DROP: &str = "\
+Takes a word out of a value.
+
+Is refused with BadArgument, Reserved, RecipePrefix, NoSuch, Ambiguous, Absent or OpenValue.
+
+Example: over
+    CFLAGS = -g -O2 # c
+the script
+    drop CFLAGS -g
+makes
+    CFLAGS = -O2 # c
+";
+
+const UNSET: &str = "\
+Takes an assignment away.
+
+Is refused with BadArgument, Reserved, RecipePrefix, NoSuch, Ambiguous or Leans.
+
+Example: over
+    CC = gcc
+    CFLAGS = -O2
+the script
+    unset CC
+makes
+    CFLAGS = -O2
+";
+
+const ASSIGN: &str = "\
+Puts in a new assignment.
+
+Is refused with BadArgument, Reserved, RecipePrefix, NoSuch, Ambiguous, OpenLine, OpenDefine, Leans
+or TooLong.
+
+Example: over
+    CC = gcc
+the script
+    assign after-var CC CFLAGS := -O2
+makes
+    CC = gcc
+    CFLAGS := -O2
+";
+
+const RULE: &str = "\
+Puts in the line of a new rule.
+
+Is refused with BadArgument, Reserved, RecipePrefix, NoSuch, Ambiguous, OpenLine, OpenDefine, Leans
+or TooLong.
+
+Example: over
+    CC = gcc
+the script
+    rule bottom all : \"main.o log.o\"
+makes
+    CC = gcc
+    all: main.o log.o
+";
+
+const UNRULE: &str = "\
+Takes a rule away, with its recipe.
+
+Is refused with BadArgument, Reserved, RecipePrefix, NoSuch, Ambiguous, SharedRule, Straddles or
+Leans.
+
+Example: over
+    all: main.o
+    clean:
+    \trm -f main.o
+the script
+    unrule clean
+makes
+    all: main.o
+";
+
+const DEPEND: &str = "\
+Puts a word at the end of a rule's normal prerequisites.
+
+Is refused with BadArgument, Reserved, RecipePrefix, NoSuch, Ambiguous, Already or TooLong.
+
+Example: over
+    all: main.o | build
+the script
+    depend all log.o
+makes
+    all: main.o log.o | build
+";
+
+const DEPEND_ORDER: &str = "\
+Puts a word at the end of a rule's order-only prerequisites.
+
+Is refused with BadArgument, Reserved, RecipePrefix, NoSuch, Ambiguous, Already or TooLong.
+
+Example: over
+    all: main.o
+the script
+    depend-order all build
+makes
+    all: main.o | build
+";
+
+const UNDEPEND: &str = "\
+Takes a word out of a rule's prerequisites.
+
+Is refused with BadArgument, Reserved, RecipePrefix, NoSuch, Ambiguous or Absent.
+
+Example: over
+    all: main.o log.o
+the script
+    undepend all log.o
+makes
+    all: main.o
+";
+
+const RECIPE: &str = "\
+Puts a line at the end of a rule's recipe.
+
+Is refused with BadArgument, Reserved, RecipePrefix, NoSuch, Ambiguous, Straddles, OpenLine or
+TooLong.
+
+Example: over
+    clean:
+    \trm -f main.o
+the script
+    recipe clean \"rm -rf build\"
+makes
+    clean:
+    \trm -f main.o
+    \trm -rf build
+";
+
+const RECIPE_INSERT: &str = "\
+Puts a line before the K-th line of a rule's recipe.
+
+Is refused with BadArgument, Reserved, RecipePrefix, NoSuch, Ambiguous, Absent, Straddles, OpenLine
+or TooLong.
+
+Example: over
+    clean:
+    \trm -f main.o
+the script
+    recipe-insert clean 1 \"rm -rf build\"
+makes
+    clean:
+    \trm -rf build
+    \trm -f main.o
+";
+
+const RECIPE_SET: &str = "\
+Replaces the K-th line of a rule's recipe.
+
+Is refused with BadArgument, Reserved, RecipePrefix, NoSuch, Ambiguous, Absent or TooLong.
+
+Example: over
+    clean:
+    \trm -f main.o
+the script
+    recipe-set clean 1 \"rm -rf build\"
+makes
+    clean:
+    \trm -rf build
+";
+
+const RECIPE_DEL: &str = "\
+Takes the K-th line of a rule's recipe away.
+
+Is refused with BadArgument, Reserved, RecipePrefix, NoSuch, Ambiguous or Absent.
+
+Example: over
+    clean:
+    \trm -f main.o
+    \trm -rf build
+the script
+    recipe-del clean 1
+makes
+    clean:
+    \trm -rf build
+";
+
+const RECIPE_REPLACE: &str = "\
+Replaces the line of a rule's recipe that says OLD.
+
+Is refused with BadArgument, Reserved, RecipePrefix, NoSuch, Ambiguous, Absent or TooLong.
+
+Example: over
+    clean:
+    \trm -f main.o
+the script
+    recipe-replace clean \"rm -f main.o\" \"rm -f *.o\"
+makes
+    clean:
+    \trm -f *.o
+";
+
+const RECIPE_REMOVE: &str = "\
+Takes the line of a rule's recipe away that says OLD.
+
+Is refused with BadArgument, Reserved, RecipePrefix, NoSuch, Ambiguous or Absent.
+
+Example: over
+    clean:
+    \trm -f main.o
+    \trm -rf build
+the script
+    recipe-remove clean \"rm -f main.o\"
+makes
+    clean:
+    \trm -rf build
+";
+
+const RENAME: &str = "\
+Gives a target another name, also where it is a prerequisite.
+
+Is refused with BadArgument, Reserved, RecipePrefix, NoSuch, Taken or TooLong.
+
+Example: over
+    all: clean
+    clean:
+    \trm -f main.o
+the script
+    rename clean tidy
+makes
+    all: tidy
+    tidy:
+    \trm -f main.o
+";
+
+const NTH: &str = "\
+Picks the N-th of several lines that COMMAND could mean.
+
+Is refused with those of COMMAND, but not with Ambiguous for its line.
+
+Example: over
+    CC = gcc
+    CC = cc
+the script
+    nth 2 set CC clang
+makes
+    CC = gcc
+    CC = clang
+";
+
+const ALL: &str = "\
+Makes `set`, `append`, `add` or `drop` at every assignment of the name, as one edit.
+
+Is refused with those of COMMAND, but not with Ambiguous.
+
+Example: over
+    CFLAGS = -g
+    CFLAGS += -O2
+the script
+    all add CFLAGS -W
+makes
+    CFLAGS = -g -W
+    CFLAGS += -O2 -W
+";
+
+const UNDO: &str = "\
+Takes back the last edit that stands.
+
+Is refused with NothingToUndo or GroupOpen.
+
+Example: over
+    CC = gcc
+the script
+    set CC clang
+    undo
+makes
+    CC = gcc
+";
+
+const REDO: &str = "\
+Makes again what the last `undo` took back.
+
+Is refused with NothingToRedo or GroupOpen.
+
+Example: over
+    CC = gcc
+the script
+    set CC clang
+    undo
+    redo
+makes
+    CC = clang
+";
+
+const BEGIN: &str = "\
+Begins a group: the edits up to `end` count as one.
+
+Is refused with GroupOpen.
+
+Example: over
+    CC = gcc
+    AR = ar
+the script
+    begin
+    set CC clang
+    set AR llvm-ar
+    end
+    undo
+makes
+    CC = gcc
+    AR = ar
+";
+
+const END: &str = "\
+Ends a group, and its edits stand.
+
+Is refused with NoGroup.
+
+Example: over
+    CC = gcc
+the script
+    begin
+    set CC clang
+    end
+makes
+    CC = clang
+";
+
+const CANCEL: &str = "\
+Ends a group, and takes its edits back.
+
+Is refused with NoGroup.
+
+Example: over
+    CC = gcc
+the script
+    begin
+    set CC clang
+    cancel
+makes
+    CC = gcc
+";
+
+const TRY: &str = "\
+Makes an edit, and it is no refusal if there is nothing to do.
+
+Is refused with those of COMMAND, but not with NoSuch, Absent or Already.
+
+Example: over
+    CC = gcc
+the script
+    try unset LDFLAGS
+makes
+    CC = gcc
+";
+
+const OR: &str = "\
+Makes an edit if that of the line above finds nothing on which it is to be made.
+
+Is refused with those of COMMAND.
+
+Example: over
+    AR = ar
+the script
+    set CC clang
+    or assign bottom CC = clang
+makes
+    AR = ar
+    CC = clang
+";
+
+/// What is said of a command: what it does, with which refusals, and an example.
+pub fn command_text(command: ScriptCommand) -> &'static str {
+    match command {
+        ScriptCommand::Set => SET,
+        ScriptCommand::Append => APPEND,
+        ScriptCommand::Add => ADD,
+        ScriptCommand::Drop => DROP,
+        ScriptCommand::Unset => UNSET,
+        ScriptCommand::Assign => ASSIGN,
+        ScriptCommand::Rule => RULE,
+        ScriptCommand::Unrule => UNRULE,
+        ScriptCommand::Depend => DEPEND,
+        ScriptCommand::DependOrder => DEPEND_ORDER,
+        ScriptCommand::Undepend => UNDEPEND,
+        ScriptCommand::Recipe => RECIPE,
+        ScriptCommand::RecipeInsert => RECIPE_INSERT,
+        ScriptCommand::RecipeSet => RECIPE_SET,
+        ScriptCommand::RecipeDel => RECIPE_DEL,
+        ScriptCommand::RecipeReplace => RECIPE_REPLACE,
+        ScriptCommand::RecipeRemove => RECIPE_REMOVE,
+        ScriptCommand::Rename => RENAME,
+        ScriptCommand::Nth => NTH,
+        ScriptCommand::All => ALL,
+        ScriptCommand::Undo => UNDO,
+        ScriptCommand::Redo => REDO,
+        ScriptCommand::Begin => BEGIN,
+        ScriptCommand::End => END,
+        ScriptCommand::Cancel => CANCEL,
+        ScriptCommand::Try => TRY,
+        ScriptCommand::Or => OR,
+    }
+}

@@ -1,0 +1,116 @@
+"""What is said of each command of a script, read from its one source, and the forms in which the documents have it.
+
+The forms of the commands stand in crates/mkedit/src/script_command.rt, and the texts in command_texts.rt
+beside it, as the program prints them: what the command does, its refusals, and an example, with an empty
+line between the three.
+"""
+
+import re
+import textwrap
+from pathlib import Path
+from typing import NamedTuple
+
+import mdoc
+from refusals import CONSTANT, ESCAPE, ESCAPED, WIDTH, cell, on_one_line, outdented
+
+TOP = Path(__file__).resolve().parent.parent
+FORMS = "crates/mkedit/src/script_command.rt"
+TEXTS = "crates/mkedit/src/command_texts.rt"
+
+FORM = re.compile(r'^ +ScriptCommand::(\w+) => "(.*)",$', re.M)
+CHOICE = re.compile(r"^ +ScriptCommand::(\w+) => ([A-Z_]+),$", re.M)
+PARTS = re.compile(
+    r"(.*?)\n\nIs refused with (.*?)\.\n\nExample: over\n(.*?)\nthe script\n(.*?)\nmakes\n(.*)\n", re.S
+)
+
+
+# What makes no edit by itself.
+NO_EDITS = frozenset("nth try or undo redo begin end cancel".split())
+
+
+class Command(NamedTuple):
+    """A command of a script, by its form.
+
+    text is what `mkedit help` prints below the form. does is what the command does, and refusals with which
+    refusals it is refused, each on one line. The example is a makefile, a script, and the text after it.
+    """
+
+    form: str
+    text: str
+    does: str
+    refusals: str
+    makefile: str
+    script: str
+    after: str
+
+    @property
+    def word(self):
+        return self.form.split()[0]
+
+
+def command_of(form, text):
+    """The command that a text is about. A ValueError says that the text has another form."""
+    parts = PARTS.fullmatch(text)
+    if not parts:
+        raise ValueError(f"{TEXTS}: the text of {form} is no sentence, refusals and example")
+    does, refusals, *example = parts.groups()
+    return Command(form, text, on_one_line(does), on_one_line(refusals), *map(outdented, example))
+
+
+def commands(top=TOP):
+    """All commands, in the order of the program. A ValueError says what the sources have in another form."""
+    forms, source = ((top / it).read_text(encoding="utf-8") for it in (FORMS, TEXTS))
+    texts = {name: ESCAPE.sub(lambda it: ESCAPED[it[1]], text) for name, text in CONSTANT.findall(source)}
+    chosen, forms = dict(CHOICE.findall(source)), FORM.findall(forms)
+    if [*chosen] != [name for name, _ in forms] or sorted(texts) != sorted(chosen.values()):
+        raise ValueError(f"{FORMS} and {TEXTS} have not the same commands")
+    return [command_of(form, texts[chosen[name]]) for name, form in forms]
+
+
+def table(found):
+    """The table of README.md: the edits alone."""
+    yield "| Command of a script | What it does |"
+    yield "|---|---|"
+    for it in found:
+        if it.word not in NO_EDITS:
+            yield f"| `{it.form}` | {cell(it.does)} |"
+
+
+def full_table(found):
+    """The table of docs/EDITS.md."""
+    yield "| Command | What it does | Is refused with |"
+    yield "|---|---|---|"
+    for it in found:
+        yield f"| `{it.form}` | {cell(it.does)} | {cell(it.refusals)} |"
+
+
+def items(found):
+    """The list of the manual page on scripts."""
+    yield ".Bl -tag -width Ds"
+    for it in found:
+        word, *fields = it.form.split()
+        yield f".It Cm {word}" + (f" Ar {' '.join(fields)}" if fields else "")
+        yield from mdoc.paragraph(it.does)
+    yield ".El"
+
+
+def bash_words(found):
+    """The words, as bash has them in a variable."""
+    words = " ".join(it.word for it in found)
+    lines = textwrap.wrap(f'_mkedit_script_commands="{words}"', WIDTH, subsequent_indent="    ", break_on_hyphens=False)
+    yield from (f"{it} \\" for it in lines[:-1])
+    yield lines[-1]
+
+
+def zsh_words(found):
+    """The words, as zsh has them in an array of a function."""
+    yield "    words=("
+    indent = " " * 8
+    words = " ".join(it.word for it in found)
+    yield from textwrap.wrap(words, WIDTH, initial_indent=indent, subsequent_indent=indent, break_on_hyphens=False)
+    yield "    )"
+
+
+def fish_words(found):
+    """The words, as fish has them in a variable."""
+    yield f"set -l script_commands {' '.join(it.word for it in found)}"
