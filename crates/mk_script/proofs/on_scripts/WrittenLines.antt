@@ -60,7 +60,7 @@ written-read (f ∷ fs) = (
 
 -- ---- commands
 
-decimal-number : (n : ℕ) → n ≤ 4294967295 → IsNumber (decimal n) n
+pub decimal-number : (n : ℕ) → n ≤ 4294967295 → IsNumber (decimal n) n
 decimal-number n h =
     let is = decimal_is_IsNumeral n (omega (arith, h)) in
     record { numeral = is.0; short = length-decimal-le 10 n (omega arith) (omega (arith, h)) (omega (arith, h)); value = is.1; small = h }

@@ -1,0 +1,2 @@
+-- What is written is read
+pub mod WrittenLemmas

@@ -1,0 +1,379 @@
+//! The line of a script that says an edit.
+ghost use Rattle.std.specs.Prelude.{◌≡◌, ◌++◌, ◌∷◌, [], ℕ, List, None, Err, true, IfOk, OnOk, codes, decimal, map};
+ghost use Rattle.std.specs.List.{list_any};
+ghost use Rattle.mk_lines.specs.Spacing.{each_after_space};
+ghost use Rattle.mk_class.specs.OperatorTexts.{operator_text};
+ghost use Rattle.mk_edit_language.specs.EditViews.{edit_of, place_of, value_change_of};
+ghost use Rattle.mk_edit_language.specs.NewLines.{rule_separator_text};
+ghost use Rattle.mk_script.specs.CommandTable.{IsAfterNth, change_words, depend_word, nth_of_place, place_words};
+ghost use Rattle.mk_script.specs.Fields.{escaped, quoted};
+ghost use Rattle.mk_script.specs.Numbers.{IsNumber};
+ghost use Rattle.mk_written.specs.WrittenEdits.{SaysOnly, after_nth, fields_of, has_line_feed, is_plain, is_quoted_byte, line_with, written};
+ghost use Rattle.mk_written.specs.WrittenLines.{IsLineResult, IsSaid, fields_in, is_of_recipe, is_of_rule};
+
+use mk_class::Flavor;
+use mk_edit_language::{Edit, Place, RuleSeparator, ValueChange};
+use std::alloc::{AllocError, Allocator};
+use thiserror::Error;
+
+/// Why an edit has no line.
+#[derive(Clone, Copy, Debug, PartialEq, Eq, Error)]
+pub enum LineError {
+    /// A text of the edit has a line feed, which no line has.
+    #[error("a text of the edit has a line feed")]
+    LineFeed,
+    /// A growth was refused: the allocator had no memory for the line.
+    #[error("no memory")]
+    NoMemory,
+}
+
+impl From<AllocError> for LineError {
+    ghost use Rattle.std.specs.Prelude.{◌≡◌};
+    ghost use Rattle.mk_written.specs.declared.line.LineError.TheVariants.{NoMemory};
+
+    ghost from_gives = { λ _ error. error ≡ NoMemory };
+
+    fn from(_refused: AllocError) -> LineError {
+        LineError::NoMemory
+    }
+}
+
+/// The line of a script that says an edit, with its line feed: `nth 2 set CC "clang -m32"`. A script
+/// that has this line, and no other, is this edit alone, so `mk_script::parse_script` gives it back,
+/// as the command of line 1. Lines of edits in a row are a script of these edits.
+///
+/// A field stands between quotes if it is empty, or has a blank, a carriage return or a quote. The
+/// fields have one space between them. A script writes edits so by this project's profile.
+///
+/// # Errors
+///
+/// - [`LineError::LineFeed`] if a text of the edit has a line feed. No line of a script says such an
+///   edit.
+/// - [`LineError::NoMemory`] if a growth was refused.
+pub fn line_of_edit<A: Allocator + Copy, B: Allocator>(
+    alloc: A,
+    edit: &Edit<B>,
+) -> Result<Vec<u8, A>, LineError>
+    ensures text { IfOk result (λ line.
+        line.items ≡ line_with (fields_of (edit_of edit.now)) ++ codes "\n") }
+    ensures read { IfOk result (λ line. SaysOnly line.items (edit_of edit.now)) }
+    ensures feed { result ≡ Err LineError.LineFeed
+        → has_line_feed (line_with (fields_of (edit_of edit.now))) ≡ true }
+{
+    match edit {
+        Edit::SetValue { nth, name, value } => said(alloc, *nth, b"set", &[name, value]),
+        Edit::AppendValue { nth, name, value } => said(alloc, *nth, b"append", &[name, value]),
+        Edit::AddWord { nth, name, word } => said(alloc, *nth, b"add", &[name, word]),
+        Edit::RemoveWord { nth, name, word } => said(alloc, *nth, b"drop", &[name, word]),
+        Edit::ChangeValues { name, change } => line_of_change(alloc, name, change),
+        Edit::AddAssign {
+            place,
+            name,
+            flavor,
+            value,
+        } => said_at(alloc, b"assign", place, &[name, operator(*flavor), value]),
+        Edit::RemoveAssign { nth, name } => said(alloc, *nth, b"unset", &[name]),
+        Edit::AddRule { .. }
+        | Edit::RemoveRule { .. }
+        | Edit::AddPrereq { .. }
+        | Edit::RemovePrereq { .. }
+        | Edit::RenameTarget { .. } => line_of_rule_edit(alloc, edit),
+        Edit::AddRecipe { .. }
+        | Edit::SetRecipe { .. }
+        | Edit::RemoveRecipe { .. }
+        | Edit::InsertRecipe { .. }
+        | Edit::SetRecipeByText { .. }
+        | Edit::RemoveRecipeByText { .. } => line_of_recipe_edit(alloc, edit),
+    }
+}
+
+// The line of an edit of all values of a name.
+fn line_of_change<A: Allocator + Copy, B: Allocator>(
+    alloc: A,
+    name: &[u8],
+    change: &ValueChange<B>,
+) -> Result<Vec<u8, A>, LineError>
+    ensures { IsSaid None (codes "all" ∷ change_words name.now (value_change_of change.now)) result }
+{
+    match change {
+        ValueChange::Set(value) => said(alloc, None, b"all", &[b"set", name, value]),
+        ValueChange::Append(value) => said(alloc, None, b"all", &[b"append", name, value]),
+        ValueChange::Add(word) => said(alloc, None, b"all", &[b"add", name, word]),
+        ValueChange::Remove(word) => said(alloc, None, b"all", &[b"drop", name, word]),
+    }
+}
+
+// The line of an edit of rules.
+fn line_of_rule_edit<A: Allocator + Copy, B: Allocator>(
+    alloc: A,
+    edit: &Edit<B>,
+) -> Result<Vec<u8, A>, LineError>
+    requires { is_of_rule (edit_of edit.now) ≡ true }
+    ensures { IsLineResult (edit_of edit.now) result }
+{
+    match edit {
+        Edit::AddRule {
+            place,
+            targets,
+            separator,
+            prereqs,
+        } => said_at(
+            alloc,
+            b"rule",
+            place,
+            &[targets, colons(*separator), prereqs],
+        ),
+        Edit::RemoveRule { nth, target } => said(alloc, *nth, b"unrule", &[target]),
+        Edit::AddPrereq {
+            order,
+            nth,
+            target,
+            word,
+        } => said(alloc, *nth, depend(*order), &[target, word]),
+        Edit::RemovePrereq { nth, target, word } => {
+            said(alloc, *nth, b"undepend", &[target, word])
+        }
+        Edit::RenameTarget { from, to } => said(alloc, None, b"rename", &[from, to]),
+        _ => unreachable!(),
+    }
+}
+
+// The line of an edit of recipes.
+fn line_of_recipe_edit<A: Allocator + Copy, B: Allocator>(
+    alloc: A,
+    edit: &Edit<B>,
+) -> Result<Vec<u8, A>, LineError>
+    requires { is_of_recipe (edit_of edit.now) ≡ true }
+    ensures { IsLineResult (edit_of edit.now) result }
+{
+    let mut digits = itoa::Buffer::new();
+    match edit {
+        Edit::AddRecipe { nth, target, line } => said(alloc, *nth, b"recipe", &[target, line]),
+        Edit::SetRecipe {
+            nth,
+            target,
+            number,
+            line,
+        } => {
+            let number = number_text(*number, &mut digits);
+            said(alloc, *nth, b"recipe-set", &[target, number, line])
+        }
+        Edit::RemoveRecipe {
+            nth,
+            target,
+            number,
+        } => {
+            let number = number_text(*number, &mut digits);
+            said(alloc, *nth, b"recipe-del", &[target, number])
+        }
+        Edit::InsertRecipe {
+            nth,
+            target,
+            number,
+            line,
+        } => {
+            let number = number_text(*number, &mut digits);
+            said(alloc, *nth, b"recipe-insert", &[target, number, line])
+        }
+        Edit::SetRecipeByText {
+            nth,
+            target,
+            old,
+            line,
+        } => said(alloc, *nth, b"recipe-replace", &[target, old, line]),
+        Edit::RemoveRecipeByText { nth, target, old } => {
+            said(alloc, *nth, b"recipe-remove", &[target, old])
+        }
+        _ => unreachable!(),
+    }
+}
+
+// The digits of a number, which a script reads as that number.
+fn number_text(number: u32, digits: &mut itoa::Buffer) -> &[u8]
+    ensures text { result.now ≡ decimal number }
+    ensures number { IsNumber (decimal number) number }
+{
+    digits.format(number).as_bytes()
+}
+
+// The operator of an assignment.
+fn operator<'a>(flavor: Flavor) -> &'a [u8]
+    ensures { result.now ≡ operator_text flavor }
+{
+    flavor.text().as_bytes()
+}
+
+// The word for a new prerequisite, order-only or not.
+fn depend<'a>(order: bool) -> &'a [u8]
+    ensures text { result.now ≡ depend_word order }
+    ensures plain { is_plain (depend_word order) ≡ true }
+{
+    if order { b"depend-order" } else { b"depend" }
+}
+
+// The separator of a rule.
+fn colons<'a>(separator: RuleSeparator) -> &'a [u8]
+    ensures { result.now ≡ rule_separator_text separator }
+{
+    match separator {
+        RuleSeparator::Single => b":",
+        RuleSeparator::Double => b"::",
+    }
+}
+
+// The line of a command that has a place: its word, then the words of the place, then these fields.
+fn said_at<A: Allocator + Copy, B: Allocator>(
+    alloc: A,
+    word: &[u8],
+    place: &Place<B>,
+    fields: &[&[u8]],
+) -> Result<Vec<u8, A>, LineError>
+    requires { is_plain word.now ≡ true }
+    ensures { IsSaid (nth_of_place (place_of place.now))
+        (word.now ∷ (place_words (place_of place.now) ++ fields_in fields.now)) result }
+{
+    match place {
+        Place::Bottom => said_after(alloc, None, word, &[b"bottom"], fields),
+        Place::BeforeVar { nth, name } => {
+            said_after(alloc, *nth, word, &[b"before-var", name], fields)
+        }
+        Place::AfterVar { nth, name } => {
+            said_after(alloc, *nth, word, &[b"after-var", name], fields)
+        }
+        Place::BeforeRule { nth, target } => {
+            said_after(alloc, *nth, word, &[b"before-rule", target], fields)
+        }
+    }
+}
+
+// The line of a command: its word after `nth` and a number if there is one, and these fields.
+fn said<A: Allocator + Copy>(
+    alloc: A,
+    nth: Option<u32>,
+    word: &[u8],
+    fields: &[&[u8]],
+) -> Result<Vec<u8, A>, LineError>
+    requires { is_plain word.now ≡ true }
+    ensures { IsSaid nth (word.now ∷ fields_in fields.now) result }
+{
+    said_after(alloc, nth, word, &[], fields)
+}
+
+// The same, with more fields between the word and these.
+fn said_after<A: Allocator + Copy>(
+    alloc: A,
+    nth: Option<u32>,
+    word: &[u8],
+    first: &[&[u8]],
+    others: &[&[u8]],
+) -> Result<Vec<u8, A>, LineError>
+    requires { is_plain word.now ≡ true }
+    ensures { IsSaid nth (word.now ∷ (fields_in first.now ++ fields_in others.now)) result }
+{
+    let mut line = begun(alloc, nth, word)?;
+    push_fields(&mut line, first)?;
+    push_fields(&mut line, others)?;
+    if has_line_feed(&line) {
+        return Err(LineError::LineFeed);
+    }
+    line.extend_from_slice(b"\n")?;
+    Ok(line)
+}
+
+// The word of a command, after `nth` and a number if there is one.
+fn begun<A: Allocator + Copy>(
+    alloc: A,
+    nth: Option<u32>,
+    word: &[u8],
+) -> Result<Vec<u8, A>, AllocError>
+    requires { is_plain word.now ≡ true }
+    ensures text { IfOk result (λ line. line.items ≡ line_with (after_nth nth (word.now ∷ []))) }
+    ensures number { (words : List (List ℕ)) → IsAfterNth nth (after_nth nth words) words }
+{
+    let Some(number) = nth else {
+        return Vec::from_slice(alloc, word);
+    };
+    let mut digits = itoa::Buffer::new();
+    let digits = number_text(number, &mut digits);
+    let mut line = Vec::from_slice(alloc, b"nth")?;
+    push_fields(&mut line, &[digits, word])?;
+    Ok(line)
+}
+
+// Puts fields behind a line, each after a space.
+fn push_fields<A: Allocator>(line: &mut Vec<u8, A>, fields: &[&[u8]]) -> Result<(), AllocError>
+    ensures { OnOk result (line.new.items
+        ≡ line.old.items ++ each_after_space (map written (fields_in fields.now))) }
+{
+    for field in fields {
+        push_field(line, field)?;
+    }
+    Ok(())
+}
+
+// Puts a field behind a line, after a space.
+fn push_field<A: Allocator>(line: &mut Vec<u8, A>, field: &[u8]) -> Result<(), AllocError>
+    ensures { OnOk result (line.new.items ≡ line.old.items ++ (codes " " ++ written field.now)) }
+{
+    line.extend_from_slice(b" ")?;
+    if is_plain(field) {
+        line.extend_from_slice(field)
+    } else {
+        push_quoted(line, field)
+    }
+}
+
+// Puts a field between quotes behind a line.
+fn push_quoted<A: Allocator>(line: &mut Vec<u8, A>, field: &[u8]) -> Result<(), AllocError>
+    ensures { OnOk result (line.new.items ≡ line.old.items ++ quoted field.now) }
+{
+    line.extend_from_slice(b"\"")?;
+    for byte in field {
+        push_escaped(line, *byte)?;
+    }
+    line.extend_from_slice(b"\"")?;
+    Ok(())
+}
+
+// Puts a byte of a field between quotes behind a line: a backslash stands before a quote and before a
+// backslash.
+fn push_escaped<A: Allocator>(line: &mut Vec<u8, A>, byte: u8) -> Result<(), AllocError>
+    ensures { OnOk result (line.new.items ≡ line.old.items ++ escaped (byte ∷ [])) }
+{
+    if matches!(byte, b'"' | b'\\') {
+        line.extend_from_slice(&[b'\\', byte])
+    } else {
+        line.extend_from_slice(&[byte])
+    }
+}
+
+// Whether a field can stand as it is.
+fn is_plain(field: &[u8]) -> bool
+    ensures { result ≡ is_plain field.now }
+{
+    match field {
+        [] => false,
+        _ => !has_quoted_byte(field),
+    }
+}
+
+// Whether a byte of a field has to stand between quotes.
+fn has_quoted_byte(field: &[u8]) -> bool
+    ensures { result ≡ list_any is_quoted_byte field.now }
+{
+    field.iter().any(|byte| is_quoted_byte(*byte))
+}
+
+// Whether a byte has to stand between quotes.
+fn is_quoted_byte(byte: u8) -> bool
+    ensures { result ≡ is_quoted_byte byte }
+{
+    matches!(byte, b' ' | b'\t' | b'\r' | b'"')
+}
+
+// Whether a text has a line feed.
+fn has_line_feed(text: &[u8]) -> bool
+    ensures { result ≡ has_line_feed text.now }
+{
+    text.iter().any(|byte| *byte == b'\n')
+}
