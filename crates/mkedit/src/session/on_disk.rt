@@ -51,7 +51,7 @@ fn fill<W: ByteSink>(file: &mut W, text: &[u8]) -> bool
 /// # Errors
 ///
 /// [`NotDone::CannotWrite`]. The makefile is as it was then.
-pub fn put(rt: &HostRuntime, name: &str, text: &[u8]) -> Result<(), NotDone> {
+pub fn put<'a>(rt: &'a HostRuntime, name: &'a str, text: &[u8]) -> Result<(), NotDone> {
     let mut file = InPlaceFile::new(rt, name, None);
     let is_written = fill(&mut file, text);
     file.close();
