@@ -35,13 +35,9 @@ _mkedit() {
     COMPREPLY=()
     if [[ $command == edit && $before == @(-d|--depth|-e|--expression|--backup) ]]; then
         return # a number, a command of a script, or a suffix
-<<<<<<< HEAD
     elif [[ $command == session && $before == @(-d|--depth) ]]; then
         return # a number
-    elif [[ $before == @(--name|--target|--nth) || $command == get && $before == get ]]; then
-=======
     elif [[ $before == @(--name|--target|--nth) ]]; then
->>>>>>> get
         return # a name, a target or a number
     elif [[ $word == -* && $before != @(-o|--output) ]]; then
         mapfile -t COMPREPLY < <(compgen -W "$(_mkedit_options "$command")" -- "$word")
