@@ -11,8 +11,9 @@ use Rattle.mk_listing.specs.declared.position.Position.{Position}
 use Rattle.mk_listing.specs.Listings.{Walk, position_below}
 
 -- the lines passed, one more
-take-passed : (ls left : List LocatedLine) (x : LocatedLine) (n : ℕ) → drop n ls ≡ x ∷ left → take (n + 1) ls ≡ take n ls ++ x ∷ []
-take-passed ls left x n e =
+take-passed : (ls ahead left : List LocatedLine) (x : LocatedLine) (n : ℕ) → ahead ≡ drop n ls → ahead ≡ x ∷ left → take (n + 1) ls ≡ take n ls ++ x ∷ []
+take-passed ls ahead left x n rest first =
+    let e : drop n ls ≡ x ∷ left = sym rest ∙ first in
     let short : n < length ls = omega (arith, length-drop n ls, ap length e) in
     let whole : ls ≡ (take n ls ++ x ∷ []) ++ left =
     sym (take-append-drop n ls) ∙ (ap (λ z. take n ls ++ z) e ∙ sym (append_assoc (take n ls) (x ∷ []) left)) in
@@ -30,7 +31,7 @@ position-passed : (doc left : List LocatedLine) (x : LocatedLine) (p next : Posi
     → next.index ≡ p.index + 1 → next.number ≡ p.number + count_by (λ b. b == 10) x.bytes → next.conditionals ≡ conditionals_after_located p.conditionals x.class
     → next ≡ position_below (take (p.index + 1) doc)
 position-passed doc left x p next here d i n c =
-    let above = take-passed doc left x p.index d in
+    let above = take-passed doc (x ∷ left) left x p.index (sym d) refl in
     let feeds : count_by (λ b. b == 10) (located_text (take (p.index + 1) doc)) ≡ count_by (λ b. b == 10) (located_text (take p.index doc)) + count_by (λ b. b == 10) x.bytes =
     ap (count_by (λ b. b == 10)) (text-step doc (x ∷ left) left x p.index d refl) ∙ sum_by-append (λ b. cond (b == 10) 1 0) (located_text (take p.index doc)) x.bytes in
     let index : p.index ≡ length (take p.index doc) = ap (λ (z : Position). z.index) here in
@@ -61,4 +62,4 @@ pub handed : (w : Walk) (doc ahead left : List LocatedLine) (x : LocatedLine) (p
     → ahead ≡ drop p.index doc → ahead ≡ x ∷ left → (p ≡ position_below w.above) × (w.ahead ≡ x ∷ left) × (take (p.index + 1) doc ≡ w.above ++ x ∷ [])
 handed w doc ahead left x p seen here rest e =
     subst (λ (w : Walk). (p ≡ position_below w.above) × (w.ahead ≡ x ∷ left) × (take (p.index + 1) doc ≡ w.above ++ x ∷ [])) seen
-    (here, e, take-passed doc left x p.index (sym rest ∙ e))
+    (here, e, take-passed doc ahead left x p.index rest e)
