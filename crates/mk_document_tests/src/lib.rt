@@ -4,12 +4,15 @@
 //! - `class`: tests of `mk_class`.
 //! - `tree`: tests of `mk_tree`.
 //! - `views`: tests of `mk_views`.
+//! - `listing`: tests of `mk_listing`.
 #![tactic(auto)]
 
 #[cfg(test)]
 mod class;
 #[cfg(test)]
 mod lines;
+#[cfg(test)]
+mod listing;
 #[cfg(test)]
 mod tree;
 #[cfg(test)]

@@ -1,0 +1,8 @@
+use Rattle.mk_listing.proofs.NumberLemmas.{assignments-numbered, rules-numbered}
+use Rattle.mk_listing.proofs.laws.numbers_are_those_of_edits.Goals as goal
+
+pub returns-clause-assignments : goal.returns-clause-assignments
+returns-clause-assignments c = assignments-numbered c.views_are_the_parts.ensures.assignments
+
+pub returns-clause-rules : goal.returns-clause-rules
+returns-clause-rules c = rules-numbered c.views_are_the_parts.ensures.rules

@@ -1,0 +1,14 @@
+//! Laws of listings, each as the contract of a function that does nothing.
+ghost use Rattle.mk_listing.specs.ListingLaws.{AssignmentsHaveTheirNumbers, RulesHaveTheirNumbers};
+
+use mk_views::laws::views_are_the_parts;
+
+/// The numbers of what is listed of one name or target are those that edits take: an edit with this
+/// name or target and the number of a line that is listed means this line. So it is for a document
+/// that is faithful, as `Doc::parse` makes it and a session lends it.
+pub fn numbers_are_those_of_edits()
+    ensures assignments { AssignmentsHaveTheirNumbers }
+    ensures rules { RulesHaveTheirNumbers }
+{
+    views_are_the_parts();
+}
