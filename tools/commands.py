@@ -6,12 +6,11 @@ line between the three.
 """
 
 import re
-import textwrap
 from pathlib import Path
 from typing import NamedTuple
 
 import mdoc
-from refusals import CONSTANT, ESCAPE, ESCAPED, WIDTH, cell, on_one_line, outdented
+from refusals import CONSTANT, ESCAPE, ESCAPED, cell, on_one_line, outdented
 
 TOP = Path(__file__).resolve().parent.parent
 FORMS = "crates/mkedit/src/script_command.rt"
@@ -92,25 +91,3 @@ def items(found):
         yield f".It Cm {word}" + (f" Ar {' '.join(fields)}" if fields else "")
         yield from mdoc.paragraph(it.does)
     yield ".El"
-
-
-def bash_words(found):
-    """The words, as bash has them in a variable."""
-    words = " ".join(it.word for it in found)
-    lines = textwrap.wrap(f'_mkedit_script_commands="{words}"', WIDTH, subsequent_indent="    ", break_on_hyphens=False)
-    yield from (f"{it} \\" for it in lines[:-1])
-    yield lines[-1]
-
-
-def zsh_words(found):
-    """The words, as zsh has them in an array of a function."""
-    yield "    words=("
-    indent = " " * 8
-    words = " ".join(it.word for it in found)
-    yield from textwrap.wrap(words, WIDTH, initial_indent=indent, subsequent_indent=indent, break_on_hyphens=False)
-    yield "    )"
-
-
-def fish_words(found):
-    """The words, as fish has them in a variable."""
-    yield f"set -l script_commands {' '.join(it.word for it in found)}"

@@ -6,7 +6,6 @@ with a refusal, stand in the definitions, RefusalTexts.antt.
 """
 
 import re
-import textwrap
 from pathlib import Path
 from typing import NamedTuple
 
@@ -25,8 +24,6 @@ ESCAPED = {"\\": "\\", '"': '"', "t": "\t", "n": "\n"}
 
 PARTS = re.compile(r"(.*?)\n\nExample: (.*?)\n\n(.*?)\n", re.S)
 EXAMPLE = re.compile(r"(?:over\n(.*?)\n)?the script\n(.*?)\nis reported as\n(.*)", re.S)
-# How wide a line of the completions may be.
-WIDTH = 100
 
 
 class Refusal(NamedTuple):
@@ -121,25 +118,3 @@ def items(found):
             yield ".Pp"
         yield from mdoc.paragraph(it.advice)
     yield ".El"
-
-
-def bash_words(found):
-    """The names, as bash has them in a variable."""
-    words = " ".join(it.name for it in found)
-    lines = textwrap.wrap(f'_mkedit_refusals="{words}"', WIDTH, subsequent_indent="    ")
-    yield from (f"{it} \\" for it in lines[:-1])
-    yield lines[-1]
-
-
-def zsh_words(found):
-    """The names, as zsh has them in an array of a function."""
-    yield "    refusals=("
-    indent = " " * 8
-    words = " ".join(it.name for it in found)
-    yield from textwrap.wrap(words, WIDTH, initial_indent=indent, subsequent_indent=indent)
-    yield "    )"
-
-
-def fish_words(found):
-    """The names, as fish has them in a variable."""
-    yield f"set -l refusals {' '.join(it.name for it in found)}"
