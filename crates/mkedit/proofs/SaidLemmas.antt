@@ -1,7 +1,6 @@
 -- What went out of the replies to a line.
-use Rattle.std.proofs.Common.{List, [], ◌++◌, ℕ, inl, inr}
+use Rattle.std.proofs.Common.{List, [], ℕ, inl, inr}
 use Rattle.std.specs.Prelude.{Option, ⊤, codes}
-use Rattle.std.proofs.KnownBytes.{Appends-trans}
 use Rattle.mk_history.specs.Shown.{Shown}
 use Rattle.mk_run.specs.RunEnds.{IsOut, written}
 use Rattle.mk_prompt.specs.Replies.{IsAnswered, reply_to}
@@ -15,6 +14,3 @@ answered-said line old new a b heard.Command (inl step) = (reply_to step.obeyed,
 answered-said line old new a b heard.Command (inr unread) = (codes "fault no memory\n", unread.2, tt)
 answered-said line old new a b heard.Nothing h = ([], h.2, tt)
 answered-said line old new a b heard.NoCommand h = ([], h.2, tt)
-
-pub said-more : (a b c : Option (List ℕ)) → SaysOut a b (λ _. ⊤) → SaysOut b c (λ _. ⊤) → SaysOut a c (λ _. ⊤)
-said-more a b c (x, p, _) (y, q, _) = (x ++ y, Appends-trans a b c x y p q, tt)
