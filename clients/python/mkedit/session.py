@@ -1,0 +1,207 @@
+"""A makefile that is open."""
+
+from contextlib import contextmanager
+from types import TracebackType
+from typing import Iterator, Optional, Type
+
+from .places import Place
+from .talk import PathName, Talk, field
+
+
+class Session:
+    """A makefile that is edited step by step. It changes on disk by `write` alone.
+
+    Each edit raises `Refused` where docs/EDITS.md says so, and has changed nothing then. nth is the number,
+    from 1, of the line that is meant among those of the same name or target; without it the edit means the
+    only one. `Fault` is raised where the session cannot answer.
+    """
+
+    def __init__(self, path: PathName, depth: Optional[int] = None, program: str = "mkedit") -> None:
+        self._talk = Talk(path, depth, program)
+
+    def __enter__(self) -> "Session":
+        return self
+
+    def __exit__(
+        self, kind: Optional[Type[BaseException]], fault: Optional[BaseException], trace: Optional[TracebackType]
+    ) -> None:
+        self.close()
+
+    def close(self) -> None:
+        """Ends the session. What is not written is lost."""
+        self._talk.end()
+
+    # ---- how commands and requests are sent
+
+    def _do(self, word: str, *fields: str, nth: Optional[int] = None, before: str = "") -> None:
+        number = ["nth", str(nth)] if nth is not None else []
+        self._talk.ask(*number, *([before] if before else []), word, *map(field, fields))
+
+    def _told(self, *words: str) -> str:
+        return self._talk.ask(*words).decode("utf-8", "surrogateescape")
+
+    # ---- variables
+
+    def set(self, name: str, value: str, nth: Optional[int] = None) -> None:
+        """Gives an assignment another value."""
+        self._do("set", name, value, nth=nth)
+
+    def append(self, name: str, value: str, nth: Optional[int] = None) -> None:
+        """Puts a text at the end of a value."""
+        self._do("append", name, value, nth=nth)
+
+    def add(self, name: str, word: str, nth: Optional[int] = None) -> None:
+        """Puts a word at the end of a value that does not have it."""
+        self._do("add", name, word, nth=nth)
+
+    def drop(self, name: str, word: str, nth: Optional[int] = None) -> None:
+        """Takes a word out of a value."""
+        self._do("drop", name, word, nth=nth)
+
+    def set_all(self, name: str, value: str) -> None:
+        """Gives each assignment of a name another value."""
+        self._do("set", name, value, before="all")
+
+    def append_all(self, name: str, value: str) -> None:
+        """Puts a text at the end of each value of a name."""
+        self._do("append", name, value, before="all")
+
+    def add_all(self, name: str, word: str) -> None:
+        """Puts a word at the end of each value of a name that does not have it."""
+        self._do("add", name, word, before="all")
+
+    def drop_all(self, name: str, word: str) -> None:
+        """Takes a word out of each value of a name."""
+        self._do("drop", name, word, before="all")
+
+    def unset(self, name: str, nth: Optional[int] = None) -> None:
+        """Takes an assignment away."""
+        self._do("unset", name, nth=nth)
+
+    def assign(self, place: Place, name: str, operator: str, value: str) -> None:
+        """Puts in the line of an assignment."""
+        self._do("assign", *place.fields, name, operator, value, nth=place.nth)
+
+    # ---- rules
+
+    def rule(self, place: Place, targets: str, separator: str, prerequisites: str) -> None:
+        """Puts in the line of a rule."""
+        self._do("rule", *place.fields, targets, separator, prerequisites, nth=place.nth)
+
+    def unrule(self, target: str, nth: Optional[int] = None) -> None:
+        """Takes a rule away, with its recipe."""
+        self._do("unrule", target, nth=nth)
+
+    def depend(self, target: str, word: str, nth: Optional[int] = None) -> None:
+        """Puts a word at the end of a rule's prerequisites."""
+        self._do("depend", target, word, nth=nth)
+
+    def depend_order(self, target: str, word: str, nth: Optional[int] = None) -> None:
+        """Puts a word at the end of a rule's order-only prerequisites."""
+        self._do("depend-order", target, word, nth=nth)
+
+    def undepend(self, target: str, word: str, nth: Optional[int] = None) -> None:
+        """Takes a word out of a rule's prerequisites."""
+        self._do("undepend", target, word, nth=nth)
+
+    def recipe(self, target: str, line: str, nth: Optional[int] = None) -> None:
+        """Puts a line at the end of a rule's recipe."""
+        self._do("recipe", target, line, nth=nth)
+
+    def recipe_insert(self, target: str, number: int, line: str, nth: Optional[int] = None) -> None:
+        """Puts a line before the recipe line of a number, from 1."""
+        self._do("recipe-insert", target, str(number), line, nth=nth)
+
+    def recipe_set(self, target: str, number: int, line: str, nth: Optional[int] = None) -> None:
+        """Replaces the recipe line of a number, from 1."""
+        self._do("recipe-set", target, str(number), line, nth=nth)
+
+    def recipe_del(self, target: str, number: int, nth: Optional[int] = None) -> None:
+        """Takes the recipe line of a number, from 1, away."""
+        self._do("recipe-del", target, str(number), nth=nth)
+
+    def recipe_replace(self, target: str, old: str, line: str, nth: Optional[int] = None) -> None:
+        """Replaces the recipe line that says old."""
+        self._do("recipe-replace", target, old, line, nth=nth)
+
+    def recipe_remove(self, target: str, old: str, nth: Optional[int] = None) -> None:
+        """Takes the recipe line away that says old."""
+        self._do("recipe-remove", target, old, nth=nth)
+
+    def rename(self, old: str, new: str) -> None:
+        """Gives a target another name, also where it is a prerequisite."""
+        self._do("rename", old, new)
+
+    # ---- history
+
+    def undo(self) -> None:
+        """Takes the last edit or group back."""
+        self._do("undo")
+
+    def redo(self) -> None:
+        """Makes the edit or group again that was taken back last."""
+        self._do("redo")
+
+    @contextmanager
+    def group(self) -> Iterator["Session"]:
+        """Edits as one: an exception takes all of them back."""
+        self._do("begin")
+        try:
+            yield self
+        except BaseException:
+            self._do("cancel")
+            raise
+        self._do("end")
+
+    def revert(self) -> None:
+        """Takes back all that can be; a fault where the depth was too small for that."""
+        self._do("revert")
+
+    # ---- what the makefile has
+
+    def text(self) -> str:
+        """The text that is shown: the file as it was opened, with the edits that stand."""
+        return self._told("print")
+
+    def lines(self, first: int, last: int) -> str:
+        """Its lines from one number to another; the first line has the number 1."""
+        return self._told("print", str(first), str(last))
+
+    def diff(self) -> str:
+        """The difference from the file as it was opened, as `mkedit edit --diff` prints it."""
+        return self._told("diff")
+
+    def vars(self) -> str:
+        """What `mkedit vars` prints."""
+        return self._told("vars")
+
+    def rules(self) -> str:
+        """What `mkedit rules` prints."""
+        return self._told("rules")
+
+    def recipes(self) -> str:
+        """What `mkedit recipes` prints."""
+        return self._told("recipes")
+
+    def check(self) -> str:
+        """What `mkedit check` prints."""
+        return self._told("check")
+
+    def caveats(self) -> str:
+        """What `mkedit caveats` prints."""
+        return self._told("caveats")
+
+    def explain(self, refusal: str) -> str:
+        """What `mkedit explain` prints of a refusal, by its name or its number."""
+        return self._told("explain", refusal)
+
+    # ---- the file
+
+    def write(self, anyway: bool = False) -> None:
+        """Puts the text into the file in one step; a fault where the file has changed, unless anyway is true."""
+        self._do("write!" if anyway else "write")
+
+
+def open(path: PathName, depth: Optional[int] = None, program: str = "mkedit") -> Session:
+    """Opens a makefile. depth is how many edits can be undone, from 1 to 10,000; without it 100."""
+    return Session(path, depth, program)

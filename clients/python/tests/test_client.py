@@ -1,0 +1,173 @@
+"""Tests of the client over the program: the one that the variable MKEDIT names, or the one in PATH."""
+
+import os
+import tempfile
+import unittest
+from pathlib import Path
+
+import mkedit
+
+PROGRAM = os.environ.get("MKEDIT", "mkedit")
+MAKEFILE = """\
+CC = gcc # c
+CFLAGS = -O2 -Werror
+X = 1
+X = 2
+
+all: a.o b.o
+\tcc -o $@ $^
+\trm -f x
+"""
+
+
+class Client(unittest.TestCase):
+    def setUp(self):
+        folder = tempfile.TemporaryDirectory()
+        self.addCleanup(folder.cleanup)
+        self.path = Path(folder.name) / "Makefile"
+        self.path.write_text(MAKEFILE)
+
+    def open(self, **how):
+        session = mkedit.open(self.path, program=PROGRAM, **how)
+        self.addCleanup(session.close)
+        return session
+
+    def assert_edit(self, edit, old, new):
+        """An edit that exchanges one part of the text, and that can be taken back and made again."""
+        with self.open() as makefile:
+            edit(makefile)
+            self.assertEqual(makefile.text(), MAKEFILE.replace(old, new, 1))
+            makefile.undo()
+            self.assertEqual(makefile.text(), MAKEFILE)
+            makefile.redo()
+            self.assertEqual(makefile.text(), MAKEFILE.replace(old, new, 1))
+        self.assertEqual(self.path.read_text(), MAKEFILE)
+
+    def test_edits_of_variables(self):
+        cases = (
+            (lambda it: it.set("CC", "clang"), "gcc", "clang"),
+            (lambda it: it.set("CC", 'a "b" \\c'), "gcc", 'a "b" \\c'),
+            (lambda it: it.set("X", "3", nth=2), "X = 2", "X = 3"),
+            (lambda it: it.set_all("X", ""), "X = 1\nX = 2", "X = \nX = "),
+            (lambda it: it.append("CFLAGS", "-g -pipe"), "-Werror", "-Werror -g -pipe"),
+            (lambda it: it.append_all("X", "3"), "X = 1\nX = 2", "X = 1 3\nX = 2 3"),
+            (lambda it: it.add("CFLAGS", "-g"), "-Werror", "-Werror -g"),
+            (lambda it: it.add_all("X", "2"), "X = 1", "X = 1 2"),
+            (lambda it: it.drop("CFLAGS", "-Werror"), " -Werror", ""),
+            (lambda it: it.drop_all("X", "1"), "X = 1", "X = "),
+            (lambda it: it.unset("X", nth=1), "X = 1\n", ""),
+            (lambda it: it.assign(mkedit.after_var("CC"), "CXX", ":=", "g++"), "# c\n", "# c\nCXX := g++\n"),
+            (lambda it: it.assign(mkedit.before_var("X", nth=2), "Y", "?=", ""), "X = 2", "Y ?=\nX = 2"),
+        )
+        for edit, old, new in cases:
+            with self.subTest(new):
+                self.assert_edit(edit, old, new)
+
+    def test_edits_of_rules(self):
+        cases = (
+            (lambda it: it.rule(mkedit.before_rule("all"), "x y", ":", "z"), "all:", "x y: z\nall:"),
+            (lambda it: it.rule(mkedit.BOTTOM, "x", "::", ""), "x\n", "x\nx::\n"),
+            (lambda it: it.unrule("all"), MAKEFILE[MAKEFILE.index("all") :], ""),
+            (lambda it: it.depend("all", "c.o"), "b.o", "b.o c.o"),
+            (lambda it: it.depend_order("all", "out"), "b.o", "b.o | out"),
+            (lambda it: it.undepend("all", "a.o"), " a.o", ""),
+            (lambda it: it.recipe("all", "ls"), "rm -f x\n", "rm -f x\n\tls\n"),
+            (lambda it: it.recipe_insert("all", 1, "ls"), "\tcc", "\tls\n\tcc"),
+            (lambda it: it.recipe_set("all", 2, "ls"), "rm -f x", "ls"),
+            (lambda it: it.recipe_del("all", 2), "\trm -f x\n", ""),
+            (lambda it: it.recipe_replace("all", "rm -f x", "rm -rf x"), "rm -f x", "rm -rf x"),
+            (lambda it: it.recipe_remove("all", "rm -f x"), "\trm -f x\n", ""),
+            (lambda it: it.rename("all", "main"), "all:", "main:"),
+        )
+        for edit, old, new in cases:
+            with self.subTest(new):
+                self.assert_edit(edit, old, new)
+
+    def test_a_refusal_has_its_number_name_and_detail(self):
+        cases = (
+            (lambda it: it.set("X", "3"), (5, "Ambiguous", 2)),
+            (lambda it: it.set("Y", "3"), (4, "NoSuch", None)),
+            (lambda it: it.set("a b", "c"), (1, "BadArgument", "name")),
+            (lambda it: it.undo(), (16, "NothingToUndo", None)),
+        )
+        makefile = self.open()
+        for edit, wanted in cases:
+            with self.subTest(wanted[1]):
+                with self.assertRaises(mkedit.Refused) as caught:
+                    edit(makefile)
+                refused = caught.exception
+                self.assertEqual((refused.number, refused.name, refused.detail), wanted)
+        self.assertEqual(makefile.text(), MAKEFILE)
+
+    def test_a_group_is_one_edit_or_none(self):
+        makefile = self.open()
+        with makefile.group():
+            makefile.set("CC", "clang")
+            makefile.unset("CFLAGS")
+        makefile.undo()
+        self.assertEqual(makefile.text(), MAKEFILE)
+        with self.assertRaises(mkedit.Refused):
+            with makefile.group():
+                makefile.set("CC", "clang")
+                makefile.set("Y", "1")
+        self.assertEqual(makefile.text(), MAKEFILE)
+
+    def test_the_file_changes_by_write_alone(self):
+        makefile = self.open()
+        makefile.set("CC", "clang")
+        self.assertEqual(self.path.read_text(), MAKEFILE)
+        makefile.write()
+        self.assertEqual(self.path.read_text(), MAKEFILE.replace("gcc", "clang"))
+        makefile.revert()
+        self.assertEqual(makefile.text(), MAKEFILE)
+        self.path.write_text("all:\n")
+        with self.assertRaises(mkedit.Fault):
+            makefile.write()
+        makefile.write(anyway=True)
+        self.assertEqual(self.path.read_text(), MAKEFILE)
+
+    def test_what_the_makefile_has(self):
+        makefile = self.open()
+        self.assertEqual(makefile.lines(2, 3), "CFLAGS = -O2 -Werror\nX = 1\n")
+        self.assertEqual(makefile.diff(), "")
+        self.assertEqual(makefile.vars().splitlines()[0], "1:0: CC = gcc")
+        self.assertEqual(makefile.rules(), "6:0: all: a.o b.o [2]\n")
+        self.assertEqual(makefile.recipes().splitlines()[1], "8:0: all [2] rm -f x")
+        self.assertEqual((makefile.check(), makefile.caveats()), ("", ""))
+        self.assertIn("NoSuch", makefile.explain("4"))
+        makefile.set("CC", "clang")
+        self.assertIn("\n-CC = gcc # c\n+CC = clang # c\n", makefile.diff())
+
+    def test_bytes_that_are_no_text_stay(self):
+        self.path.write_bytes(b"A = \xff\nB = 1")
+        makefile = self.open()
+        self.assertEqual(makefile.text(), "A = \udcff\nB = 1")
+        makefile.append("A", "\udcfe")
+        makefile.write()
+        self.assertEqual(self.path.read_bytes(), b"A = \xff \xfe\nB = 1")
+
+    def test_a_line_feed_is_in_no_command(self):
+        makefile = self.open()
+        with self.assertRaises(ValueError):
+            makefile.set("CC", "a\nundo")
+        makefile.set("CC", "clang")
+
+    def test_what_cannot_be_opened(self):
+        for how in ({"depth": 0}, {}):
+            with self.subTest(how):
+                with self.assertRaises(mkedit.Fault):
+                    mkedit.open(self.path if how else self.path.parent / "none", program=PROGRAM, **how)
+
+    def test_the_depth_bounds_what_can_be_undone(self):
+        makefile = self.open(depth=1)
+        makefile.set("CC", "clang")
+        makefile.unset("CFLAGS")
+        makefile.undo()
+        with self.assertRaises(mkedit.Refused):
+            makefile.undo()
+        with self.assertRaises(mkedit.Fault):
+            makefile.revert()
+
+
+if __name__ == "__main__":
+    unittest.main()

@@ -1,0 +1,23 @@
+"""Runs the tests of the client for Python (clients/python) over the program, as whoever changes the client does."""
+
+import os
+import subprocess
+import sys
+
+from tests import TOP
+from tests.lib.checks import SECONDS
+from tests.lib.rooms import RoomCase
+
+
+class Client(RoomCase):
+    def test_the_tests_of_the_client_pass(self):
+        command = [sys.executable, "-B", "-W", "error", "-m", "unittest"]
+        ended = subprocess.run(
+            command,
+            cwd=TOP / "clients/python",
+            env={**os.environ, "MKEDIT": str(self.room.program.path)},
+            capture_output=True,
+            text=True,
+            timeout=SECONDS,
+        )
+        self.assertEqual(ended.returncode, 0, ended.stderr)
