@@ -104,4 +104,4 @@ class Documents(RoomCase):
         self.assert_examples(LANGUAGE, check_unread, last_chapter(), 36)
 
     def test_the_code_of_the_page_on_the_library(self):
-        self.assert_examples(LIBRARY, check_code, LIBRARY.read_text(encoding="utf-8"), 4)
+        self.assert_examples(LIBRARY, check_code, LIBRARY.read_text(encoding="utf-8"), 3)

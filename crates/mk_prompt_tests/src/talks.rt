@@ -11,6 +11,7 @@ use test_devices::{MemorySink, MemorySource};
 use watched::Watched;
 
 // Replies to a line with the line between brackets, and ends at a line that begins with `q`.
+#[derive(Drop)]
 struct Echo;
 
 impl Listener for Echo {
