@@ -28,6 +28,38 @@ _mkedit_script_commands="set append add drop unset assign rule unrule depend dep
     begin end cancel try or"
 # made until here
 
+# The makefile that the command line names, or else the one that make reads in this folder.
+_mkedit_makefile() {
+    local it
+    for it in "${COMP_WORDS[@]:2}" GNUmakefile makefile Makefile; do
+        [[ -f $it ]] && printf '%s\n' "$it" && return
+    done
+    return 1
+}
+
+# The names that the makefile assigns, one a line. One that the shell would expand or cut is left out.
+_mkedit_names() {
+    local file
+    file=$(_mkedit_makefile) && "${COMP_WORDS[0]}" vars -- "$file" 2>/dev/null |
+        sed -nE 's/^[0-9]+:[0-9]+: ((export|override|private) )*([A-Za-z0-9_.%+/@,-]+) ([?+!]|:{1,3})?=.*/\3/p'
+}
+
+# The targets of the makefile's rules, one a line. A rule with such a target is left out.
+_mkedit_targets() {
+    local file
+    file=$(_mkedit_makefile) && "${COMP_WORDS[0]}" rules -- "$file" 2>/dev/null |
+        sed -nE 's/^[0-9]+:[0-9]+: ([A-Za-z0-9_.%+/@, -]+)&?:.*/\1/p' | tr -s ' ' '\n'
+}
+
+# Offers the lines that begin with the word. They come from a makefile, so they do not go through
+# `compgen -W`, which would run what stands in a `$(..)`.
+_mkedit_offer() {
+    local it
+    while IFS= read -r it; do
+        [[ $it == "$1"* ]] && COMPREPLY+=("$it")
+    done < <(sort -u)
+}
+
 _mkedit() {
     local word=${COMP_WORDS[COMP_CWORD]} before=${COMP_WORDS[COMP_CWORD - 1]}
     local command= commands="edit vars rules recipes check caveats get explain session help"
@@ -37,12 +69,14 @@ _mkedit() {
         return # a number, a command of a script, or a suffix
     elif [[ $command == session && $before == @(-d|--depth) ]]; then
         return # a number
-    elif [[ $before == @(--name|--target|--nth) ]]; then
-        return # a name, a target or a number
+    elif [[ $command == get && $before == --nth ]]; then
+        return # a number
+    elif [[ $command == get && $before == get && $word != -* || $command == vars && $before == --name ]]; then
+        _mkedit_offer "$word" < <(_mkedit_names)
+    elif [[ $command == @(rules|recipes) && $before == --target ]]; then
+        _mkedit_offer "$word" < <(_mkedit_targets)
     elif [[ $word == -* && $before != @(-o|--output) ]]; then
         mapfile -t COMPREPLY < <(compgen -W "$(_mkedit_options "$command")" -- "$word")
-    elif [[ $command == get && $before == get ]]; then
-        return # a name
     elif [[ $command == help && COMP_CWORD -eq 2 ]]; then
         mapfile -t COMPREPLY < <(compgen -W "$commands $_mkedit_script_commands" -- "$word")
     elif ((COMP_CWORD == 1)); then

@@ -1,6 +1,26 @@
 # Completion of mkedit's command line for fish.
 # make install puts this file where fish looks for completions of its own accord.
 
+# The makefile that the command line names, or else the one that make reads in this folder.
+function __mkedit_makefile
+    for it in (commandline -opc)[3..] (commandline -ct) GNUmakefile makefile Makefile
+        test -f "$it"; and printf '%s\n' $it; and return
+    end
+    return 1
+end
+
+# The names that the makefile assigns.
+function __mkedit_names
+    set -l file (__mkedit_makefile); or return
+    mkedit vars -- $file 2>/dev/null | string replace -rf '^\d+:\d+: (?:(?:export|override|private) )*([\w.%+/@,-]+) (?:[?+!]|:{1,3})?=.*' '$1' | sort -u
+end
+
+# The targets of the makefile's rules.
+function __mkedit_targets
+    set -l file (__mkedit_makefile); or return
+    mkedit rules -- $file 2>/dev/null | string replace -rf '^\d+:\d+: ([\w.%+/@, -]+)&?:.*' '$1' | string split -n ' ' | sort -u
+end
+
 complete -c mkedit -f
 complete -c mkedit -s h -l help -d 'Print help'
 complete -c mkedit -n __fish_use_subcommand -s V -l version -d 'Print version'
@@ -24,9 +44,10 @@ complete -c mkedit -n '__fish_seen_subcommand_from edit' -l backup -x -d 'With -
 complete -c mkedit -n '__fish_seen_subcommand_from edit' -l diff -d 'Prints what would change, as a diff that patch takes, in place of the text'
 complete -c mkedit -n '__fish_seen_subcommand_from edit' -s e -l expression -x -d 'A line of a script, in place of SCRIPT; several -e are its lines'
 
-complete -c mkedit -n '__fish_seen_subcommand_from vars; and not __fish_seen_subcommand_from help' -l name -x -d 'Lists the assignments of this name alone, for targets or not'
-complete -c mkedit -n '__fish_seen_subcommand_from rules recipes; and not __fish_seen_subcommand_from help' -l target -x -d 'Lists what belongs to the rules for this target alone'
+complete -c mkedit -n '__fish_seen_subcommand_from vars; and not __fish_seen_subcommand_from help' -l name -x -a '(__mkedit_names)' -d 'Lists the assignments of this name alone, for targets or not'
+complete -c mkedit -n '__fish_seen_subcommand_from rules recipes; and not __fish_seen_subcommand_from help' -l target -x -a '(__mkedit_targets)' -d 'Lists what belongs to the rules for this target alone'
 complete -c mkedit -n '__fish_seen_subcommand_from get; and not __fish_seen_subcommand_from help' -l nth -x -d 'Takes the N-th of several assignments of the name, from 1'
+complete -c mkedit -n '__fish_seen_subcommand_from get; and test (count (commandline -opc)) -eq 2' -a '(__mkedit_names)'
 complete -c mkedit -n '__fish_seen_subcommand_from edit vars rules recipes check caveats get; and not __fish_seen_subcommand_from help' -l notes -d 'Says below a message why a file could not be opened, read or written'
 complete -c mkedit -n '__fish_seen_subcommand_from edit vars rules recipes check caveats get session; and not __fish_seen_subcommand_from help' -F
 complete -c mkedit -n '__fish_seen_subcommand_from help' -a 'edit vars rules recipes check caveats get explain session help'

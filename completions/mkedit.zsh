@@ -19,6 +19,35 @@ _mkedit_commands() {
     _describe -t commands 'command' commands
 }
 
+# The makefile that the command line names, or else the one that make reads in this folder.
+_mkedit_makefile() {
+    local it
+    for it in ${(Q)words[2,-1]} GNUmakefile makefile Makefile; do
+        [[ -f $it ]] && print -r -- $it && return
+    done
+    return 1
+}
+
+# The names that the makefile assigns.
+_mkedit_names() {
+    local file
+    local -a names
+    file=$(_mkedit_makefile) || return 1
+    names=(${(f)"$(_call_program names mkedit vars -- ${(q)file} 2>/dev/null |
+        sed -nE 's/^[0-9]+:[0-9]+: ((export|override|private) )*([A-Za-z0-9_.%+/@,-]+) ([?+!]|:{1,3})?=.*/\3/p')"})
+    compadd "$@" -- ${(u)names}
+}
+
+# The targets of the makefile's rules.
+_mkedit_targets() {
+    local file
+    local -a targets
+    file=$(_mkedit_makefile) || return 1
+    targets=(${(f)"$(_call_program targets mkedit rules -- ${(q)file} 2>/dev/null |
+        sed -nE 's/^[0-9]+:[0-9]+: ([A-Za-z0-9_.%+/@, -]+)&?:.*/\1/p' | tr -s ' ' '\n')"})
+    compadd "$@" -- ${(u)targets}
+}
+
 _mkedit_edit() {
     local -a files
     if (( $words[(I)(-e*|--expression*)] )); then
@@ -48,12 +77,12 @@ _mkedit_query() {
 
 _mkedit_vars() {
     _mkedit_query \
-        '--name=[list the assignments of this name alone, for targets or not]:name: '
+        '--name=[list the assignments of this name alone, for targets or not]:name:_mkedit_names'
 }
 
 _mkedit_rules() {
     _mkedit_query \
-        '--target=[list what belongs to the rules for this target alone]:target: '
+        '--target=[list what belongs to the rules for this target alone]:target:_mkedit_targets'
 }
 
 _mkedit_get() {
@@ -61,7 +90,7 @@ _mkedit_get() {
         '--nth=[take the N-th of several assignments of the name, from 1]:number: ' \
         '--notes[say below a message why a file could not be opened, read or written]' \
         '(-h --help)'{-h,--help}'[print help]' \
-        '1:name: ' \
+        '1:name:_mkedit_names' \
         '*:makefile:_files'
 }
 

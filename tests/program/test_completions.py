@@ -8,6 +8,7 @@ import re
 import shutil
 import subprocess
 import sys
+from pathlib import Path
 
 from tests import TOP
 from tests.lib.checks import SECONDS
@@ -19,6 +20,21 @@ sys.path.insert(0, str(TOP / "tools"))
 from commands import commands as commands_of_scripts  # noqa: E402
 
 FOLDER = TOP / "completions"
+# A makefile with names and targets that a shell would expand, cut or run.
+HOSTILE = """\
+CC = gcc
+export CFLAGS ?= -O2
+CC += -g
+$(shell touch pwned) = 1
+`touch pwned` = 2
+X;touch = 3
+debug: ONLY = 4
+all check: config.h
+%.o: %.c ; cc
+`touch pwned`: all
+$(shell touch pwned): all
+"""
+NAMES, TARGETS = {"CC", "CFLAGS"}, {"all", "check", "%.o"}
 COMMAND = re.compile(r"^  (\w+) {2}", re.M)
 OPTION = re.compile(r"^ +(?:(-\w), )?(--[\w-]+)", re.M)
 ZSH_COMMAND = re.compile(r"^ +'(\w+):.*'$", re.M)
@@ -114,14 +130,15 @@ def offered_by_bash(room, words, begun):
 
 def offered_by_fish(room, words, begun):
     """What fish offers for the word that is begun after the others."""
-    line = " ".join([*words, begun])
+    line = " ".join([*map(str, words), begun])
     script = f'source {FOLDER / "mkedit.fish"}; complete -C "{line}"'
     return {it.partition("\t")[0] for it in answered(["fish", "--no-config", "-c", script], room)}
 
 
 def answered(words, room):
-    """The lines that a shell prints in the folder of the room."""
-    home = {"HOME": str(room.folder), "PATH": "/usr/local/bin:/usr/bin:/bin", "LC_ALL": "C.UTF-8"}
+    """The lines that a shell prints in the folder of the room, where `mkedit` is the program."""
+    path = f"{Path(room.program.path).parent}:/usr/local/bin:/usr/bin:/bin"
+    home = {"HOME": str(room.folder), "PATH": path, "LC_ALL": "C.UTF-8"}
     how = {"cwd": room.folder, "env": home, "timeout": SECONDS}
     ran = subprocess.run(words, capture_output=True, text=True, **how)
     if ran.stderr:
@@ -144,11 +161,30 @@ class Completions(RoomCase):
         for words in (["edit", "-d"], ["vars", "--name"], ["rules", "--target"], ["get", "--nth"]):
             self.assertFalse(there & offered(self.room, ["mkedit", *words], ""), words)
 
+    def assert_completes_names(self, shell, offered):
+        """A shell has to offer the names and the targets of the makefile that make reads, and of one that is named."""
+        if not shutil.which(shell):
+            self.skipTest(f"{shell} is not there")
+        self.room.write("Makefile", HOSTILE.encode())
+        there = files(self.room)
+        for words, wanted in ((["get"], NAMES), (["vars", "--name"], NAMES), (["rules", "--target"], TARGETS)):
+            self.assertEqual(offered(self.room, ["mkedit", *words], "") - there, wanted, words)
+        self.assertEqual(offered(self.room, ["mkedit", "get"], "CF"), {"CFLAGS"})
+        self.room.write("other.mk", b"ELSE = 1\n")
+        self.assertEqual(offered(self.room, ["mkedit", "vars", "other.mk", "--name"], ""), {"ELSE"})
+        self.assertFalse((self.room.folder / "pwned").exists())
+
     def test_bash_completes_what_help_lists(self):
         self.assert_completes("bash", offered_by_bash)
 
     def test_fish_completes_what_help_lists(self):
         self.assert_completes("fish", offered_by_fish)
+
+    def test_bash_completes_names_and_runs_nothing_of_a_makefile(self):
+        self.assert_completes_names("bash", offered_by_bash)
+
+    def test_fish_completes_names_and_runs_nothing_of_a_makefile(self):
+        self.assert_completes_names("fish", offered_by_fish)
 
     def test_the_file_for_fish_has_what_help_lists(self):
         text = (FOLDER / "mkedit.fish").read_text(encoding="utf-8")
