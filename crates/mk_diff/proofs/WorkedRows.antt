@@ -118,11 +118,11 @@ tab = refl
 -- ---- a diff in colours, as GNU diff paints it
 
 -- a line between the sequences of a terminal
-abbrev in_colour : (number line : List ℕ) → List ℕ
-in_colour number line = 27 ∷ (codes "[" ++ (number ++ (codes "m" ++ (line ++ (27 ∷ codes "[0m\n")))))
+abbrev in_color : (number line : List ℕ) → List ℕ
+in_color number line = 27 ∷ (codes "[" ++ (number ++ (codes "m" ++ (line ++ (27 ∷ codes "[0m\n")))))
 
 painted_hunk : painted_diff (codes "--- a/F\n+++ b/F\n@@ -1,2 +1,2 @@\n a\n--- b\n+++ b\n")
-    ≡ in_colour (codes "1") (codes "--- a/F") ++ (in_colour (codes "1") (codes "+++ b/F")
-    ++ (in_colour (codes "36") (codes "@@ -1,2 +1,2 @@") ++ (codes " a\n"
-    ++ (in_colour (codes "31") (codes "--- b") ++ in_colour (codes "32") (codes "+++ b")))))
+    ≡ in_color (codes "1") (codes "--- a/F") ++ (in_color (codes "1") (codes "+++ b/F")
+    ++ (in_color (codes "36") (codes "@@ -1,2 +1,2 @@") ++ (codes " a\n"
+    ++ (in_color (codes "31") (codes "--- b") ++ in_color (codes "32") (codes "+++ b")))))
 painted_hunk = refl

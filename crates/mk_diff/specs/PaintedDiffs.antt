@@ -9,27 +9,27 @@ abbrev pub escape : (number : List ℕ) → List ℕ
 escape number = 27 ∷ 91 ∷ (number ++ codes "m")
 
 -- a line in a colour, which ends before the line end
-abbrev pub painted_by : (colour line : List ℕ) → List ℕ
-painted_by colour line =
-    colour ++ (without_line_end line ++ (escape (codes "0") ++ line_end_bytes (line_end line)))
+abbrev pub painted_by : (color line : List ℕ) → List ℕ
+painted_by color line =
+    color ++ (without_line_end line ++ (escape (codes "0") ++ line_end_bytes (line_end line)))
 
 -- the colour of a line below the names: that of an added line is green, that of a removed one is
 -- red, and that of the numbers of a hunk cyan
-abbrev pub colour_of : (line : List ℕ) → Option (List ℕ)
-colour_of [] = None
-colour_of (b ∷ t) =
+abbrev pub color_of : (line : List ℕ) → Option (List ℕ)
+color_of [] = None
+color_of (b ∷ t) =
     if b == 43 then Some (escape (codes "32")) else
     if b == 45 then Some (escape (codes "31")) else
     if b == 64 then Some (escape (codes "36")) else
     None
 
 -- a line in its colour, if it has one
-abbrev pub coloured : Option (List ℕ) → (line : List ℕ) → List ℕ
-coloured None line = line
-coloured (Some colour) line = painted_by colour line
+abbrev pub colored : Option (List ℕ) → (line : List ℕ) → List ℕ
+colored None line = line
+colored (Some color) line = painted_by color line
 
 abbrev pub painted_line : (line : List ℕ) → List ℕ
-painted_line line = coloured (colour_of line) line
+painted_line line = colored (color_of line) line
 
 abbrev pub bold_line : (line : List ℕ) → List ℕ
 bold_line line = painted_by (escape (codes "1")) line

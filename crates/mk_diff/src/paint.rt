@@ -3,7 +3,7 @@ ghost use Rattle.std.specs.Prelude.{◌≡◌, ◌++◌, IfOk, IsOkUnless, drop,
 ghost use Rattle.std.specs.List.{flat_map};
 ghost use Rattle.std.specs.Option.{option_copied};
 ghost use Rattle.mk_lines.specs.PhysicalLines.{line_end_bytes, physical_lines};
-ghost use Rattle.mk_diff.specs.PaintedDiffs.{bold_line, colour_of, painted_by, painted_diff, painted_line};
+ghost use Rattle.mk_diff.specs.PaintedDiffs.{bold_line, color_of, painted_by, painted_diff, painted_line};
 
 use crate::lines::first_length;
 use crate::text::put;
@@ -14,8 +14,11 @@ use std::alloc::Allocator;
 // The sequences of a terminal: for the names, for lines that are added and removed, for the numbers
 // of a hunk.
 const BOLD: &[u8] = b"\x1b[1m";
+
 const GREEN: &[u8] = b"\x1b[32m";
+
 const RED: &[u8] = b"\x1b[31m";
+
 const CYAN: &[u8] = b"\x1b[36m";
 // What ends a colour.
 const PLAIN: &[u8] = b"\x1b[0m";
@@ -32,23 +35,19 @@ fn end_bytes<'a>(end: End) -> &'a [u8]
 }
 
 // Puts a line in a colour behind a text.
-fn put_in_colour<A: Allocator>(
-    text: &mut Vec<u8, A>,
-    colour: &[u8],
-    line: &[u8],
-) -> Result<(), Fault>
-    ensures bytes { IfOk result (λ _. text.new.items ≡ text.old.items ++ painted_by colour.now line.now) }
+fn put_in_color<A: Allocator>(text: &mut Vec<u8, A>, color: &[u8], line: &[u8]) -> Result<(), Fault>
+    ensures bytes { IfOk result (λ _. text.new.items ≡ text.old.items ++ painted_by color.now line.now) }
     ensures fault { IsOkUnless result Fault.NoMemory }
 {
-    put(text, colour)?;
+    put(text, color)?;
     put(text, without_line_end(line))?;
     put(text, PLAIN)?;
     put(text, end_bytes(line_end(line)))
 }
 
 // The colour of a line below the names.
-fn colour_of<'a>(line: &[u8]) -> Option<&'a [u8]>
-    ensures { option_copied result ≡ colour_of line.now }
+fn color_of<'a>(line: &[u8]) -> Option<&'a [u8]>
+    ensures { option_copied result ≡ color_of line.now }
 {
     match line {
         [b'+', ..] => Some(GREEN),
@@ -63,8 +62,8 @@ fn put_line<A: Allocator>(text: &mut Vec<u8, A>, line: &[u8]) -> Result<(), Faul
     ensures bytes { IfOk result (λ _. text.new.items ≡ text.old.items ++ painted_line line.now) }
     ensures fault { IsOkUnless result Fault.NoMemory }
 {
-    match colour_of(line) {
-        Some(colour) => put_in_colour(text, colour, line),
+    match color_of(line) {
+        Some(color) => put_in_color(text, color, line),
         None => put(text, line),
     }
 }
@@ -80,7 +79,7 @@ fn put_name<'a, A: Allocator>(text: &mut Vec<u8, A>, lines: &'a [u8]) -> Result<
         return Ok(lines);
     }
     let (line, rest) = lines.split_at(first_length(lines));
-    put_in_colour(text, BOLD, line)?;
+    put_in_color(text, BOLD, line)?;
     Ok(rest)
 }
 
