@@ -5,7 +5,7 @@
 _mkedit_options() {
     case $1 in
         "") echo "-h --help -V --version" ;;
-        edit) echo "-k --keep-going -d --depth -o --output -i --in-place --backup --diff -e --expression --notes -h --help" ;;
+        edit) echo "-k --keep-going -d --depth -o --output -i --in-place --backup --diff --color -e --expression --notes -h --help" ;;
         vars) echo "--name --notes -h --help" ;;
         rules | recipes) echo "--target --notes -h --help" ;;
         check | caveats) echo "--notes -h --help" ;;
@@ -67,6 +67,8 @@ _mkedit() {
     COMPREPLY=()
     if [[ $command == edit && $before == @(-d|--depth|-e|--expression|--backup) ]]; then
         return # a number, a command of a script, or a suffix
+    elif [[ $command == edit && $before == --color ]]; then
+        mapfile -t COMPREPLY < <(compgen -W "auto always never" -- "$word")
     elif [[ $command == session && $before == @(-d|--depth) ]]; then
         return # a number
     elif [[ $command == get && $before == --nth ]]; then

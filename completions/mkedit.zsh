@@ -62,6 +62,7 @@ _mkedit_edit() {
         '(-i --in-place -o --output --diff)'{-i,--in-place}'[the makefile gets the text]' \
         '(-o --output)--backup=[with -i, keeps the old file under its name with this suffix at its end]:suffix: ' \
         '(-i --in-place)--diff[prints what would change, as a diff that patch takes, in place of the text]' \
+        '--color=[whether a diff has colours]:when:(auto always never)' \
         '*'{-e+,--expression=}'[a line of a script, in place of the script]:command: ' \
         '--notes[say below a message why a file could not be opened, read or written]' \
         '(-h --help)'{-h,--help}'[print help]' \

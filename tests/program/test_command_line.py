@@ -32,7 +32,7 @@ class CommandLine(RoomCase):
     def test_help_of_edit_names_its_options(self):
         options = ("-k, --keep-going", "-d, --depth <DEPTH>", "-o, --output <OUT>")
         options += ("-e, --expression <COMMAND>", "mkedit edit [OPTIONS] -e COMMAND [-e COMMAND ...] [FILE]")
-        options += ("-i, --in-place", "--diff", "mkedit explain 4")
+        options += ("-i, --in-place", "--diff", "--color <WHEN>", "mkedit explain 4")
         self.assert_help("edit", "--help", shows=options)
 
     def test_the_version_is_the_one_of_the_list_of_changes(self):
@@ -63,6 +63,11 @@ class CommandLine(RoomCase):
             ["edit", "--diff", "--diff", "script", "Makefile"],
             ["edit", "--diff=out", "script", "Makefile"],
             ["edit", "--diff", "--backup", "~", "script", "Makefile"],
+            ["edit", "--diff", "--color", "script", "Makefile"],
+            ["edit", "--diff", "--color=", "script", "Makefile"],
+            ["edit", "--diff", "--color", "Always", "script", "Makefile"],
+            ["edit", "--diff", "--color", "never", "--color", "never", "script", "Makefile"],
+            ["vars", "--color", "always", "Makefile"],
             ["edit", "-d", "1", "-d", "2", "script", "Makefile"],
             ["edit", "script", "Makefile", "-o"],
             ["edit", "script", "Makefile", "-d"],

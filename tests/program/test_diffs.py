@@ -1,6 +1,7 @@
 """Tests of `mkedit edit --diff`: patch and git apply take each diff, forwards and backwards."""
 
 import itertools
+import os
 import re
 import unittest
 
@@ -9,11 +10,19 @@ from tests.lib.diffs import wrong_ways
 from tests.lib.rooms import EDITED, NO_COMMAND, READ_FAULT, REFUSED, TEXT, TOO_DEEP, TOO_LONG, WRITE_FAULT
 from tests.lib.rooms import RoomCase, cannot_open, silent
 from tests.lib.tables import case_of, rows
+from tests.lib.terminals import terminal
 from tests.program.test_makefiles import EXAMPLES, applied, hunks
 
 # How many of the random runs are tried here; `make soak` tries a diff of each of its cases.
 RUNS = 150
 DIFF = b"--- a/Makefile\n+++ b/Makefile\n@@ -1 +1 @@\n-CC = gcc # c\n+CC = clang # c\n"
+
+
+# The same in colours, as GNU diff 3.8 writes it with --color=always.
+PAINTED = (
+    b"\x1b[1m--- a/Makefile\x1b[0m\n\x1b[1m+++ b/Makefile\x1b[0m\n\x1b[36m@@ -1 +1 @@\x1b[0m\n"
+    b"\x1b[31m-CC = gcc # c\x1b[0m\n\x1b[32m+CC = clang # c\x1b[0m\n"
+)
 
 
 class Diffs(RoomCase):
@@ -46,6 +55,33 @@ class Diffs(RoomCase):
         self.assert_holds("out", DIFF)
         self.room.write("kept", b"kept")
         self.assert_run(REFUSED, "edit", "--diff", "-o", "kept", "undo", "Makefile")
+
+    def shown_at_a_terminal(self, words, variables):
+        """What a run with `--diff` writes whose output is a terminal, with these variables in its environment."""
+        env = {**{name: it for name, it in os.environ.items() if name != "NO_COLOR"}, **variables}
+        with terminal(lines=False) as (user, program):
+            words = ("edit", "--diff", *words, "script", "Makefile")
+            self.assert_run(silent(0), *words, stdout=program, env=env)
+            return os.read(user, 1_000)
+
+    def test_a_diff_has_colours_where_it_is_asked_to(self):
+        for word, shown in (("always", PAINTED), ("never", DIFF), ("auto", DIFF)):
+            for words in (["--color", word], [f"--color={word}"]):
+                self.assert_run(Outcome(shown, b"", 0), "edit", "--diff", *words, "script", "Makefile")
+        self.assert_run(silent(0), "edit", "--diff", "--color=always", "-o", "out", "script", "Makefile")
+        self.assert_holds("out", PAINTED)
+        self.assert_run(EDITED, "edit", "--color=always", "script", "Makefile")
+
+    def test_a_diff_at_a_terminal_has_colours_unless_they_are_unwanted(self):
+        for words, variables, shown in (
+            ((), {}, PAINTED),
+            (("--color=auto",), {"NO_COLOR": ""}, PAINTED),
+            ((), {"NO_COLOR": "1"}, DIFF),
+            ((), {"NO_COLOR": "\udcff"}, DIFF),
+            (("--color=never",), {}, DIFF),
+            (("--color=always",), {"NO_COLOR": "1"}, PAINTED),
+        ):
+            self.assertEqual(self.shown_at_a_terminal(words, variables), shown, (words, variables))
 
     def test_in_place_beside_it_is_a_bad_command_line(self):
         got = self.room.run("edit", "--diff", "-i", "script", "Makefile")

@@ -94,6 +94,13 @@ diff_rule = record (new_rule (codes "diff")) {
   is_free = false;
 }
 
+-- --color WHEN
+abbrev pub color_rule : Rule
+color_rule = record (new_rule (codes "color")) {
+  long = Some (codes "color");
+  value_names = 1;
+}
+
 -- -e COMMAND, --expression COMMAND, once or more
 abbrev pub expression_rule : Rule
 expression_rule = record (new_rule (codes "expression")) {
@@ -150,7 +157,7 @@ abbrev pub run_options : List Rule
 run_options = keep_going_rule ∷ depth_rule ∷ output_rule ∷ []
 
 abbrev pub output_options : List Rule
-output_options = in_place_rule ∷ backup_rule ∷ diff_rule ∷ []
+output_options = in_place_rule ∷ backup_rule ∷ diff_rule ∷ color_rule ∷ []
 
 abbrev pub edit_options : List Rule
 edit_options = run_options ++ output_options ++ expression_rule ∷ notes_rule ∷ []

@@ -17,6 +17,8 @@ use Rattle.mk_command_line.specs.declared.request.Script.{Script}
 use Rattle.mk_command_line.specs.declared.request.Script.TheVariants as script
 use Rattle.mk_command_line.specs.declared.request.Output.{Output}
 use Rattle.mk_command_line.specs.declared.request.Output.TheVariants as output
+use Rattle.mk_command_line.specs.declared.request.Color.{Color}
+use Rattle.mk_command_line.specs.declared.request.Color.TheVariants.{Auto, Always, Never}
 use Rattle.mk_command_line.specs.declared.request.EditWords.{EditWords}
 use Rattle.mk_command_line.specs.declared.request.QueryWords.{QueryWords}
 use Rattle.mk_command_line.specs.declared.request.GetWords.{GetWords}
@@ -83,6 +85,13 @@ abbrev pub IsDepth : Option Text → ℕ → Type 0
 IsDepth (Some word) depth = IsNumber word depth
 IsDepth None depth = ⊥
 
+-- when a diff has colours, by the word that says it, if there is one
+abbrev pub IsColor : Option Text → Color → Type 0
+IsColor None when = when ≡ Auto
+IsColor (Some word) Auto = word ≡ codes "auto"
+IsColor (Some word) Always = word ≡ codes "always"
+IsColor (Some word) Never = word ≡ codes "never"
+
 -- the lines of -e, and the words that are no option: the script and the makefiles. After -e each of
 -- them is a makefile.
 abbrev pub ReadsFrom : Option (List Text) → Option Text → Option (List Text)
@@ -128,6 +137,7 @@ pub record AsksEdit (rows : List Row) (words : EditWords) : Type 0 where
       (all_of (codes "FILE") rows) words.script words.files.items
   pub apart : AreApart words.script words.files.items
   pub diff : IsFlag (codes "diff") rows words.is_diff
+  pub color : IsColor (first_of (codes "color") rows) words.color
   pub to : (in_place : Bool) × IsFlag (codes "in-place") rows in_place
       × GoesTo in_place (first_of (codes "output") rows) (first_of (codes "backup") rows)
       words.files.items words.output

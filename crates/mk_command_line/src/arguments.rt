@@ -1,7 +1,7 @@
 //! The arguments of the commands, each with the name by which its words are found.
 ghost use Rattle.std.specs.Prelude.{◌≡◌, IfOk, false};
 ghost use Rattle.clap.specs.Words.{rule_of};
-ghost use Rattle.mk_command_line.specs.Commands.{backup_rule, depth_rule, diff_rule, expression_rule, file_rule};
+ghost use Rattle.mk_command_line.specs.Commands.{backup_rule, color_rule, depth_rule, diff_rule, expression_rule, file_rule};
 ghost use Rattle.mk_command_line.specs.Commands.{in_place_rule, keep_going_rule, name_rule, notes_rule, nth_rule, output_rule};
 ghost use Rattle.mk_command_line.specs.Commands.{refusal_rule, script_rule, session_file_rule, target_rule, variable_rule};
 
@@ -28,6 +28,8 @@ pub(crate) const IN_PLACE: &str = "in-place";
 pub(crate) const BACKUP: &str = "backup";
 
 pub(crate) const DIFF: &str = "diff";
+
+pub(crate) const COLOR: &str = "color";
 
 pub(crate) const EXPRESSION: &str = "expression";
 
@@ -134,6 +136,16 @@ pub(crate) fn diff<'a>(alloc: Global) -> Result<Arg<'a>, AllocError>
         .action(ArgAction::SetTrue)
         .conflicts_with(IN_PLACE)?;
     Ok(diff.help("Prints what would change, as a diff that patch takes, in place of the text"))
+}
+
+/// When a diff has colours.
+pub(crate) fn color<'a>(alloc: Global) -> Arg<'a>
+    ensures rule { rule_of result ≡ color_rule }
+    ensures local { result.global ≡ false }
+{
+    Arg::new(alloc, COLOR).long("color").value_name("WHEN").help(
+        "Whether a diff has colours: auto (at a terminal), always or never [default: auto]",
+    )
 }
 
 /// The lines of a script that stand on the command line.

@@ -6,8 +6,8 @@ ghost use Rattle.mk_command_line.specs.Commands.{command_app, commands, edit_opt
 ghost use Rattle.mk_command_line.specs.Commands.{choice_of, first_command, program_for, program_with, shape_of_command, word_of};
 
 use crate::arguments::{
-    backup, depth, diff, expression, file, in_place, keep_going, name, notes, nth, output, refusal,
-    script, session_file, target, variable,
+    backup, color, depth, diff, expression, file, in_place, keep_going, name, notes, nth, output,
+    refusal, script, session_file, target, variable,
 };
 use crate::command_name::{COMMANDS, CommandName, QueryName, command_named};
 use crate::help;
@@ -53,7 +53,9 @@ fn output_options<'a>(alloc: Global) -> Result<Command<'a>, AllocError>
     ensures local { IfOk result (λ edit. (fields_of edit).has_globals ≡ false) }
 {
     let edit = run_options(alloc)?.arg(in_place(alloc)?)?;
-    edit.arg(backup(alloc))?.arg(diff(alloc)?)
+    edit.arg(backup(alloc))?
+        .arg(diff(alloc)?)?
+        .arg(color(alloc))
 }
 
 // `edit` with all of its options.

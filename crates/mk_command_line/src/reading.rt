@@ -1,5 +1,5 @@
 //! From the words of the command line to what they ask for.
-ghost use Rattle.std.specs.Prelude.{◌≡◌, ◌==◌, ◌++◌, not, None, Bool, IfErr, IfOk, IfSome, List, codes, false, map, option_map, string_bytes, true, ℕ};
+ghost use Rattle.std.specs.Prelude.{◌≡◌, ◌==◌, ◌++◌, not, None, Some, Bool, IfErr, IfOk, IfSome, List, codes, false, map, option_map, string_bytes, true, ℕ};
 ghost use Rattle.std.specs.Char.{is_ascii_digit};
 ghost use Rattle.std.specs.List.{list_all};
 ghost use Rattle.clap.specs.Words.{all_of, app_of, first_of, found_of, kind_of, rows_of};
@@ -8,16 +8,17 @@ ghost use Rattle.clap.specs.declared.error.kind.ErrorKind.TheVariants.{OutOfMemo
 ghost use Rattle.mk_command_line.specs.Commands.{program_for};
 ghost use Rattle.mk_command_line.specs.Requests.{AreApart, Asks, AsksEdit, AsksGet, AsksQuery, AsksSession, GoesTo, IsDepth, IsFlag};
 ghost use Rattle.mk_command_line.specs.Requests.{AreMakefiles, ReadsFrom, file_named, file_of, words_from};
-ghost use Rattle.mk_command_line.specs.Requests.{IsAsked, IsBackup, IsNth, IsNumber, is_alone, is_named, is_query, is_suffix};
+ghost use Rattle.mk_command_line.specs.Requests.{IsAsked, IsBackup, IsColor, IsNth, IsNumber, is_alone, is_named, is_query, is_suffix};
 
 use crate::arguments::{
-    BACKUP, DEPTH, DIFF, EXPRESSION, FILE, IN_PLACE, KEEP_GOING, NAME, NOTES, NTH, OUTPUT, REFUSAL,
-    SCRIPT, TARGET, VARIABLE,
+    BACKUP, COLOR, DEPTH, DIFF, EXPRESSION, FILE, IN_PLACE, KEEP_GOING, NAME, NOTES, NTH, OUTPUT,
+    REFUSAL, SCRIPT, TARGET, VARIABLE,
 };
 use crate::command_name::{CommandName, QueryName, command_named};
 use crate::commands::program_for;
 use crate::request::{
-    Backup, EditWords, GetWords, Input, Output, Query, QueryWords, Request, Script, SessionWords,
+    Backup, Color, EditWords, GetWords, Input, Output, Query, QueryWords, Request, Script,
+    SessionWords,
 };
 use clap::error::ErrorKind;
 use clap::{ArgMatches, Command};
@@ -50,6 +51,8 @@ const BACKUP_ALONE: &str = "'--backup <SUFFIX>' may stand beside '--in-place' al
 
 const BAD_SUFFIX: &str =
     "invalid value for '--backup <SUFFIX>': it may neither be empty nor have a '/'";
+
+const BAD_COLOR: &str = "invalid value for '--color <WHEN>': it is auto, always or never";
 
 const NO_REFUSAL: &str =
     "invalid value for '<REFUSAL>': it is no number from 1 to 20, and no refusal has this name";
@@ -252,6 +255,31 @@ fn backup_of<'a>(matches: &ArgMatches<'a>) -> Result<Option<&'a str>, &'static s
     }
 }
 
+// When a diff has colours, as a word says it.
+fn color_named(word: &str) -> Result<Color, &'static str>
+    ensures { IfOk result (IsColor (Some word.now)) }
+{
+    if word == "auto" {
+        Ok(Color::Auto)
+    } else if word == "always" {
+        Ok(Color::Always)
+    } else if word == "never" {
+        Ok(Color::Never)
+    } else {
+        Err(BAD_COLOR)
+    }
+}
+
+// When a diff has colours; or what is wrong with the word that says it.
+fn color_of(matches: &ArgMatches<'_>) -> Result<Color, &'static str>
+    ensures { IfOk result (IsColor (first_of (codes "color") (rows_of (found_of matches.now)))) }
+{
+    match value(matches, COLOR) {
+        Some(word) => color_named(word),
+        None => Ok(Color::Auto),
+    }
+}
+
 // Where the text goes; or why it cannot go there.
 fn output_of<'a>(matches: &ArgMatches<'a>, files: &[Input<'a>]) -> Result<Output<'a>, &'static str>
     ensures { IfOk result (λ output. (in_place : Bool)
@@ -304,12 +332,17 @@ fn edit_words<'a>(
         Ok(output) => output,
         Err(fault) => return Err(command.error(ErrorKind::ArgumentConflict, fault)?),
     };
+    let color = match color_of(matches) {
+        Ok(color) => color,
+        Err(fault) => return Err(command.error(ErrorKind::ValueValidation, fault)?),
+    };
     Ok(EditWords {
         keep_going: is_set(matches, KEEP_GOING),
         depth,
         notes: is_set(matches, NOTES),
         output,
         is_diff: is_set(matches, DIFF),
+        color,
         script,
         files,
     })

@@ -52,6 +52,17 @@ pub enum Output<'a> {
 #[derive(Clone, Copy)]
 pub struct Backup<'a>(pub Option<&'a str>);
 
+/// When a diff has colours.
+#[derive(Clone, Copy, Debug, PartialEq, Eq)]
+pub enum Color {
+    /// Where it goes to a terminal, and the environment has no `NO_COLOR` that is not empty.
+    Auto,
+    /// In each case.
+    Always,
+    /// In no case.
+    Never,
+}
+
 /// What the words of `mkedit edit` say.
 #[derive(Drop)]
 pub struct EditWords<'a> {
@@ -65,6 +76,8 @@ pub struct EditWords<'a> {
     pub output: Output<'a>,
     /// Whether the diff of the makefile and the text goes there, in place of the text.
     pub is_diff: bool,
+    /// When that diff has colours.
+    pub color: Color,
     /// Where the commands come from.
     pub script: Script<'a>,
     /// The makefiles, one or more. Several stand only beside an output in place, beside which each is

@@ -1,9 +1,10 @@
 -- The definitions, computed: GNU diff has written each text here, and `patch` leads from one list of lines to the other.
-use Rattle.std.proofs.Common.{◌≡◌, ℕ, List, [], ◌∷◌, codes, refl, map, Some}
+use Rattle.std.proofs.Common.{◌≡◌, ℕ, List, [], ◌∷◌, ◌++◌, codes, refl, map, Some}
 use Rattle.std.specs.Fmt.{digits}
 use Rattle.mk_diff.specs.Hunks.{Change, Hunk, applied, turned}
 use Rattle.mk_diff.specs.HunkTexts.{diff_text}
 use Rattle.mk_diff.specs.NameTexts.{name_text}
+use Rattle.mk_diff.specs.PaintedDiffs.{painted_diff}
 
 -- one line alone
 abbrev hunks_1 : List Hunk
@@ -113,3 +114,15 @@ quote = refl
 
 tab : name_text (codes "b/") (codes "x\ty z") ≡ codes "\"b/x\\011y z\""
 tab = refl
+
+-- ---- a diff in colours, as GNU diff paints it
+
+-- a line between the sequences of a terminal
+abbrev in_color : (number line : List ℕ) → List ℕ
+in_color number line = 27 ∷ (codes "[" ++ (number ++ (codes "m" ++ (line ++ (27 ∷ codes "[0m\n")))))
+
+painted_hunk : painted_diff (codes "--- a/F\n+++ b/F\n@@ -1,2 +1,2 @@\n a\n--- b\n+++ b\n")
+    ≡ in_color (codes "1") (codes "--- a/F") ++ (in_color (codes "1") (codes "+++ b/F")
+    ++ (in_color (codes "36") (codes "@@ -1,2 +1,2 @@") ++ (codes " a\n"
+    ++ (in_color (codes "31") (codes "--- b") ++ in_color (codes "32") (codes "+++ b")))))
+painted_hunk = refl

@@ -1,6 +1,7 @@
 //! The difference of two texts, as a unified diff.
 //!
 //! - [`diff`]: the diff of two texts, as `patch` and `git apply` take it.
+//! - [`painted`]: a diff in the colours of a terminal.
 //!
 //! Nothing here knows of makefiles: the lines are physical lines, each with its line end.
 //!
@@ -15,6 +16,7 @@
 //! - `finder`: the stretches in which two texts differ.
 //! - `hunk`: the text of a hunk.
 //! - `unified`: which changes make a hunk, and the whole diff.
+//! - `paint`: a diff in colours.
 #![tactic(auto)]
 
 mod finder;
@@ -22,9 +24,11 @@ mod hunk;
 mod lines;
 mod matching;
 mod name;
+mod paint;
 mod places;
 mod stretch;
 mod text;
 mod unified;
 
+pub use paint::painted;
 pub use unified::diff;

@@ -27,8 +27,8 @@ pub(crate) fn physical_lines<A: Allocator>(alloc: A, text: &[u8]) -> Result<Vec<
     Ok(lines)
 }
 
-// How many bytes the first physical line of a text has.
-fn first_length(text: &[u8]) -> usize
+/// How many bytes the first physical line of a text has.
+pub(crate) fn first_length(text: &[u8]) -> usize
     requires { 0 < length text.now }
     ensures lines { physical_lines text.now
         ≡ take result text.now ∷ physical_lines (drop result text.now) }

@@ -7,6 +7,12 @@ pub struct Row {
     pub diff: &'static [u8],
 }
 
+/// A diff, and the same in colours.
+pub struct Painted {
+    pub diff: &'static [u8],
+    pub painted: &'static [u8],
+}
+
 pub static ROWS: [Row; 17] = [
     // texts that are the same
     Row {
@@ -109,5 +115,40 @@ pub static ROWS: [Row; 17] = [
         old: b"1\n2\n3\n4\n5\n6\n7\n8\n9\n10\n11\n12\n13\n14\n",
         new: b"1\n2\nnew\n3\n4\n5\n6\n7\n8\n9\n10\n11\n13\n14\n",
         diff: b"--- a/F\n+++ b/F\n@@ -1,5 +1,6 @@\n 1\n 2\n+new\n 3\n 4\n 5\n@@ -9,6 +10,5 @@\n 9\n 10\n 11\n-12\n 13\n 14\n",
+    },
+];
+
+/// GNU diff 3.8 has painted the first four, as `diff --color=always`. It has the CR of a line in the
+/// colour, and git 2.39 has not.
+pub static PAINTED: [Painted; 6] = [
+    // names, a hunk, lines of all kinds
+    Painted {
+        diff: b"--- a/F\n+++ b/F\n@@ -1,5 +1,5 @@\n 1\n 2\n-3\n+three\n 4\n 5\n",
+        painted: b"\x1b[1m--- a/F\x1b[0m\n\x1b[1m+++ b/F\x1b[0m\n\x1b[36m@@ -1,5 +1,5 @@\x1b[0m\n 1\n 2\n\x1b[31m-3\x1b[0m\n\x1b[32m+three\x1b[0m\n 4\n 5\n",
+    },
+    // a line without a line feed
+    Painted {
+        diff: b"--- a/F\n+++ b/F\n@@ -1,2 +1,2 @@\n a\n-b\n\\ No newline at end of file\n+b\n",
+        painted: b"\x1b[1m--- a/F\x1b[0m\n\x1b[1m+++ b/F\x1b[0m\n\x1b[36m@@ -1,2 +1,2 @@\x1b[0m\n a\n\x1b[31m-b\x1b[0m\n\\ No newline at end of file\n\x1b[32m+b\x1b[0m\n",
+    },
+    // lines that look like names
+    Painted {
+        diff: b"--- a/F\n+++ b/F\n@@ -1,3 +1,3 @@\n--- a\n-++ b\n-@@ c\n+++ a\n+-- b\n+@@ d\n",
+        painted: b"\x1b[1m--- a/F\x1b[0m\n\x1b[1m+++ b/F\x1b[0m\n\x1b[36m@@ -1,3 +1,3 @@\x1b[0m\n\x1b[31m--- a\x1b[0m\n\x1b[31m-++ b\x1b[0m\n\x1b[31m-@@ c\x1b[0m\n\x1b[32m+++ a\x1b[0m\n\x1b[32m+-- b\x1b[0m\n\x1b[32m+@@ d\x1b[0m\n",
+    },
+    // two hunks
+    Painted {
+        diff: b"--- a/F\n+++ b/F\n@@ -1,4 +1,4 @@\n-a\n+A\n 1\n 2\n 3\n@@ -6,4 +6,4 @@\n 5\n 6\n 7\n-b\n+B\n",
+        painted: b"\x1b[1m--- a/F\x1b[0m\n\x1b[1m+++ b/F\x1b[0m\n\x1b[36m@@ -1,4 +1,4 @@\x1b[0m\n\x1b[31m-a\x1b[0m\n\x1b[32m+A\x1b[0m\n 1\n 2\n 3\n\x1b[36m@@ -6,4 +6,4 @@\x1b[0m\n 5\n 6\n 7\n\x1b[31m-b\x1b[0m\n\x1b[32m+B\x1b[0m\n",
+    },
+    // lines that end in CR LF, as git paints them
+    Painted {
+        diff: b"--- a/F\n+++ b/F\n@@ -1 +1 @@\n-x\r\n+y\r\n",
+        painted: b"\x1b[1m--- a/F\x1b[0m\n\x1b[1m+++ b/F\x1b[0m\n\x1b[36m@@ -1 +1 @@\x1b[0m\n\x1b[31m-x\x1b[0m\r\n\x1b[32m+y\x1b[0m\r\n",
+    },
+    // no diff
+    Painted {
+        diff: b"",
+        painted: b"",
     },
 ];

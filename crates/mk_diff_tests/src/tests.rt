@@ -1,5 +1,5 @@
-use crate::rows::{ROWS, Row};
-use mk_diff::diff;
+use crate::rows::{PAINTED, ROWS, Row};
+use mk_diff::{diff, painted};
 use mk_lines::Fault;
 use std::alloc::{AllocError, Allocator};
 use std::test::Fail;
@@ -34,6 +34,32 @@ fn each_refused_growth_is_no_memory(rt: HostRuntime) {
             match fault_after(&rt, row, admitted) {
                 None => break,
                 Some(fault) => assert_eq!(rt; fault, Fault::NoMemory),
+            }
+            admitted += 1;
+        }
+        assert!(rt; admitted < MANY);
+        assert!(rt; row.diff.is_empty() == (admitted == 0));
+    }
+}
+
+#[test]
+fn diffs_are_painted_as_gnu_diff_and_git_paint_them(rt: HostRuntime) -> Result<(), Fail> {
+    for row in &PAINTED {
+        let text = painted(rt.alloc(), row.diff)?;
+        assert!(rt; *text == *row.painted);
+    }
+    Ok(())
+}
+
+#[test]
+fn each_refused_growth_of_a_painted_diff_is_no_memory(rt: HostRuntime) {
+    for row in &PAINTED {
+        let mut admitted = 0;
+        while admitted < MANY {
+            let heap = Watched::refusing_one_after(rt.alloc(), admitted);
+            match painted(&heap, row.diff) {
+                Ok(_) => break,
+                Err(fault) => assert_eq!(rt; fault, Fault::NoMemory),
             }
             admitted += 1;
         }

@@ -1,16 +1,22 @@
 -- What `mkedit edit --diff` puts out.
 -- Told in docs/EDITS.md, "Running a script".
-use Rattle.std.specs.Prelude.{ℕ, Bool, List, [], Option, Some}
+use Rattle.std.specs.Prelude.{ℕ, Bool, true, false, List, [], Option, Some}
 use Rattle.mk_lines.specs.PhysicalLines.{physical_lines}
 use Rattle.mk_diff.specs.Hunks.{Hunk, IsDiff}
 use Rattle.mk_diff.specs.HunkTexts.{diff_text}
+use Rattle.mk_diff.specs.PaintedDiffs.{painted_diff}
 use Rattle.mk_run.specs.RunEnds.{HasText, IsOut, IsRunOver, Written, written}
 use Rattle.mk_run.specs.declared.outcome.Outcome.{Outcome}
+
+-- a diff as it goes out: in colours, or as it is
+abbrev pub shown_diff : (has_color : Bool) → (text : List ℕ) → List ℕ
+shown_diff true text = painted_diff text
+shown_diff false text = text
 
 -- A run over the makefile with this outcome, whose text would go out without `--diff`: the diff of
 -- the makefile and that text goes out.
 pub record IsDiffRun (makefile script : Option (List ℕ)) (depth : ℕ) (keep_going : Bool)
-    (name : List ℕ) (outcome : Outcome) (report_failed : Bool) (report out : Written) : Type 0 where
+    (name : List ℕ) (has_color : Bool) (outcome : Outcome) (report_failed : Bool) (report out : Written) : Type 0 where
   pub old : List ℕ
   pub text : List ℕ
   pub hunks : List Hunk
@@ -18,4 +24,4 @@ pub record IsDiffRun (makefile script : Option (List ℕ)) (depth : ℕ) (keep_g
   pub run : IsRunOver (Some old) script depth keep_going outcome report_failed report
       (written (Some []) (Some text))
   pub is_diff : IsDiff (physical_lines old) (physical_lines text) hunks
-  pub is_out : IsOut out (diff_text name hunks)
+  pub is_out : IsOut out (shown_diff has_color (diff_text name hunks))

@@ -5,11 +5,11 @@ ghost use Rattle.std.specs.Io.KnownBytes.{Appends, Keeps};
 ghost use Rattle.mk_lines.specs.Device.{AppendsPrefix};
 ghost use Rattle.mk_run.specs.Outcome.{is_printed};
 ghost use Rattle.mk_run.specs.RunEnds.{written};
-ghost use Rattle.mkedit.specs.DiffRuns.{IsDiffRun};
+ghost use Rattle.mkedit.specs.DiffRuns.{IsDiffRun, shown_diff};
 
 use crate::edit::run_to;
 use mk_command_line::{EditWords, Input};
-use mk_diff::diff;
+use mk_diff::{diff, painted};
 use mk_lines::sink::write_all;
 use mk_lines::source::read_all;
 use mk_lines::{ByteSink, ByteSource, Fault, StdSource};
@@ -39,6 +39,15 @@ impl ByteSource for Unread {
     fn failed(&self) -> bool {
         self.is_failed
     }
+}
+
+/// How a diff is shown.
+#[derive(Clone, Copy)]
+pub(crate) struct DiffForm<'a> {
+    /// The name of the makefile in it.
+    pub name: &'a [u8],
+    /// Whether it has colours.
+    pub has_color: bool,
 }
 
 // Whether a run that ended so has put its text out.
@@ -84,6 +93,32 @@ fn put_out<W: ByteSink>(out: &mut W, text: &[u8]) -> Result<(), Fault>
     out.flush()
 }
 
+// A diff as it goes out.
+fn shown<A: Allocator>(alloc: A, text: Vec<u8, A>, has_color: bool) -> Result<Vec<u8, A>, Fault>
+    ensures { IfOk result (λ shown. shown.items ≡ shown_diff has_color text.items) }
+{
+    if has_color {
+        painted(alloc, &text)
+    } else {
+        Ok(text)
+    }
+}
+
+// The diff of two texts, as it goes out.
+fn shown_diff<A: Allocator + Copy>(
+    alloc: A,
+    old: &[u8],
+    text: &[u8],
+    form: DiffForm<'_>,
+) -> Result<Vec<u8, A>, Fault>
+    ensures { IfOk result (λ shown. (hunks : List Hunk)
+        × IsDiff (physical_lines old.now) (physical_lines text.now) hunks
+        × (shown.items ≡ shown_diff form.has_color (diff_text form.name.now hunks))) }
+{
+    let diff = diff(alloc, old, text, form.name)?;
+    shown(alloc, diff, form.has_color)
+}
+
 // Runs the script over a makefile that could not be read to its end, for this fault.
 fn run_unread<A, S, P>(
     alloc: A,
@@ -117,7 +152,7 @@ where
 pub(crate) fn run_diff<A, R, S, W, P>(
     alloc: A,
     words: &EditWords<'_>,
-    name: &[u8],
+    form: DiffForm<'_>,
     makefile: &mut R,
     script: &mut S,
     out: &mut W,
@@ -135,7 +170,7 @@ where
     requires out_works { W.failed out.old ≡ false }
     ensures law { is_printed result words.now.keep_going ≡ true
         → IsDiffRun (R.remaining makefile.old) (S.remaining script.old) words.now.depth
-        words.now.keep_going name.now result (P.failed report.new)
+        words.now.keep_going form.name.now form.has_color result (P.failed report.new)
         (written (P.contents report.old) (P.contents report.new))
         (written (W.contents out.old) (W.contents out.new)) }
     ensures unprinted { is_printed result words.now.keep_going ≡ false → result ≢ Outcome.Write
@@ -154,7 +189,7 @@ where
     if !is_printed(&outcome, words.keep_going) {
         return outcome;
     }
-    let Ok(text) = diff(alloc, &old, &sink.text, name) else {
+    let Ok(text) = shown_diff(alloc, &old, &sink.text, form) else {
         return Outcome::NoMemory;
     };
     match put_out(out, &text) {

@@ -2,8 +2,9 @@
 ghost use Rattle.std.specs.Prelude.{◌≡◌, ◌||◌, false};
 ghost use Rattle.mk_run.specs.RunEnds.{IsRunOver, TellsFaults, written};
 
+use crate::color::has_color;
 use crate::destination::{Destination, destination_of};
-use crate::diff::{diff_name, run_diff};
+use crate::diff::{DiffForm, diff_name, run_diff};
 use crate::ending::{End, finished};
 use crate::files::{CannotOpen, open};
 use crate::in_place::InPlaceFile;
@@ -17,7 +18,7 @@ use mk_command_line::{EditWords, Input, Script};
 use mk_lines::{ByteSink, ByteSource, StdSink, StdSource};
 use mk_run::{Outcome, run};
 use std::alloc::Allocator;
-use std::io::Read;
+use std::io::{IsTerminal, Read};
 use std::mem;
 use std::process::ExitCode;
 
@@ -71,7 +72,7 @@ where
 fn print_to<R, S, W, P>(
     rt: &HostRuntime,
     words: &EditWords<'_>,
-    file: Input<'_>,
+    form: DiffForm<'_>,
     makefile: &mut R,
     script: &mut S,
     out: &mut W,
@@ -88,10 +89,22 @@ where
     requires report_works { P.failed report.old ≡ false }
 {
     if words.is_diff {
-        let name = diff_name(file);
-        return run_diff(rt.alloc(), words, name, makefile, script, out, report);
+        return run_diff(rt.alloc(), words, form, makefile, script, out, report);
     }
     run_to(rt.alloc(), words, makefile, script, out, report)
+}
+
+// How the diff of a makefile is shown that goes to a terminal, or to something else.
+fn form_of<'a>(
+    rt: &HostRuntime,
+    words: &EditWords<'_>,
+    file: Input<'a>,
+    is_terminal: bool,
+) -> DiffForm<'a> {
+    DiffForm {
+        name: diff_name(file),
+        has_color: words.is_diff && has_color(rt, words.color, is_terminal),
+    }
 }
 
 // Runs the script over the makefile, with the text or the diff to where the words say.
@@ -109,7 +122,8 @@ fn run_over<'a, R: ByteSource, S: ByteSource>(
     match destination_of(words.output, file) {
         Destination::File(name) => {
             let mut out = OutFile::new(rt, name);
-            let outcome = print_to(rt, words, file, makefile, script, &mut out, &mut report);
+            let form = form_of(rt, words, file, false);
+            let outcome = print_to(rt, words, form, makefile, script, &mut out, &mut report);
             End::of(outcome).with_fault(out.fault())
         }
         Destination::InPlace(name, backup) => {
@@ -120,9 +134,10 @@ fn run_over<'a, R: ByteSource, S: ByteSource>(
             end
         }
         Destination::Standard => {
+            let form = form_of(rt, words, file, rt.stdout().is_terminal());
             let mut device = Noted::new(rt.stdout());
             let mut out = StdSink::new(&mut device);
-            let outcome = print_to(rt, words, file, makefile, script, &mut out, &mut report);
+            let outcome = print_to(rt, words, form, makefile, script, &mut out, &mut report);
             End::of(outcome).with_fault(device.fault(STANDARD_OUTPUT))
         }
     }

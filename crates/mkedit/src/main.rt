@@ -3,6 +3,7 @@
 //!
 //! - `edit`: a script over a makefile, by [`mk_run::run`].
 //! - `diff`: the diff of a makefile and its text, in place of that text, by [`mk_diff`].
+//! - `color`: when that diff has colours.
 //! - `several`: a script over several makefiles, by [`mk_run::run_steps`].
 //! - `destination`: where the text of a makefile goes.
 //! - `query`: what a makefile has, by [`mk_queries`] and [`mk_lookup`]; `question`: what is asked of it,
@@ -19,6 +20,7 @@
 //! - `session`: a makefile that is edited step by step, by [`mk_prompt`].
 #![tactic(auto)]
 
+mod color;
 mod command_texts;
 mod destination;
 mod diff;

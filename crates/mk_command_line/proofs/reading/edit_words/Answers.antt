@@ -13,4 +13,5 @@ returns c =
       apart = rw apart at (c.are_both_standard.ensures c.if-are_both_standard.false);
       diff = c.is_set-3.ensures;
       to = rw to at c.in-Ok.ensures;
+      color = c.in-Ok-color_of.ensures;
     }
