@@ -126,7 +126,7 @@ abbrev pub rules_ahead : (target : Option (List ℕ)) → (nth : ℕ) → Walk �
 rules_ahead target n w = rule_spots n (seen rule_of (is_for target) (standing w))
 
 -- whether a line may stand among the recipe lines of the rule above it
-abbrev stays : LocatedLine → Bool
+abbrev pub stays : LocatedLine → Bool
 stays l = is_some (recipe_of l) || leaves_flag_located l.class
 
 -- a recipe line where it stands, with its number in its rule and its text after the prefix
@@ -136,7 +136,7 @@ pub record RecipeSpot : Type 0 where
   pub text : List ℕ
 
 -- recipe lines with their numbers; the first has this one
-abbrev recipe_spots : (number : ℕ) → List (Spot (List ℕ)) → List RecipeSpot
+abbrev pub recipe_spots : (number : ℕ) → List (Spot (List ℕ)) → List RecipeSpot
 recipe_spots n [] = []
 recipe_spots n (s ∷ ss) =
     record { position = s.position; number = n; text = s.shown } ∷ recipe_spots (n + 1) ss

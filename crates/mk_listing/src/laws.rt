@@ -1,14 +1,17 @@
 //! Laws of listings, each as the contract of a function that does nothing.
-ghost use Rattle.mk_listing.specs.ListingLaws.{AssignmentsHaveTheirNumbers, RulesHaveTheirNumbers};
+ghost use Rattle.mk_listing.specs.ListingLaws.{AssignmentsHaveTheirNumbers, RecipeLinesHaveTheirNumbers, RulesHaveTheirNumbers};
 
 use mk_views::laws::views_are_the_parts;
 
 /// The numbers of what is listed of one name or target are those that edits take: an edit with this
-/// name or target and the number of a line that is listed means this line. So it is for a document
-/// that is faithful, as `Doc::parse` makes it and a session lends it.
+/// name or target and the number of a line that is listed means this line. An edit of a recipe line,
+/// such as `recipe-set`, with the number of a rule that is listed for its target and the number of one
+/// of this rule's recipe lines means this recipe line. So it is for a document that is faithful, as
+/// `Doc::parse` makes it and a session lends it.
 pub fn numbers_are_those_of_edits()
     ensures assignments { AssignmentsHaveTheirNumbers }
     ensures rules { RulesHaveTheirNumbers }
+    ensures recipe_lines { RecipeLinesHaveTheirNumbers }
 {
     views_are_the_parts();
 }

@@ -1,4 +1,4 @@
-use Rattle.mk_listing.proofs.NumberLemmas.{assignments-numbered, rules-numbered}
+use Rattle.mk_listing.proofs.NumberLemmas.{assignments-numbered, recipes-numbered, rules-numbered}
 use Rattle.mk_listing.proofs.laws.numbers_are_those_of_edits.Goals as goal
 
 pub returns-clause-assignments : goal.returns-clause-assignments
@@ -6,3 +6,6 @@ returns-clause-assignments c = assignments-numbered c.views_are_the_parts.ensure
 
 pub returns-clause-rules : goal.returns-clause-rules
 returns-clause-rules c = rules-numbered c.views_are_the_parts.ensures.rules
+
+pub returns-clause-recipe_lines : goal.returns-clause-recipe_lines
+returns-clause-recipe_lines c = recipes-numbered c.views_are_the_parts.ensures.rules
