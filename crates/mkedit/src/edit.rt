@@ -12,12 +12,13 @@ use crate::mistakes::{COMMAND_LINES, script_mistake};
 use crate::noted::Noted;
 use crate::notes::{STANDARD_INPUT, STANDARD_OUTPUT};
 use crate::out_file::OutFile;
+use crate::refused::{Names, NotesBelow};
 use crate::several::edit_each;
 use mk_command_line::{EditWords, Input, Script};
 use mk_lines::{ByteSink, ByteSource, StdSink, StdSource};
-use mk_run::{Outcome, run};
-use std::alloc::Allocator;
-use std::io::Read;
+use mk_run::{Outcome, Witness, run};
+use std::alloc::{Allocator, Global};
+use std::io::{Read, Stderr};
 use std::mem;
 use std::process::ExitCode;
 
@@ -26,13 +27,14 @@ const _: () = prove!(mk_command_line::MAX_DEPTH == mk_history::history::MAX_DEPT
 
 /// Runs the script over the makefile as the words say, with the text to a sink. The session is not
 /// given up: the program ends soon, and a box for each line would be given up one by one.
-pub(crate) fn run_to<A, R, S, W, P>(
+pub(crate) fn run_to<A, R, S, W, P, T>(
     alloc: A,
     words: &EditWords<'_>,
     makefile: &mut R,
     script: &mut S,
     out: &mut W,
     report: &mut P,
+    witness: &mut T,
 ) -> Outcome
 where
     A: Allocator + Copy,
@@ -40,6 +42,7 @@ where
     S: ByteSource,
     W: ByteSink,
     P: ByteSink,
+    T: Witness<A>,
     requires makefile_works { R.failed makefile.old ≡ false }
     requires script_works { S.failed script.old ≡ false }
     requires out_works { W.failed out.old ≡ false }
@@ -60,7 +63,7 @@ where
         words.keep_going,
         out,
         report,
-        &mut (),
+        witness,
         &mut kept,
     );
     mem::forget(kept);
@@ -68,7 +71,7 @@ where
 }
 
 // Runs the script over the makefile, with the text or the diff to a sink.
-fn print_to<R, S, W, P>(
+fn print_to<R, S, W, P, T>(
     rt: &HostRuntime,
     words: &EditWords<'_>,
     file: Input<'_>,
@@ -76,12 +79,14 @@ fn print_to<R, S, W, P>(
     script: &mut S,
     out: &mut W,
     report: &mut P,
+    witness: &mut T,
 ) -> Outcome
 where
     R: ByteSource,
     S: ByteSource,
     W: ByteSink,
     P: ByteSink,
+    T: Witness<Global>,
     requires makefile_works { R.failed makefile.old ≡ false }
     requires script_works { S.failed script.old ≡ false }
     requires out_works { W.failed out.old ≡ false }
@@ -89,9 +94,31 @@ where
 {
     if words.is_diff {
         let name = diff_name(file);
-        return run_diff(rt.alloc(), words, name, makefile, script, out, report);
+        return run_diff(
+            rt.alloc(),
+            words,
+            name,
+            makefile,
+            script,
+            out,
+            report,
+            witness,
+        );
     }
-    run_to(rt.alloc(), words, makefile, script, out, report)
+    run_to(rt.alloc(), words, makefile, script, out, report, witness)
+}
+
+// The witness that writes notes below the lines on refusals, if there are notes.
+fn notes_below<'a>(
+    rt: &'a HostRuntime,
+    words: &EditWords<'a>,
+    file: Input<'a>,
+) -> Option<NotesBelow<'a, Stderr, Global>> {
+    if words.notes {
+        Some(NotesBelow::new(rt.alloc(), Names::of(words, file), rt.stderr()))
+    } else {
+        None
+    }
 }
 
 // Runs the script over the makefile, with the text or the diff to where the words say.
@@ -106,15 +133,33 @@ fn run_over<'a, R: ByteSource, S: ByteSource>(
     requires script_works { S.failed script.old ≡ false }
 {
     let mut report = StdSink::new(rt.stderr());
+    let mut witness = notes_below(rt, words, file);
     match destination_of(words.output, file) {
         Destination::File(name) => {
             let mut out = OutFile::new(rt, name);
-            let outcome = print_to(rt, words, file, makefile, script, &mut out, &mut report);
+            let outcome = print_to(
+                rt,
+                words,
+                file,
+                makefile,
+                script,
+                &mut out,
+                &mut report,
+                &mut witness,
+            );
             End::of(outcome).with_fault(out.fault())
         }
         Destination::InPlace(name, backup) => {
             let mut out = InPlaceFile::new(rt, name, backup);
-            let outcome = run_to(rt.alloc(), words, makefile, script, &mut out, &mut report);
+            let outcome = run_to(
+                rt.alloc(),
+                words,
+                makefile,
+                script,
+                &mut out,
+                &mut report,
+                &mut witness,
+            );
             let end = End::of(outcome).with_fault(out.fault());
             out.close();
             end
@@ -122,7 +167,16 @@ fn run_over<'a, R: ByteSource, S: ByteSource>(
         Destination::Standard => {
             let mut device = Noted::new(rt.stdout());
             let mut out = StdSink::new(&mut device);
-            let outcome = print_to(rt, words, file, makefile, script, &mut out, &mut report);
+            let outcome = print_to(
+                rt,
+                words,
+                file,
+                makefile,
+                script,
+                &mut out,
+                &mut report,
+                &mut witness,
+            );
             End::of(outcome).with_fault(device.fault(STANDARD_OUTPUT))
         }
     }

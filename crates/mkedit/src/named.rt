@@ -1,6 +1,7 @@
 //! What is said of one of several files: each line begins with the file's name.
-ghost use Rattle.std.specs.Prelude.{◌≡◌, ◌++◌, IfOk};
-ghost use Rattle.mkedit.specs.NamedLines.{named_line, named_lines};
+ghost use Rattle.std.specs.Prelude.{◌≡◌, ◌++◌, IfOk, drop, map};
+ghost use Rattle.mk_lines.specs.PhysicalLines.{physical_lines};
+ghost use Rattle.mkedit.specs.NamedLines.{first_notes, named_line, named_lines, noted_lines};
 
 use mk_prompt::line_length;
 use std::alloc::{AllocError, Allocator};
@@ -38,4 +39,47 @@ pub fn named_lines<A: Allocator>(
         rest = after;
     }
     Ok(named)
+}
+
+/// A text with a name and a colon before each of its lines, and notes below them: the first notes below
+/// the first line, and so on. Lines for which there are no more notes have none.
+///
+/// # Errors
+///
+/// Want of memory.
+pub fn noted_lines<A: Allocator, B: Allocator>(
+    alloc: A,
+    name: &[u8],
+    text: &[u8],
+    notes: &[Vec<u8, B>],
+) -> Result<Vec<u8, A>, AllocError>
+    ensures { IfOk result (λ named. named.items
+        ≡ noted_lines name.now (physical_lines text.now) (map (λ below. below.items) notes.now)) }
+{
+    let mut named = Vec::new(alloc);
+    let mut rest = text;
+    let mut below = notes;
+    'lines: while !rest.is_empty() {
+        let (line, after) = rest.split_at(line_length(rest));
+        push_named(&mut named, name, line)?;
+        below = push_below(&mut named, below)?;
+        rest = after;
+    }
+    Ok(named)
+}
+
+// Puts the first of some notes behind a text, and answers the others.
+fn push_below<'a, A: Allocator, B: Allocator>(
+    named: &mut Vec<u8, A>,
+    notes: &'a [Vec<u8, B>],
+) -> Result<&'a [Vec<u8, B>], AllocError>
+    ensures { IfOk result (λ others. (named.new.items ≡ named.old.items ++ first_notes (map (λ below. below.items) notes.now)) × (map (λ below. below.items) others.now ≡ drop 1 (map (λ below. below.items) notes.now))) }
+{
+    match notes {
+        [] => Ok(notes),
+        [first, others @ ..] => {
+            named.extend_from_slice(first.as_slice())?;
+            Ok(others)
+        }
+    }
 }

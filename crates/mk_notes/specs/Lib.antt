@@ -1,0 +1,10 @@
+-- # What the public contracts say
+-- Which lines notes tell of
+pub mod Sought
+-- The texts of notes
+pub mod LineNotes
+pub mod RefusalNotes
+-- # Vocabulary of private contracts
+-- The next line that is sought
+pub mod Finding
+pub mod NoteViews

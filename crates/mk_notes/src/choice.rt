@@ -1,0 +1,63 @@
+//! What tells one of several lines.
+ghost use Rattle.std.specs.Prelude.{◌≡◌, ◌++◌, IfOk};
+ghost use Rattle.mk_edit_language.specs.EditViews.{edit_of};
+ghost use Rattle.mk_notes.specs.RefusalNotes.{behind_numbers, between_numbers, choice_text, takes_all};
+
+use crate::texts::push_number;
+use mk_edit_language::Edit;
+use std::alloc::{AllocError, Allocator};
+
+/// Whether `all` may stand before an edit.
+pub(crate) fn takes_all<A: Allocator>(edit: &Edit<A>) -> bool
+    ensures { result ≡ takes_all (edit_of edit.now) }
+{
+    matches!(
+        edit,
+        Edit::SetValue { .. }
+            | Edit::AppendValue { .. }
+            | Edit::AddWord { .. }
+            | Edit::RemoveWord { .. }
+    )
+}
+
+// What stands between the first and the last number.
+fn between_numbers<'a>(count: usize, takes_all: bool) -> &'a [u8]
+    ensures { result.now ≡ between_numbers count takes_all }
+{
+    if count > 2 {
+        b" to "
+    } else if takes_all {
+        b", "
+    } else {
+        b" or "
+    }
+}
+
+// What stands behind the last number.
+fn behind_numbers<'a>(takes_all: bool) -> &'a [u8]
+    ensures { result.now ≡ behind_numbers takes_all }
+{
+    if takes_all { b"` or `all`" } else { b"`" }
+}
+
+/// Puts what tells one of so many lines behind some notes. `takes_all` says whether `all` may stand
+/// before the edit.
+///
+/// # Errors
+///
+/// Want of memory.
+pub(crate) fn push_choice<B: Allocator>(
+    notes: &mut Vec<u8, B>,
+    count: usize,
+    takes_all: bool,
+) -> Result<(), AllocError>
+    ensures { IfOk result (λ _. notes.new.items
+        ≡ notes.old.items ++ choice_text count takes_all) }
+{
+    notes.extend_from_slice(b"`nth 1`")?;
+    notes.extend_from_slice(between_numbers(count, takes_all))?;
+    notes.extend_from_slice(b"`nth ")?;
+    push_number(notes, count as u64)?;
+    notes.extend_from_slice(behind_numbers(takes_all))?;
+    notes.extend_from_slice(b" before the command says which\n")
+}

@@ -1,0 +1,38 @@
+//! The lines of a document that are sought.
+ghost use Rattle.std.specs.Prelude.{◌≡◌, drop, length};
+ghost use Rattle.mk_notes.specs.Finding.{FindsSought};
+ghost use Rattle.mk_notes.specs.NoteViews.{sought_seen};
+ghost use Rattle.mk_notes.specs.Sought.{sought_ahead, sought_in};
+
+use crate::sought::Sought;
+use mk_listing::{NumberedLines, Position, numbered};
+use mk_tree::{Doc, Line};
+use std::alloc::Allocator;
+
+/// The next line of a walk that is sought, with where it stands.
+pub(crate) fn next_sought<'a, A: Allocator>(
+    walk: &mut NumberedLines<'a, A>,
+    sought: Sought<'_>,
+) -> Option<(Position, &'a Line<A>)>
+    ensures { FindsSought (sought_seen sought) walk.old result walk.new }
+{
+    'lines: while let Some((position, line)) = walk.next() {
+        if sought.is_met(line) {
+            return Some((position, line));
+        }
+    }
+    None
+}
+
+/// How many lines of a document are sought.
+pub(crate) fn count_sought<A: Allocator>(doc: &Doc<A>, sought: Sought<'_>) -> usize
+    ensures { result ≡ length (sought_in (sought_seen sought) doc.now) }
+{
+    let _size = doc.len(); // its contract bounds the count
+    let mut walk = numbered(doc);
+    let mut count = 0;
+    'lines: while next_sought(&mut walk, sought).is_some() {
+        count += 1;
+    }
+    count
+}
