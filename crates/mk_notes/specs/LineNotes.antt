@@ -54,13 +54,15 @@ pub record Placed : Type 0 where
   pub position : Position
   pub line : LocatedLine
 
+-- a line, if it begins such a branch, or else this one
+abbrev pub later_branch : (depth : ℕ) → Option Placed → Position → LocatedLine → Option Placed
+later_branch d found p l =
+    if begins_branch d p l then Some (record { position = p; line = l }) else found
+
 -- the last of some lines that begins such a branch, or this one if none does
 abbrev pub last_branch : (depth : ℕ) → Option Placed → List Standing → Option Placed
 last_branch d found [] = found
-last_branch d found (s ∷ ss) =
-    last_branch d
-    (if begins_branch d s.position s.line then Some (record { position = s.position; line = s.line })
-    else found) ss
+last_branch d found (s ∷ ss) = last_branch d (later_branch d found s.position s.line) ss
 
 -- the line that begins the branch in which the line at this position stands
 abbrev pub branch_of : List LocatedLine → Position → Option Placed

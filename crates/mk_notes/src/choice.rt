@@ -3,7 +3,7 @@ ghost use Rattle.std.specs.Prelude.{◌≡◌, ◌++◌, IfOk};
 ghost use Rattle.mk_edit_language.specs.EditViews.{edit_of};
 ghost use Rattle.mk_notes.specs.RefusalNotes.{behind_numbers, between_numbers, choice_text, takes_all};
 
-use crate::texts::push_number;
+use crate::texts::push_parts;
 use mk_edit_language::Edit;
 use std::alloc::{AllocError, Allocator};
 
@@ -21,23 +21,23 @@ pub(crate) fn takes_all<A: Allocator>(edit: &Edit<A>) -> bool
 }
 
 // What stands between the first and the last number.
-fn between_numbers<'a>(count: usize, takes_all: bool) -> &'a [u8]
+fn between_numbers(count: usize, takes_all: bool) -> &'static str
     ensures { result.now ≡ between_numbers count takes_all }
 {
     if count > 2 {
-        b" to "
+        " to "
     } else if takes_all {
-        b", "
+        ", "
     } else {
-        b" or "
+        " or "
     }
 }
 
 // What stands behind the last number.
-fn behind_numbers<'a>(takes_all: bool) -> &'a [u8]
+fn behind_numbers(takes_all: bool) -> &'static str
     ensures { result.now ≡ behind_numbers takes_all }
 {
-    if takes_all { b"` or `all`" } else { b"`" }
+    if takes_all { "` or `all`" } else { "`" }
 }
 
 /// Puts what tells one of so many lines behind some notes. `takes_all` says whether `all` may stand
@@ -54,10 +54,19 @@ pub(crate) fn push_choice<B: Allocator>(
     ensures { IfOk result (λ _. notes.new.items
         ≡ notes.old.items ++ choice_text count takes_all) }
 {
-    notes.extend_from_slice(b"`nth 1`")?;
-    notes.extend_from_slice(between_numbers(count, takes_all))?;
-    notes.extend_from_slice(b"`nth ")?;
-    push_number(notes, count as u64)?;
-    notes.extend_from_slice(behind_numbers(takes_all))?;
-    notes.extend_from_slice(b" before the command says which\n")
+    let mut digits = itoa::Buffer::new();
+    let between = between_numbers(count, takes_all).as_bytes();
+    let last = digits.format(count).as_bytes();
+    let behind = behind_numbers(takes_all).as_bytes();
+    push_parts(
+        notes,
+        &[
+            b"`nth 1`",
+            between,
+            b"`nth ",
+            last,
+            behind,
+            b" before the command says which\n",
+        ],
+    )
 }

@@ -31,7 +31,7 @@ pub(crate) fn count_sought<A: Allocator>(doc: &Doc<A>, sought: Sought<'_>) -> us
     let _size = doc.len(); // its contract bounds the count
     let mut walk = numbered(doc);
     let mut count = 0;
-    'lines: while next_sought(&mut walk, sought).is_some() {
+    'lines: while let Some(_found) = next_sought(&mut walk, sought) {
         count += 1;
     }
     count

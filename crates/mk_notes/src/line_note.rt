@@ -9,7 +9,7 @@ ghost use Rattle.mk_notes.specs.Sought.{sought_in};
 use crate::branch::branch_of;
 use crate::finding::{count_sought, next_sought};
 use crate::sought::Sought;
-use crate::texts::{push_excerpt, push_number, push_place};
+use crate::texts::{push_excerpt, push_parts, push_place};
 use mk_listing::{Position, numbered};
 use mk_tree::{Doc, Line};
 use std::alloc::{AllocError, Allocator};
@@ -65,10 +65,9 @@ fn push_more<B: Allocator>(
     if more == 0 {
         return Ok(());
     }
-    notes.extend_from_slice(file)?;
-    notes.extend_from_slice(b": note: and ")?;
-    push_number(notes, more as u64)?;
-    notes.extend_from_slice(b" more\n")
+    let mut digits = itoa::Buffer::new();
+    let more = digits.format(more).as_bytes();
+    push_parts(notes, &[file, b": note: and ", more, b" more\n"])
 }
 
 // Puts the notes on the first of the lines that are sought behind some notes.
@@ -83,11 +82,13 @@ fn push_first<A: Allocator, B: Allocator>(
         (take most_lines (sought_in (sought_seen sought) doc.now))) }
 {
     let mut walk = numbered(doc);
-    'lines: for _ in 0..MOST_LINES {
+    let mut left = MOST_LINES;
+    'lines: while left > 0 {
         let Some((position, line)) = next_sought(&mut walk, sought) else {
             return Ok(());
         };
         push_line_note(notes, file, doc, position, line)?;
+        left -= 1;
     }
     Ok(())
 }

@@ -1,5 +1,6 @@
 //! The parts of notes.
-ghost use Rattle.std.specs.Prelude.{◌≡◌, ◌++◌, IfOk, decimal};
+ghost use Rattle.std.specs.Prelude.{◌≡◌, ◌++◌, IfOk};
+ghost use Rattle.mk_lines.specs.Device.{text_of_parts};
 ghost use Rattle.mk_lines.specs.Lists.{after_leading};
 ghost use Rattle.mk_notes.specs.LineNotes.{cut, excerpt, is_blank, place};
 
@@ -7,6 +8,23 @@ use std::alloc::{AllocError, Allocator};
 
 /// How many bytes of a line's text a note shows at most.
 const MOST_BYTES: usize = 100;
+
+/// Puts some parts behind some notes, one after the other.
+///
+/// # Errors
+///
+/// Want of memory.
+pub(crate) fn push_parts<A: Allocator>(
+    notes: &mut Vec<u8, A>,
+    parts: &[&[u8]],
+) -> Result<(), AllocError>
+    ensures { IfOk result (λ _. notes.new.items ≡ notes.old.items ++ text_of_parts parts.now) }
+{
+    'parts: for part in parts {
+        notes.extend_from_slice(part)?;
+    }
+    Ok(())
+}
 
 // Whether a byte is a space or a tab.
 fn is_blank(byte: u8) -> bool
@@ -33,11 +51,11 @@ fn after_blanks(text: &[u8]) -> &[u8]
 fn push_cut<A: Allocator>(notes: &mut Vec<u8, A>, text: &[u8]) -> Result<(), AllocError>
     ensures { IfOk result (λ _. notes.new.items ≡ notes.old.items ++ cut text.now) }
 {
-    if text.len() > MOST_BYTES {
-        notes.extend_from_slice(&text[..MOST_BYTES])?;
-        return notes.extend_from_slice(b"...");
+    if text.len() <= MOST_BYTES {
+        return notes.extend_from_slice(text);
     }
-    notes.extend_from_slice(text)
+    let (front, _) = text.split_at(MOST_BYTES);
+    push_parts(notes, &[front, b"..."])
 }
 
 /// Puts a text behind some notes, as a note shows it: without the blanks before it, and not all of it if
@@ -55,21 +73,6 @@ pub(crate) fn push_excerpt<A: Allocator>(
     push_cut(notes, after_blanks(text))
 }
 
-/// Puts a number behind some notes.
-///
-/// # Errors
-///
-/// Want of memory.
-pub(crate) fn push_number<A: Allocator>(
-    notes: &mut Vec<u8, A>,
-    number: u64,
-) -> Result<(), AllocError>
-    ensures { IfOk result (λ _. notes.new.items ≡ notes.old.items ++ decimal number) }
-{
-    let mut digits = itoa::Buffer::new();
-    notes.extend_from_slice(digits.format(number).as_bytes())
-}
-
 /// Puts the name of a file and the number of a line behind some notes.
 ///
 /// # Errors
@@ -82,7 +85,6 @@ pub(crate) fn push_place<A: Allocator>(
 ) -> Result<(), AllocError>
     ensures { IfOk result (λ _. notes.new.items ≡ notes.old.items ++ place file.now number) }
 {
-    notes.extend_from_slice(file)?;
-    notes.extend_from_slice(b":")?;
-    push_number(notes, number)
+    let mut digits = itoa::Buffer::new();
+    push_parts(notes, &[file, b":", digits.format(number).as_bytes()])
 }

@@ -1,0 +1,2 @@
+mod BranchLemmas
+mod NoteLemmas
