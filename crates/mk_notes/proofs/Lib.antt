@@ -1,2 +1,3 @@
 mod BranchLemmas
 mod NoteLemmas
+mod TextLemmas

@@ -1,4 +1,6 @@
 -- # What the public contracts say
+-- The text of a line
+pub mod Excerpts
 -- Which lines notes tell of
 pub mod Sought
 -- The texts of notes

@@ -1,36 +1,21 @@
 -- The notes on lines: where a line stands, its text, and the branch of a conditional in which it stands.
 -- Told in docs/EDITS.md, "Notes below refusals".
-use Rattle.std.specs.Prelude.{ℕ, ◌+◌, ◌-◌, ◌==◌, nat_lt, if◌then◌else◌, Bool, true, false, List, [], ◌∷◌, ◌++◌, length, take, Option, Some, None, codes, decimal}
+use Rattle.std.specs.Prelude.{ℕ, ◌+◌, ◌-◌, ◌==◌, if◌then◌else◌, Bool, true, false, List, [], ◌∷◌, ◌++◌, length, take, drop, Option, Some, None, is_some, codes, decimal}
 use Rattle.std.specs.List.{flat_map}
-use Rattle.mk_lines.specs.Lists.{after_leading}
+use Rattle.mk_class.specs.declared.class.Class.{Class}
+use Rattle.mk_class.specs.declared.class.Class.TheVariants.{Body, Recipe, Opaque, DefineHead, TargetAssign, Rough}
 use Rattle.mk_tree.specs.LocatedLines.{LocatedLine, text_of_line}
 use Rattle.mk_views.specs.Views.{conditional_of}
 use Rattle.mk_views.specs.declared.line.Conditional.{Conditional}
 use Rattle.mk_views.specs.declared.line.Conditional.TheVariants.{If, Else, Endif}
 use Rattle.mk_listing.specs.declared.position.Position.{Position}
 use Rattle.mk_listing.specs.Listings.{Spot, Standing, standing, whole}
-
--- how many bytes of a line's text a note shows at most
-abbrev pub most_bytes : ℕ
-most_bytes = 100
+use Rattle.mk_notes.specs.Excerpts.{excerpt}
+use Rattle.mk_notes.specs.Sought.{after_mark}
 
 -- how many lines the notes below a refusal show at most
 abbrev pub most_lines : ℕ
 most_lines = 10
-
--- ---- texts
-
--- whether a byte is a space or a tab
-abbrev pub is_blank : ℕ → Bool
-is_blank b = if b == 32 then true else b == 9
-
--- the front of a text, and three dots where more follows
-abbrev pub cut : List ℕ → List ℕ
-cut t = if nat_lt most_bytes (length t) then take most_bytes t ++ codes "..." else t
-
--- a text as a note shows it: without the blanks before it, and not all of it if it is long
-abbrev pub excerpt : List ℕ → List ℕ
-excerpt t = cut (after_leading is_blank t)
 
 -- the name of a file and the number of a line
 abbrev pub place : (file : List ℕ) → (number : ℕ) → List ℕ
@@ -75,23 +60,58 @@ branch_text file (Some b) =
     codes "   (in `" ++ (excerpt (text_of_line b.line) ++ (codes "`, "
     ++ (place file b.position.number ++ codes ")")))
 
+-- ---- why no edit looks at a line
+
+-- what is said of a line of this class
+abbrev pub class_text : Class → List ℕ
+class_text (Body nesting) = codes "   (in a define)"
+class_text (DefineHead p) = codes "   (a define)"
+class_text Recipe = codes "   (in a recipe)"
+class_text Opaque = codes "   (opaque)"
+class_text Rough = codes "   (rough)"
+class_text (TargetAssign a) = codes "   (for a target)"
+class_text k = []
+
+-- what is said of a line with this text
+abbrev pub kind_text : (text : List ℕ) → Class → List ℕ
+kind_text t k = if is_some (after_mark t) then codes "   (behind a byte order mark)" else class_text k
+
 -- ---- the note on a line
 
 -- a line of a makefile that is called `file` and has the lines `ls`
 abbrev pub line_note : (file : List ℕ) → (ls : List LocatedLine) → Position → LocatedLine → List ℕ
 line_note file ls p l =
     place file p.number ++ (codes ": note: " ++ (excerpt (text_of_line l)
-    ++ (branch_text file (branch_of ls p) ++ codes "\n")))
+    ++ (kind_text (text_of_line l) l.class ++ (branch_text file (branch_of ls p) ++ codes "\n"))))
 
 abbrev pub spot_note : (file : List ℕ) → (ls : List LocatedLine) → Spot LocatedLine → List ℕ
 spot_note file ls s = line_note file ls s.position s.shown
 
--- how many more lines there are
+-- ---- the notes on some lines
+
+-- how many of some lines are passed over, and how many are shown: the nth, from 1, or the first of them
+abbrev pub passed_over : (nth : Option ℕ) → ℕ
+passed_over None = 0
+passed_over (Some n) = n - 1
+
+abbrev pub shown_at_most : (nth : Option ℕ) → ℕ
+shown_at_most None = most_lines
+shown_at_most (Some n) = 1
+
+-- how many more there are
+abbrev pub how_many_more : (nth : Option ℕ) → (count : ℕ) → ℕ
+how_many_more None count = count - most_lines
+how_many_more (Some n) count = 0
+
+-- what is said of them
 abbrev pub more_note : (file : List ℕ) → (more : ℕ) → List ℕ
 more_note file more =
     if more == 0 then [] else file ++ (codes ": note: and " ++ (decimal more ++ codes " more\n"))
 
--- the notes on some lines: on the first of them, and how many more there are
-abbrev pub line_notes : (file : List ℕ) → (ls : List LocatedLine) → List (Spot LocatedLine) → List ℕ
-line_notes file ls ss =
-    flat_map (spot_note file ls) (take most_lines ss) ++ more_note file (length ss - most_lines)
+-- the notes on the nth of some lines; or, if no number is given, on the first of them, and how many more
+-- there are
+abbrev pub line_notes : (file : List ℕ) → (ls : List LocatedLine) → (nth : Option ℕ)
+    → List (Spot LocatedLine) → List ℕ
+line_notes file ls nth ss =
+    flat_map (spot_note file ls) (take (shown_at_most nth) (drop (passed_over nth) ss))
+    ++ more_note file (how_many_more nth (length ss))

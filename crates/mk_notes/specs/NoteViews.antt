@@ -16,6 +16,13 @@ use Rattle.mk_notes.specs.declared.sought.Sought.TheVariants as variants
 abbrev pub sought_seen : Sought → sought.Sought
 sought_seen (variants.Variable name) = sought.Variable name.now
 sought_seen (variants.Rule target) = sought.Rule target.now
+sought_seen (variants.Target target) = sought.Target target.now
+sought_seen (variants.AlikeVariable name) = sought.AlikeVariable name.now
+sought_seen (variants.AlikeRule target) = sought.AlikeRule target.now
+sought_seen (variants.HiddenVariable name) = sought.HiddenVariable name.now
+sought_seen (variants.HiddenRule target) = sought.HiddenRule target.now
+sought_seen variants.DefineLine = sought.DefineLine
+sought_seen variants.AnyLine = sought.AnyLine
 
 -- a line that was found
 abbrev pub placed_seen : {A : _} → Option (Position × Bor (Line A)) → Option Placed

@@ -1,7 +1,7 @@
 //! What tells one of several lines.
-ghost use Rattle.std.specs.Prelude.{◌≡◌, ◌++◌, IfOk};
+ghost use Rattle.std.specs.Prelude.{◌≡◌, IfOk};
 ghost use Rattle.mk_edit_language.specs.EditViews.{edit_of};
-ghost use Rattle.mk_notes.specs.RefusalNotes.{behind_numbers, between_numbers, choice_text, takes_all};
+ghost use Rattle.mk_notes.specs.RefusalNotes.{behind_numbers, between_numbers, choice_text, fewer_text, takes_all};
 
 use crate::texts::push_parts;
 use mk_edit_language::Edit;
@@ -40,33 +40,50 @@ fn behind_numbers(takes_all: bool) -> &'static str
     if takes_all { "` or `all`" } else { "`" }
 }
 
-/// Puts what tells one of so many lines behind some notes. `takes_all` says whether `all` may stand
-/// before the edit.
+/// What tells one of so many lines. `takes_all` says whether `all` may stand before the edit.
 ///
 /// # Errors
 ///
 /// Want of memory.
-pub(crate) fn push_choice<B: Allocator>(
-    notes: &mut Vec<u8, B>,
+pub(crate) fn choice_text<B: Allocator>(
+    alloc: B,
     count: usize,
     takes_all: bool,
-) -> Result<(), AllocError>
-    ensures { IfOk result (λ _. notes.new.items
-        ≡ notes.old.items ++ choice_text count takes_all) }
+) -> Result<Vec<u8, B>, AllocError>
+    ensures { IfOk result (λ text. text.items ≡ choice_text count takes_all) }
 {
+    let mut text = Vec::new(alloc);
     let mut digits = itoa::Buffer::new();
     let between = between_numbers(count, takes_all).as_bytes();
     let last = digits.format(count).as_bytes();
     let behind = behind_numbers(takes_all).as_bytes();
     push_parts(
-        notes,
+        &mut text,
         &[
             b"`nth 1`",
             between,
             b"`nth ",
             last,
             behind,
-            b" before the command says which\n",
+            b" before the command says which",
         ],
-    )
+    )?;
+    Ok(text)
+}
+
+/// What is said where there are so many lines of a name, fewer than the number asks for.
+///
+/// # Errors
+///
+/// Want of memory.
+pub(crate) fn fewer_text<B: Allocator>(alloc: B, count: usize) -> Result<Vec<u8, B>, AllocError>
+    ensures { IfOk result (λ text. text.items ≡ fewer_text count) }
+{
+    let mut text = Vec::new(alloc);
+    let mut digits = itoa::Buffer::new();
+    push_parts(
+        &mut text,
+        &[b"`nth` is at most ", digits.format(count).as_bytes()],
+    )?;
+    Ok(text)
 }

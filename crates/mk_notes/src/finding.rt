@@ -36,3 +36,23 @@ pub(crate) fn count_sought<A: Allocator>(doc: &Doc<A>, sought: Sought<'_>) -> us
     }
     count
 }
+
+/// The walk below the first of the lines that are sought in a document: so many of them are passed over.
+pub(crate) fn walk_below<'a, A: Allocator>(
+    doc: &'a Doc<A>,
+    sought: Sought<'_>,
+    number: usize,
+) -> NumberedLines<'a, A>
+    ensures { sought_ahead (sought_seen sought) result
+        ≡ drop number (sought_in (sought_seen sought) doc.now) }
+{
+    let mut walk = numbered(doc);
+    let mut left = number;
+    'lines: while left > 0 {
+        let Some(_passed) = next_sought(&mut walk, sought) else {
+            return walk;
+        };
+        left -= 1;
+    }
+    walk
+}

@@ -4,10 +4,11 @@
 //!
 //! The modules, lowest first:
 //!
+//! - `texts`: texts in parts, and where a line stands.
+//! - `excerpt`: the text of a line as a note shows it.
 //! - `sought`: which lines notes tell of.
 //! - `finding`: the lines of a document that are sought.
 //! - `branch`: the branch of a conditional in which a line stands.
-//! - `texts`: the parts of notes.
 //! - `line_note`: the notes on lines.
 //! - `choice`: what tells one of several lines.
 //! - [`notes`]: the notes on a refusal.
@@ -15,6 +16,7 @@
 
 mod branch;
 mod choice;
+mod excerpt;
 mod finding;
 mod line_note;
 pub mod notes;
