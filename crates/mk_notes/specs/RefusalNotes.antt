@@ -50,7 +50,12 @@ abbrev pub candidates_of : addresses.Address → Sought
 candidates_of (addresses.Variable nth name) = Variable name
 candidates_of (addresses.Rule nth target) = Rule target
 
--- ---- Ambiguous: the candidates, and what tells one of them
+-- the notes on the line that an address means
+abbrev pub meant_notes : Told → List LocatedLine → addresses.Address → List ℕ
+meant_notes t ls a = sought_notes t ls (addresses.nth_meant a) (candidates_of a)
+
+-- ---- Ambiguous: the candidates, and what tells one of them; where one line is meant, several recipe
+-- ---- lines of its rule have the text
 
 -- whether `all` may stand before an edit
 abbrev pub takes_all : Edit → Bool
@@ -88,7 +93,7 @@ abbrev pub ambiguous_notes : Told → List LocatedLine → (all : Bool) → addr
 ambiguous_notes t ls all a =
     let n = length (sought_in (candidates_of a) ls) in
     if is_several (addresses.nth_meant a) n then candidate_notes t ls all n (candidates_of a)
-    else []
+    else meant_notes t ls a
 
 -- ---- NoSuch: what is there instead
 
@@ -116,11 +121,7 @@ missing_notes t ls a =
     if n == 0 then elsewhere_notes t ls a
     else (sought_notes t ls None (candidates_of a) ++ script_note t (fewer_text n))
 
--- ---- Absent, Already, SharedRule, Straddles and OpenValue: the line that the edit means; Taken: the
--- ---- lines for the new name
-
-abbrev pub meant_notes : Told → List LocatedLine → addresses.Address → List ℕ
-meant_notes t ls a = sought_notes t ls (addresses.nth_meant a) (candidates_of a)
+-- ---- Taken: the lines for the new name
 
 abbrev pub taken_notes : Told → List LocatedLine → Edit → List ℕ
 taken_notes t ls (RenameTarget o n) = sought_notes t ls None (Target n)

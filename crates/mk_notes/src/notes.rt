@@ -133,6 +133,19 @@ fn nth_of(address: Address<'_>) -> Option<usize>
     }
 }
 
+// Puts the notes on the lines that an address means behind some notes.
+fn push_meant<A: Allocator, B: Allocator>(
+    notes: &mut Vec<u8, B>,
+    told: Told<'_>,
+    doc: &Doc<A>,
+    address: Address<'_>,
+) -> Result<(), AllocError>
+    ensures { IfOk result (λ _. notes.new.items ≡ notes.old.items
+        ++ meant_notes (told_seen told) doc.now (address_view address)) }
+{
+    push_sought(notes, told, doc, nth_of(address), candidates_of(address))
+}
+
 // ---- Ambiguous
 
 // Whether no number is given, and so many lines are several.
@@ -178,7 +191,7 @@ fn push_ambiguous<A: Allocator, B: Allocator + Copy>(
     let sought = candidates_of(address);
     let count = count_sought(doc, sought);
     if !is_several(nth_of(address), count) {
-        return Ok(());
+        return push_meant(notes, told, doc, address);
     }
     push_candidates(alloc, notes, told, doc, takes_all, count, sought)
 }
@@ -255,20 +268,7 @@ fn push_missing<A: Allocator, B: Allocator + Copy>(
     push_fewer(alloc, notes, told, count)
 }
 
-// ---- the line that an edit means
-
-// Puts the notes on the lines that an address means behind some notes.
-fn push_meant<A: Allocator, B: Allocator>(
-    notes: &mut Vec<u8, B>,
-    told: Told<'_>,
-    doc: &Doc<A>,
-    address: Address<'_>,
-) -> Result<(), AllocError>
-    ensures { IfOk result (λ _. notes.new.items ≡ notes.old.items
-        ++ meant_notes (told_seen told) doc.now (address_view address)) }
-{
-    push_sought(notes, told, doc, nth_of(address), candidates_of(address))
-}
+// ---- Taken
 
 // Puts the notes on the lines for a new name that is taken behind some notes.
 fn push_taken<A: Allocator, B: Allocator>(
@@ -366,7 +366,7 @@ fn push_notes<A: Allocator, B: Allocator + Copy>(
 ///
 /// | Refusal | Notes on |
 /// |---|---|
-/// | `Ambiguous` | the lines that fit the address, and what tells one of them |
+/// | `Ambiguous` | the lines that fit the address, and what tells one of them; the line of the rule, if several of its recipe lines have the text |
 /// | `NoSuch` | if the number is too high, the lines of the name; otherwise the lines of other names that are spelled alike, and those that begin with the name and that no edit looks at |
 /// | `Absent`, `Already`, `SharedRule`, `Straddles`, `OpenValue` | the line that the edit means; with `all` those of the name |
 /// | `Taken` | the lines for the new name |
