@@ -1,7 +1,6 @@
-//! What is said of one of several files: each line begins with the file's name.
+//! What is said of one of several files: each line begins with the file's name, and has its notes below it.
 ghost use Rattle.std.specs.Prelude.{◌≡◌, ◌++◌, IfOk, drop, map};
-ghost use Rattle.mk_lines.specs.PhysicalLines.{physical_lines};
-ghost use Rattle.mkedit.specs.NamedLines.{first_notes, named_line, named_lines, noted_lines};
+ghost use Rattle.mkedit.specs.NamedLines.{first_notes, named_line, named_lines};
 
 use mk_prompt::line_length;
 use std::alloc::{AllocError, Allocator};
@@ -19,26 +18,23 @@ fn push_named<A: Allocator>(
     named.extend_from_slice(line)
 }
 
-/// A text with a name and a colon before each of its lines.
-///
-/// # Errors
-///
-/// Want of memory.
-pub fn named_lines<A: Allocator>(
-    alloc: A,
-    name: &[u8],
-    text: &[u8],
-) -> Result<Vec<u8, A>, AllocError>
-    ensures { IfOk result (λ named. named.items ≡ named_lines name.now text.now) }
+// Puts the first of some notes behind a text, and answers the others.
+fn push_below<'a, A: Allocator, B: Allocator>(
+    named: &mut Vec<u8, A>,
+    notes: &'a [Vec<u8, B>],
+) -> Result<&'a [Vec<u8, B>], AllocError>
+    ensures text { IfOk result (λ _. named.new.items
+        ≡ named.old.items ++ first_notes (map (λ below. below.items) notes.entry.now)) }
+    ensures others { IfOk result (λ others. map (λ below. below.items) others.now
+        ≡ drop 1 (map (λ below. below.items) notes.entry.now)) }
 {
-    let mut named = Vec::new(alloc);
-    let mut rest = text;
-    'lines: while !rest.is_empty() {
-        let (line, after) = rest.split_at(line_length(rest));
-        push_named(&mut named, name, line)?;
-        rest = after;
+    match notes {
+        [] => Ok(notes),
+        [first, others @ ..] => {
+            named.extend_from_slice(first.as_slice())?;
+            Ok(others)
+        }
     }
-    Ok(named)
 }
 
 /// A text with a name and a colon before each of its lines, and notes below them: the first notes below
@@ -47,14 +43,14 @@ pub fn named_lines<A: Allocator>(
 /// # Errors
 ///
 /// Want of memory.
-pub fn noted_lines<A: Allocator, B: Allocator>(
+pub fn named_lines<A: Allocator, B: Allocator>(
     alloc: A,
     name: &[u8],
     text: &[u8],
     notes: &[Vec<u8, B>],
 ) -> Result<Vec<u8, A>, AllocError>
     ensures { IfOk result (λ named. named.items
-        ≡ noted_lines name.now (physical_lines text.now) (map (λ below. below.items) notes.now)) }
+        ≡ named_lines name.now text.now (map (λ below. below.items) notes.now)) }
 {
     let mut named = Vec::new(alloc);
     let mut rest = text;
@@ -66,20 +62,4 @@ pub fn noted_lines<A: Allocator, B: Allocator>(
         rest = after;
     }
     Ok(named)
-}
-
-// Puts the first of some notes behind a text, and answers the others.
-fn push_below<'a, A: Allocator, B: Allocator>(
-    named: &mut Vec<u8, A>,
-    notes: &'a [Vec<u8, B>],
-) -> Result<&'a [Vec<u8, B>], AllocError>
-    ensures { IfOk result (λ others. (named.new.items ≡ named.old.items ++ first_notes (map (λ below. below.items) notes.now)) × (map (λ below. below.items) others.now ≡ drop 1 (map (λ below. below.items) notes.now))) }
-{
-    match notes {
-        [] => Ok(notes),
-        [first, others @ ..] => {
-            named.extend_from_slice(first.as_slice())?;
-            Ok(others)
-        }
-    }
 }

@@ -17,7 +17,7 @@ use crate::files::{CannotOpen, open};
 use crate::in_place::InPlaceFile;
 use crate::kept::Kept;
 use crate::mistakes::COMMAND_LINES;
-use crate::named::{named_lines, noted_lines};
+use crate::named::named_lines;
 use crate::noted::Noted;
 use crate::notes::{STANDARD_INPUT, STANDARD_OUTPUT, SystemFault, put_notes};
 use crate::out_file::OutFile;
@@ -87,8 +87,8 @@ pub fn kept_outcome(outcome: Outcome, is_failed: bool) -> Outcome
     }
 }
 
-/// Writes what is said of a makefile: some lines, each with the makefile's name before it, and below
-/// them the note on a fault.
+/// Writes what is said of a makefile: some lines, each with the makefile's name before it and its notes
+/// below it, and below them the note on a fault.
 ///
 /// # Errors
 ///
@@ -97,6 +97,7 @@ pub fn put_named<A, W>(
     alloc: A,
     name: &str,
     lines: &[u8],
+    below: &[Vec<u8>],
     fault: Option<SystemFault<'_>>,
     out: &mut W,
 ) -> Result<(), Fault>
@@ -105,12 +106,12 @@ where
     W: ByteSink,
     requires { W.failed out.old ≡ false }
     ensures whole { OnOk result (Appends (W.contents out.old) (W.contents out.new)
-        (named_lines name.now lines.now ++ notes_of fault.entry)) }
+        (named_lines name.now lines.now (map (λ notes. notes.items) below.now) ++ notes_of fault.entry)) }
     ensures prefix { AppendsPrefix (W.contents out.old) (W.contents out.new)
-        (named_lines name.now lines.now ++ notes_of fault.entry) }
+        (named_lines name.now lines.now (map (λ notes. notes.items) below.now) ++ notes_of fault.entry) }
     ensures works { OnOk result (W.failed out.new ≡ false) }
 {
-    let named = named_lines(alloc, name.as_bytes(), lines)?;
+    let named = named_lines(alloc, name.as_bytes(), lines, below)?;
     write_all(out, named.as_slice())?;
     put_notes(fault, out)
 }
@@ -135,37 +136,14 @@ impl<'a> Said<'a> {
             witness,
         }
     }
-
-    // The notes below the lines of the report.
-    fn notes(&self) -> &[Vec<u8>] {
-        match &self.witness {
-            Some(witness) => witness.notes.as_slice(),
-            None => &[],
-        }
-    }
 }
 
-/// Writes what is said of a makefile: the lines of the report, each with the makefile's name before it and
-/// its notes below it, and below them the note on a fault.
-///
-/// # Errors
-///
-/// [`Fault::NoMemory`], and nothing is out; or [`Fault::Write`], and a prefix is out.
-fn put_noted<A, W>(
-    alloc: A,
-    name: &str,
-    said: &Said<'_>,
-    fault: Option<SystemFault<'_>>,
-    out: &mut W,
-) -> Result<(), Fault>
-where
-    A: Allocator,
-    W: ByteSink,
-    requires { W.failed out.old ≡ false }
-{
-    let named = noted_lines(alloc, name.as_bytes(), said.report.as_slice(), said.notes())?;
-    write_all(out, named.as_slice())?;
-    put_notes(fault, out)
+// The notes that a witness has kept.
+fn kept_notes<'a>(witness: &'a Option<NotesKept<'_, Global>>) -> &'a [Vec<u8>] {
+    match witness {
+        Some(witness) => witness.notes.as_slice(),
+        None => &[],
+    }
 }
 
 // Runs steps over a makefile, with the report into memory.
@@ -275,46 +253,30 @@ fn run_by<'a>(
 }
 
 /// Says on standard error how a run over one of several makefiles, or a query of it, ended, and answers
-/// its status. Where that cannot be said, the status is that of the fault.
+/// its status. `below` are the notes below the lines of the report. Where that cannot be said, the status
+/// is that of the fault.
 pub fn tell_named(
     rt: &HostRuntime,
     file: Input<'_>,
     report: &mut Vec<u8>,
+    below: &[Vec<u8>],
     end: &End<'_>,
     notes: bool,
 ) -> u8 {
     let outcome = keep_message(end.outcome, report);
     let fault = end.told_fault(notes);
     let mut errors = StdSink::new(rt.stderr());
-    let name = name_of(file);
-    told_status(
-        outcome,
-        put_named(rt.alloc(), name, report.as_slice(), fault, &mut errors),
-    )
-}
-
-// The status of a run of which it was told how it ended: where that could not be said, that of the fault.
-fn told_status(outcome: Outcome, told: Result<(), Fault>) -> u8 {
-    match told {
+    match put_named(
+        rt.alloc(),
+        name_of(file),
+        report.as_slice(),
+        below,
+        fault,
+        &mut errors,
+    ) {
         Ok(()) => status(&outcome),
         Err(fault) => status(&Outcome::from(fault)),
     }
-}
-
-// Says on standard error how a run over one of several makefiles ended, with the notes below the lines
-// of its report, and answers its status.
-fn tell_said(
-    rt: &HostRuntime,
-    file: Input<'_>,
-    outcome: Outcome,
-    said: &Said<'_>,
-    fault: Option<SystemFault<'_>>,
-) -> u8 {
-    let mut errors = StdSink::new(rt.stderr());
-    told_status(
-        outcome,
-        put_noted(rt.alloc(), name_of(file), said, fault, &mut errors),
-    )
 }
 
 // Runs steps over one of several makefiles, and answers the status.
@@ -329,8 +291,8 @@ fn edit_one<'a>(
     let mut said = Said::new(rt, words, file);
     match run_by(rt, words, steps, file, &mut said) {
         Ok(end) => {
-            let outcome = keep_message(end.outcome, &mut said.report);
-            tell_said(rt, file, outcome, &said, end.told_fault(words.notes))
+            let below = kept_notes(&said.witness);
+            tell_named(rt, file, &mut said.report, below, &end, words.notes)
         }
         Err(file) => {
             tell_not_opened(rt, &file, words.notes);
