@@ -6,7 +6,8 @@ pub mod Sought
 -- The texts of notes
 pub mod LineNotes
 pub mod RefusalNotes
+-- What contracts see of what is sought, of lines that were found, and of names
+pub mod NoteViews
 -- # Vocabulary of private contracts
 -- The next line that is sought
 pub mod Finding
-pub mod NoteViews

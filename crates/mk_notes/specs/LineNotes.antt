@@ -1,6 +1,6 @@
 -- The notes on lines: where a line stands, its text, and the branch of a conditional in which it stands.
 -- Told in docs/EDITS.md, "Notes below refusals".
-use Rattle.std.specs.Prelude.{ℕ, ◌+◌, ◌-◌, ◌==◌, if◌then◌else◌, Bool, true, false, List, [], ◌∷◌, ◌++◌, length, take, drop, Option, Some, None, is_some, codes, decimal}
+use Rattle.std.specs.Prelude.{ℕ, ◌+◌, ◌-◌, ◌==◌, if◌then◌else◌, Bool, false, List, [], ◌∷◌, ◌++◌, length, take, drop, Option, Some, None, is_some, codes, decimal}
 use Rattle.std.specs.List.{flat_map}
 use Rattle.mk_class.specs.declared.class.Class.{Class}
 use Rattle.mk_class.specs.declared.class.Class.TheVariants.{Body, Recipe, Opaque, DefineHead, TargetAssign, Rough}
@@ -104,9 +104,11 @@ how_many_more None count = count - most_lines
 how_many_more (Some n) count = 0
 
 -- what is said of them
+abbrev pub some_more_note : (file : List ℕ) → (more : ℕ) → List ℕ
+some_more_note file more = file ++ (codes ": note: and " ++ (decimal more ++ codes " more\n"))
+
 abbrev pub more_note : (file : List ℕ) → (more : ℕ) → List ℕ
-more_note file more =
-    if more == 0 then [] else file ++ (codes ": note: and " ++ (decimal more ++ codes " more\n"))
+more_note file more = if more == 0 then [] else some_more_note file more
 
 -- the notes on the nth of some lines; or, if no number is given, on the first of them, and how many more
 -- there are

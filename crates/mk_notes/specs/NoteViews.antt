@@ -1,6 +1,6 @@
 -- What contracts see of what is sought, and of a line that was found.
 -- Told in docs/EDITS.md, "Notes below refusals".
-use Rattle.std.specs.Prelude.{List, ℕ, Option, Some, None}
+use Rattle.std.specs.Prelude.{Option, Some, None}
 use Rattle.std.specs.Borrow.{Bor}
 use Rattle.mk_tree.specs.Trees.{line_view}
 use Rattle.mk_tree.specs.declared.tree.Line.{Line}

@@ -1,6 +1,6 @@
 -- The lines of a makefile that notes tell of, each where it stands.
 -- Told in docs/EDITS.md, "Notes below refusals".
-use Rattle.std.specs.Prelude.{ℕ, ◌==◌, Bool, true, false, not, ◌&&◌, ◌||◌, List, [], ◌∷◌, ◌++◌, length, min, take, drop, Option, Some, None}
+use Rattle.std.specs.Prelude.{ℕ, ◌==◌, if◌then◌else◌, Bool, true, false, not, ◌&&◌, ◌||◌, List, [], ◌∷◌, length, min, take, drop, Option, Some, None}
 use Rattle.std.specs.List.{list_any}
 use Rattle.std.specs.Str.{bytes_eq}
 use Rattle.mk_lines.specs.Lists.{after_leading}
@@ -72,10 +72,13 @@ leads_bare n t =
 abbrev pub leads : (name text : List ℕ) → Bool
 leads n t = leads_bare n (after_leading is_blank t)
 
--- a text without a byte order mark before it
+-- the byte order mark of UTF-8
+abbrev pub mark : List ℕ
+mark = 239 ∷ 187 ∷ 191 ∷ []
+
+-- what follows a byte order mark at the front of a text, if there is one
 abbrev pub after_mark : List ℕ → Option (List ℕ)
-after_mark (239 ∷ 187 ∷ 191 ∷ t) = Some t
-after_mark t = None
+after_mark t = if bytes_eq (take (min (length t) 3) t) mark then Some (drop (min (length t) 3) t) else None
 
 -- whether a name stands behind a byte order mark
 abbrev pub is_marked : (name text : List ℕ) → Bool

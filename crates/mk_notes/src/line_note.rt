@@ -2,7 +2,7 @@
 ghost use Rattle.std.specs.Prelude.{◌≡◌, ◌++◌, IfOk, take};
 ghost use Rattle.std.specs.List.{flat_map};
 ghost use Rattle.mk_tree.specs.Trees.{line_view};
-ghost use Rattle.mk_notes.specs.LineNotes.{branch_text, class_text, how_many_more, kind_text, line_note, line_notes, more_note, passed_over, shown_at_most, spot_note};
+ghost use Rattle.mk_notes.specs.LineNotes.{branch_text, class_text, how_many_more, kind_text, line_note, line_notes, more_note, passed_over, shown_at_most, some_more_note, spot_note};
 ghost use Rattle.mk_notes.specs.NoteViews.{placed_seen, sought_seen};
 ghost use Rattle.mk_notes.specs.Sought.{sought_ahead, sought_in};
 
@@ -83,7 +83,20 @@ fn push_line_note<A: Allocator, B: Allocator>(
     notes.extend_from_slice(b"\n")
 }
 
-// Puts how many more lines there are behind some notes.
+// Puts the note that there are so many more lines behind some notes.
+fn push_some_more<B: Allocator>(
+    notes: &mut Vec<u8, B>,
+    file: &[u8],
+    more: usize,
+) -> Result<(), AllocError>
+    ensures { IfOk result (λ _. notes.new.items ≡ notes.old.items ++ some_more_note file.now more) }
+{
+    let mut digits = itoa::Buffer::new();
+    let number = digits.format(more).as_bytes();
+    push_parts(notes, &[file, b": note: and ", number, b" more\n"])
+}
+
+// Puts how many more lines there are behind some notes; nothing if there are none.
 fn push_more<B: Allocator>(
     notes: &mut Vec<u8, B>,
     file: &[u8],
@@ -92,11 +105,10 @@ fn push_more<B: Allocator>(
     ensures { IfOk result (λ _. notes.new.items ≡ notes.old.items ++ more_note file.now more) }
 {
     if more == 0 {
-        return Ok(());
+        Ok(())
+    } else {
+        push_some_more(notes, file, more)
     }
-    let mut digits = itoa::Buffer::new();
-    let more = digits.format(more).as_bytes();
-    push_parts(notes, &[file, b": note: and ", more, b" more\n"])
 }
 
 // How many of the lines that are sought are passed over: those before the nth.

@@ -218,9 +218,11 @@ fn leads(name: &[u8], text: &[u8]) -> bool
 pub(crate) fn after_mark(text: &[u8]) -> Option<&[u8]>
     ensures { option_map (λ rest. rest.now) result ≡ after_mark text.now }
 {
-    match text {
-        [0xef, 0xbb, 0xbf, rest @ ..] => Some(rest),
-        _ => None,
+    let (front, rest) = text.split_at(text.len().min(3));
+    if front == b"\xef\xbb\xbf".as_slice() {
+        Some(rest)
+    } else {
+        None
     }
 }
 

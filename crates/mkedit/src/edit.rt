@@ -70,44 +70,6 @@ where
     outcome
 }
 
-// Runs the script over the makefile, with the text or the diff to a sink.
-fn print_to<R, S, W, P, T>(
-    rt: &HostRuntime,
-    words: &EditWords<'_>,
-    file: Input<'_>,
-    makefile: &mut R,
-    script: &mut S,
-    out: &mut W,
-    report: &mut P,
-    witness: &mut T,
-) -> Outcome
-where
-    R: ByteSource,
-    S: ByteSource,
-    W: ByteSink,
-    P: ByteSink,
-    T: Witness<Global>,
-    requires makefile_works { R.failed makefile.old ≡ false }
-    requires script_works { S.failed script.old ≡ false }
-    requires out_works { W.failed out.old ≡ false }
-    requires report_works { P.failed report.old ≡ false }
-{
-    if words.is_diff {
-        let name = diff_name(file);
-        return run_diff(
-            rt.alloc(),
-            words,
-            name,
-            makefile,
-            script,
-            out,
-            report,
-            witness,
-        );
-    }
-    run_to(rt.alloc(), words, makefile, script, out, report, witness)
-}
-
 // The witness that writes notes below the lines on refusals, if there are notes.
 fn notes_below<'a>(
     rt: &'a HostRuntime,
@@ -118,6 +80,93 @@ fn notes_below<'a>(
         Some(NotesBelow::new(rt.alloc(), Names::of(words, file), rt.stderr()))
     } else {
         None
+    }
+}
+
+// Runs the script over the makefile, with the text to a sink, and the report to standard error.
+fn text_to<R, S, W>(
+    rt: &HostRuntime,
+    words: &EditWords<'_>,
+    file: Input<'_>,
+    makefile: &mut R,
+    script: &mut S,
+    out: &mut W,
+) -> Outcome
+where
+    R: ByteSource,
+    S: ByteSource,
+    W: ByteSink,
+    requires makefile_works { R.failed makefile.old ≡ false }
+    requires script_works { S.failed script.old ≡ false }
+    requires out_works { W.failed out.old ≡ false }
+{
+    let mut report = StdSink::new(rt.stderr());
+    let mut witness = notes_below(rt, words, file);
+    let alloc = rt.alloc();
+    run_to(
+        alloc,
+        words,
+        makefile,
+        script,
+        out,
+        &mut report,
+        &mut witness,
+    )
+}
+
+// The same, with the diff to the sink.
+fn diff_to<R, S, W>(
+    rt: &HostRuntime,
+    words: &EditWords<'_>,
+    file: Input<'_>,
+    makefile: &mut R,
+    script: &mut S,
+    out: &mut W,
+) -> Outcome
+where
+    R: ByteSource,
+    S: ByteSource,
+    W: ByteSink,
+    requires makefile_works { R.failed makefile.old ≡ false }
+    requires script_works { S.failed script.old ≡ false }
+    requires out_works { W.failed out.old ≡ false }
+{
+    let mut report = StdSink::new(rt.stderr());
+    let mut witness = notes_below(rt, words, file);
+    let name = diff_name(file);
+    run_diff(
+        rt.alloc(),
+        words,
+        name,
+        makefile,
+        script,
+        out,
+        &mut report,
+        &mut witness,
+    )
+}
+
+// Runs the script over the makefile, with the text or the diff to a sink.
+fn print_to<R, S, W>(
+    rt: &HostRuntime,
+    words: &EditWords<'_>,
+    file: Input<'_>,
+    makefile: &mut R,
+    script: &mut S,
+    out: &mut W,
+) -> Outcome
+where
+    R: ByteSource,
+    S: ByteSource,
+    W: ByteSink,
+    requires makefile_works { R.failed makefile.old ≡ false }
+    requires script_works { S.failed script.old ≡ false }
+    requires out_works { W.failed out.old ≡ false }
+{
+    if words.is_diff {
+        diff_to(rt, words, file, makefile, script, out)
+    } else {
+        text_to(rt, words, file, makefile, script, out)
     }
 }
 
@@ -132,34 +181,15 @@ fn run_over<'a, R: ByteSource, S: ByteSource>(
     requires makefile_works { R.failed makefile.old ≡ false }
     requires script_works { S.failed script.old ≡ false }
 {
-    let mut report = StdSink::new(rt.stderr());
-    let mut witness = notes_below(rt, words, file);
     match destination_of(words.output, file) {
         Destination::File(name) => {
             let mut out = OutFile::new(rt, name);
-            let outcome = print_to(
-                rt,
-                words,
-                file,
-                makefile,
-                script,
-                &mut out,
-                &mut report,
-                &mut witness,
-            );
+            let outcome = print_to(rt, words, file, makefile, script, &mut out);
             End::of(outcome).with_fault(out.fault())
         }
         Destination::InPlace(name, backup) => {
             let mut out = InPlaceFile::new(rt, name, backup);
-            let outcome = run_to(
-                rt.alloc(),
-                words,
-                makefile,
-                script,
-                &mut out,
-                &mut report,
-                &mut witness,
-            );
+            let outcome = text_to(rt, words, file, makefile, script, &mut out);
             let end = End::of(outcome).with_fault(out.fault());
             out.close();
             end
@@ -167,16 +197,7 @@ fn run_over<'a, R: ByteSource, S: ByteSource>(
         Destination::Standard => {
             let mut device = Noted::new(rt.stdout());
             let mut out = StdSink::new(&mut device);
-            let outcome = print_to(
-                rt,
-                words,
-                file,
-                makefile,
-                script,
-                &mut out,
-                &mut report,
-                &mut witness,
-            );
+            let outcome = print_to(rt, words, file, makefile, script, &mut out);
             End::of(outcome).with_fault(device.fault(STANDARD_OUTPUT))
         }
     }

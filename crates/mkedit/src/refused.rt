@@ -1,5 +1,6 @@
 //! The witnesses of a run that make the notes on refusals: of one makefile at once, of several later.
-ghost use Rattle.std.specs.Prelude.{◌≡◌, false};
+ghost use Rattle.std.specs.Prelude.{◌≡◌};
+ghost use Rattle.mkedit.specs.Destinations.{input_name};
 
 use crate::mistakes::COMMAND_LINES;
 use crate::notes::STANDARD_INPUT;
