@@ -1,5 +1,5 @@
 -- The last branch that begins among the lines of a walk.
-use Rattle.std.proofs.Common.{◌≡◌, ◌<◌, ◌-◌, ℕ, sym, ap, ◌∙◌, arith, List, [], ◌∷◌, ◌++◌, take, Option}
+use Rattle.std.proofs.Common.{◌≡◌, ◌<◌, ◌-◌, ℕ, sym, ap, ◌∙◌, [], ◌∷◌, ◌++◌, take, Option}
 use Rattle.mk_tree.specs.LocatedLines.{LocatedLine}
 use Rattle.mk_listing.specs.declared.position.Position.{Position}
 use Rattle.mk_listing.specs.Listings.{Standing, Walk, position_below, standing, standing_below}
@@ -7,7 +7,7 @@ use Rattle.mk_notes.specs.LineNotes.{Placed, last_branch, later_branch}
 use Rattle.mk_notes.proofs.NoteLemmas.{taken}
 
 -- the line that a walk hands out stands before those that it has ahead then
-pub standing-next : (w left : Walk) (p : Position) (x : LocatedLine) → p ≡ position_below w.above → w.ahead ≡ x ∷ left.ahead → left.above ≡ w.above ++ x ∷ []
+standing-next : (w left : Walk) (p : Position) (x : LocatedLine) → p ≡ position_below w.above → w.ahead ≡ x ∷ left.ahead → left.above ≡ w.above ++ x ∷ []
     → standing w ≡ record { position = p; line = x; below = left } ∷ standing left
 standing-next w left p x here ahead above =
     ap (standing_below w.above) ahead

@@ -4,7 +4,7 @@ use Rattle.std.specs.Prelude.{ℕ, ◌==◌, nat_lt, if◌then◌else◌, Bool, 
 use Rattle.mk_lines.specs.Lists.{after_leading}
 
 -- how many bytes of a line's text a note shows at most
-abbrev pub most_bytes : ℕ
+abbrev most_bytes : ℕ
 most_bytes = 100
 
 -- whether a byte is a space or a tab

@@ -1,6 +1,6 @@
 -- The next line of a walk that is sought.
 -- Told in docs/EDITS.md, "Notes below refusals".
-use Rattle.std.specs.Prelude.{◌≡◌, ◌<◌, ◌≤◌, List, [], ◌∷◌, length, Option, MatchOption}
+use Rattle.std.specs.Prelude.{◌≡◌, ◌<◌, ◌≤◌, [], ◌∷◌, length, Option, MatchOption}
 use Rattle.std.specs.Borrow.{Bor}
 use Rattle.mk_tree.specs.Trees.{line_view}
 use Rattle.mk_tree.specs.declared.tree.Line.{Line}

@@ -14,7 +14,7 @@ use Rattle.mk_notes.specs.Excerpts.{excerpt}
 use Rattle.mk_notes.specs.Sought.{after_mark}
 
 -- how many lines the notes below a refusal show at most
-abbrev pub most_lines : ℕ
+abbrev most_lines : ℕ
 most_lines = 10
 
 -- the name of a file and the number of a line

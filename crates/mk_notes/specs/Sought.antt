@@ -1,6 +1,6 @@
 -- The lines of a makefile that notes tell of, each where it stands.
 -- Told in docs/EDITS.md, "Notes below refusals".
-use Rattle.std.specs.Prelude.{ℕ, ◌==◌, if◌then◌else◌, Bool, true, false, not, ◌&&◌, ◌||◌, List, [], ◌∷◌, length, min, take, drop, Option, Some, None}
+use Rattle.std.specs.Prelude.{ℕ, ◌==◌, if◌then◌else◌, Bool, true, false, not, ◌&&◌, ◌||◌, List, [], ◌∷◌, length, min, take, drop, Option, Some, None, option_map, unwrap_or}
 use Rattle.std.specs.List.{list_any}
 use Rattle.std.specs.Str.{bytes_eq}
 use Rattle.mk_lines.specs.Lists.{after_leading}
@@ -36,8 +36,7 @@ pub data Sought : Type 0 where
 
 -- whether there is a view that passes a test
 abbrev pub shows : {V : Type 0} → (V → Bool) → Option V → Bool
-shows passes None = false
-shows passes (Some v) = passes v
+shows passes v = unwrap_or (option_map passes v) false
 
 -- ---- names that are spelled alike
 
@@ -73,7 +72,7 @@ abbrev pub leads : (name text : List ℕ) → Bool
 leads n t = leads_bare n (after_leading is_blank t)
 
 -- the byte order mark of UTF-8
-abbrev pub mark : List ℕ
+abbrev mark : List ℕ
 mark = 239 ∷ 187 ∷ 191 ∷ []
 
 -- what follows a byte order mark at the front of a text, if there is one

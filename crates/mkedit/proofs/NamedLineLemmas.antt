@@ -4,7 +4,7 @@ use Rattle.mk_lines.specs.PhysicalLines.{physical_lines}
 use Rattle.mkedit.specs.NamedLines.{first_notes, named_line, named_lines, noted_lines}
 
 -- a line with the name before it and its notes below it stands before the lines of the rest
-pub named-more : (name text : List ℕ) (notes : List (List ℕ)) (n : ℕ) → physical_lines text ≡ take n text ∷ physical_lines (drop n text)
+named-more : (name text : List ℕ) (notes : List (List ℕ)) (n : ℕ) → physical_lines text ≡ take n text ∷ physical_lines (drop n text)
     → named_lines name text notes ≡ named_line name (take n text) ++ (first_notes notes ++ named_lines name (drop n text) (drop 1 notes))
 named-more name text notes n h = ap (λ ls. noted_lines name ls notes) h
 

@@ -83,73 +83,12 @@ fn notes_below<'a>(
     }
 }
 
-// Runs the script over the makefile, with the text to a sink, and the report to standard error.
-fn text_to<R, S, W>(
-    rt: &HostRuntime,
-    words: &EditWords<'_>,
-    file: Input<'_>,
-    makefile: &mut R,
-    script: &mut S,
-    out: &mut W,
-) -> Outcome
-where
-    R: ByteSource,
-    S: ByteSource,
-    W: ByteSink,
-    requires makefile_works { R.failed makefile.old ≡ false }
-    requires script_works { S.failed script.old ≡ false }
-    requires out_works { W.failed out.old ≡ false }
-{
-    let mut report = StdSink::new(rt.stderr());
-    let mut witness = notes_below(rt, words, file);
-    let alloc = rt.alloc();
-    run_to(
-        alloc,
-        words,
-        makefile,
-        script,
-        out,
-        &mut report,
-        &mut witness,
-    )
-}
-
-// The same, with the diff to the sink.
-fn diff_to<R, S, W>(
-    rt: &HostRuntime,
-    words: &EditWords<'_>,
-    file: Input<'_>,
-    makefile: &mut R,
-    script: &mut S,
-    out: &mut W,
-) -> Outcome
-where
-    R: ByteSource,
-    S: ByteSource,
-    W: ByteSink,
-    requires makefile_works { R.failed makefile.old ≡ false }
-    requires script_works { S.failed script.old ≡ false }
-    requires out_works { W.failed out.old ≡ false }
-{
-    let mut report = StdSink::new(rt.stderr());
-    let mut witness = notes_below(rt, words, file);
-    let name = diff_name(file);
-    run_diff(
-        rt.alloc(),
-        words,
-        name,
-        makefile,
-        script,
-        out,
-        &mut report,
-        &mut witness,
-    )
-}
-
-// Runs the script over the makefile, with the text or the diff to a sink.
+// Runs the script over the makefile, with the text or the diff to a sink, and what is said of it to
+// standard error.
 fn print_to<R, S, W>(
     rt: &HostRuntime,
     words: &EditWords<'_>,
+    is_diff: bool,
     file: Input<'_>,
     makefile: &mut R,
     script: &mut S,
@@ -163,11 +102,14 @@ where
     requires script_works { S.failed script.old ≡ false }
     requires out_works { W.failed out.old ≡ false }
 {
-    if words.is_diff {
-        diff_to(rt, words, file, makefile, script, out)
-    } else {
-        text_to(rt, words, file, makefile, script, out)
+    let alloc = rt.alloc();
+    let report = &mut StdSink::new(rt.stderr());
+    let witness = &mut notes_below(rt, words, file);
+    if is_diff {
+        let name = diff_name(file);
+        return run_diff(alloc, words, name, makefile, script, out, report, witness);
     }
+    run_to(alloc, words, makefile, script, out, report, witness)
 }
 
 // Runs the script over the makefile, with the text or the diff to where the words say.
@@ -184,12 +126,12 @@ fn run_over<'a, R: ByteSource, S: ByteSource>(
     match destination_of(words.output, file) {
         Destination::File(name) => {
             let mut out = OutFile::new(rt, name);
-            let outcome = print_to(rt, words, file, makefile, script, &mut out);
+            let outcome = print_to(rt, words, words.is_diff, file, makefile, script, &mut out);
             End::of(outcome).with_fault(out.fault())
         }
         Destination::InPlace(name, backup) => {
             let mut out = InPlaceFile::new(rt, name, backup);
-            let outcome = text_to(rt, words, file, makefile, script, &mut out);
+            let outcome = print_to(rt, words, false, file, makefile, script, &mut out);
             let end = End::of(outcome).with_fault(out.fault());
             out.close();
             end
@@ -197,7 +139,7 @@ fn run_over<'a, R: ByteSource, S: ByteSource>(
         Destination::Standard => {
             let mut device = Noted::new(rt.stdout());
             let mut out = StdSink::new(&mut device);
-            let outcome = print_to(rt, words, file, makefile, script, &mut out);
+            let outcome = print_to(rt, words, words.is_diff, file, makefile, script, &mut out);
             End::of(outcome).with_fault(device.fault(STANDARD_OUTPUT))
         }
     }
