@@ -1,3 +1,4 @@
 mod BranchLemmas
 mod NoteLemmas
+mod RefusalLemmas
 mod TextLemmas

@@ -93,7 +93,7 @@ is_hidden n l = (is_unread l.class && leads n (text_of_line l)) || is_marked n (
 
 -- ---- which lines are sought
 
-abbrev is_define_line : Class → Bool
+abbrev pub is_define_line : Class → Bool
 is_define_line (DefineHead p) = true
 is_define_line k = false
 

@@ -14,7 +14,7 @@ pub(crate) fn next_sought<'a, A: Allocator>(
     walk: &mut NumberedLines<'a, A>,
     sought: Sought<'_>,
 ) -> Option<(Position, &'a Line<A>)>
-    ensures { FindsSought (sought_seen sought) walk.old result walk.new }
+    ensures { FindsSought (sought_seen sought.entry) walk.old result walk.new }
 {
     'lines: while let Some((position, line)) = walk.next() {
         if sought.is_met(line) {
@@ -26,7 +26,7 @@ pub(crate) fn next_sought<'a, A: Allocator>(
 
 /// How many lines of a document are sought.
 pub(crate) fn count_sought<A: Allocator>(doc: &Doc<A>, sought: Sought<'_>) -> usize
-    ensures { result ≡ length (sought_in (sought_seen sought) doc.now) }
+    ensures { result ≡ length (sought_in (sought_seen sought.entry) doc.now) }
 {
     let _size = doc.len(); // its contract bounds the count
     let mut walk = numbered(doc);
@@ -43,8 +43,8 @@ pub(crate) fn walk_below<'a, A: Allocator>(
     sought: Sought<'_>,
     number: usize,
 ) -> NumberedLines<'a, A>
-    ensures { sought_ahead (sought_seen sought) result
-        ≡ drop number (sought_in (sought_seen sought) doc.now) }
+    ensures { sought_ahead (sought_seen sought.entry) result
+        ≡ drop number (sought_in (sought_seen sought.entry) doc.now) }
 {
     let mut walk = numbered(doc);
     let mut left = number;

@@ -151,7 +151,7 @@ fn push_first<A: Allocator, B: Allocator>(
     most: usize,
 ) -> Result<(), AllocError>
     ensures { IfOk result (λ _. notes.new.items ≡ notes.old.items
-        ++ flat_map (spot_note file.now doc.now) (take most (sought_ahead (sought_seen sought) ahead.entry))) }
+        ++ flat_map (spot_note file.now doc.now) (take most (sought_ahead (sought_seen sought.entry) ahead.entry))) }
 {
     let mut walk = ahead;
     let mut left = most;
@@ -179,7 +179,7 @@ pub(crate) fn push_line_notes<A: Allocator, B: Allocator>(
     sought: Sought<'_>,
 ) -> Result<(), AllocError>
     ensures { IfOk result (λ _. notes.new.items ≡ notes.old.items
-        ++ line_notes file.now doc.now nth (sought_in (sought_seen sought) doc.now)) }
+        ++ line_notes file.now doc.now nth (sought_in (sought_seen sought.entry) doc.now)) }
 {
     let ahead = walk_below(doc, sought, passed_over(nth));
     push_first(notes, file, doc, ahead, sought, shown_at_most(nth))?;

@@ -36,7 +36,7 @@ fn push_script_note<B: Allocator>(
     said: &[u8],
 ) -> Result<(), AllocError>
     ensures { IfOk result (λ _. notes.new.items
-        ≡ notes.old.items ++ script_note (told_seen told) said.now) }
+        ≡ notes.old.items ++ script_note (told_seen told.entry) said.now) }
 {
     push_place(notes, told.script.as_bytes(), told.line)?;
     push_parts(notes, &[b": note: ", said, b"\n"])
@@ -52,7 +52,7 @@ fn push_sought<A: Allocator, B: Allocator>(
     sought: Sought<'_>,
 ) -> Result<(), AllocError>
     ensures { IfOk result (λ _. notes.new.items ≡ notes.old.items
-        ++ sought_notes (told_seen told) doc.now nth (sought_seen sought)) }
+        ++ sought_notes (told_seen told.entry) doc.now nth (sought_seen sought.entry)) }
 {
     push_line_notes(notes, told.makefile.as_bytes(), doc, nth, sought)
 }
@@ -65,7 +65,7 @@ fn push_last<A: Allocator, B: Allocator>(
     sought: Sought<'_>,
 ) -> Result<(), AllocError>
     ensures { IfOk result (λ _. notes.new.items ≡ notes.old.items
-        ++ last_notes (told_seen told) doc.now (sought_seen sought)) }
+        ++ last_notes (told_seen told.entry) doc.now (sought_seen sought.entry)) }
 {
     let count = count_sought(doc, sought);
     push_sought(notes, told, doc, Some(count), sought)
@@ -81,7 +81,7 @@ fn push_said<A: Allocator, B: Allocator>(
     sought: Sought<'_>,
 ) -> Result<(), AllocError>
     ensures { IfOk result (λ _. notes.new.items ≡ notes.old.items
-        ++ said_notes (told_seen told) doc.now said.now (sought_seen sought)) }
+        ++ said_notes (told_seen told.entry) doc.now said.now (sought_seen sought.entry)) }
 {
     if count_sought(doc, sought) == 0 {
         return Ok(());
@@ -115,7 +115,7 @@ fn meant<A: Allocator>(edit: &Edit<A>) -> Option<Address<'_>>
 
 // The lines that an address may mean.
 fn candidates_of(address: Address<'_>) -> Sought<'_>
-    ensures { sought_seen result ≡ candidates_of (address_view address) }
+    ensures { sought_seen result ≡ candidates_of (address_view address.entry) }
 {
     match address {
         Address::Variable(_, name) => Sought::Variable(name),
@@ -125,7 +125,7 @@ fn candidates_of(address: Address<'_>) -> Sought<'_>
 
 // The number that an address gives.
 fn nth_of(address: Address<'_>) -> Option<usize>
-    ensures { result ≡ nth_meant (address_view address) }
+    ensures { result ≡ nth_meant (address_view address.entry) }
 {
     match address {
         Address::Variable(Some(nth), _) | Address::Rule(Some(nth), _) => Some(nth as usize),
@@ -141,7 +141,7 @@ fn push_meant<A: Allocator, B: Allocator>(
     address: Address<'_>,
 ) -> Result<(), AllocError>
     ensures { IfOk result (λ _. notes.new.items ≡ notes.old.items
-        ++ meant_notes (told_seen told) doc.now (address_view address)) }
+        ++ meant_notes (told_seen told.entry) doc.now (address_view address.entry)) }
 {
     push_sought(notes, told, doc, nth_of(address), candidates_of(address))
 }
@@ -169,7 +169,7 @@ fn push_candidates<A: Allocator, B: Allocator + Copy>(
     sought: Sought<'_>,
 ) -> Result<(), AllocError>
     ensures { IfOk result (λ _. notes.new.items ≡ notes.old.items
-        ++ candidate_notes (told_seen told) doc.now takes_all count (sought_seen sought)) }
+        ++ candidate_notes (told_seen told.entry) doc.now takes_all count (sought_seen sought.entry)) }
 {
     push_sought(notes, told, doc, None, sought)?;
     let choice = choice_text(alloc, count, takes_all)?;
@@ -186,7 +186,7 @@ fn push_ambiguous<A: Allocator, B: Allocator + Copy>(
     address: Address<'_>,
 ) -> Result<(), AllocError>
     ensures { IfOk result (λ _. notes.new.items ≡ notes.old.items
-        ++ ambiguous_notes (told_seen told) doc.now takes_all (address_view address)) }
+        ++ ambiguous_notes (told_seen told.entry) doc.now takes_all (address_view address.entry)) }
 {
     let sought = candidates_of(address);
     let count = count_sought(doc, sought);
@@ -200,7 +200,7 @@ fn push_ambiguous<A: Allocator, B: Allocator + Copy>(
 
 // The lines for another name that is spelled alike.
 fn near_of(address: Address<'_>) -> Sought<'_>
-    ensures { sought_seen result ≡ near_of (address_view address) }
+    ensures { sought_seen result ≡ near_of (address_view address.entry) }
 {
     match address {
         Address::Variable(_, name) => Sought::AlikeVariable(name),
@@ -210,7 +210,7 @@ fn near_of(address: Address<'_>) -> Sought<'_>
 
 // Where the name stands and no edit looks.
 fn hidden_of(address: Address<'_>) -> Sought<'_>
-    ensures { sought_seen result ≡ hidden_of (address_view address) }
+    ensures { sought_seen result ≡ hidden_of (address_view address.entry) }
 {
     match address {
         Address::Variable(_, name) => Sought::HiddenVariable(name),
@@ -226,7 +226,7 @@ fn push_elsewhere<A: Allocator, B: Allocator>(
     address: Address<'_>,
 ) -> Result<(), AllocError>
     ensures { IfOk result (λ _. notes.new.items ≡ notes.old.items
-        ++ elsewhere_notes (told_seen told) doc.now (address_view address)) }
+        ++ elsewhere_notes (told_seen told.entry) doc.now (address_view address.entry)) }
 {
     let near = near_of(address);
     push_said(notes, told, doc, b"these names are spelled alike", near)?;
@@ -242,7 +242,7 @@ fn push_fewer<B: Allocator + Copy>(
     count: usize,
 ) -> Result<(), AllocError>
     ensures { IfOk result (λ _. notes.new.items
-        ≡ notes.old.items ++ script_note (told_seen told) (fewer_text count)) }
+        ≡ notes.old.items ++ script_note (told_seen told.entry) (fewer_text count)) }
 {
     let said = fewer_text(alloc, count)?;
     push_script_note(notes, told, said.as_slice())
@@ -257,7 +257,7 @@ fn push_missing<A: Allocator, B: Allocator + Copy>(
     address: Address<'_>,
 ) -> Result<(), AllocError>
     ensures { IfOk result (λ _. notes.new.items ≡ notes.old.items
-        ++ missing_notes (told_seen told) doc.now (address_view address)) }
+        ++ missing_notes (told_seen told.entry) doc.now (address_view address.entry)) }
 {
     let sought = candidates_of(address);
     let count = count_sought(doc, sought);
@@ -278,7 +278,7 @@ fn push_taken<A: Allocator, B: Allocator>(
     edit: &Edit<A>,
 ) -> Result<(), AllocError>
     ensures { IfOk result (λ _. notes.new.items ≡ notes.old.items
-        ++ taken_notes (told_seen told) doc.now (edit_of edit.now)) }
+        ++ taken_notes (told_seen told.entry) doc.now (edit_of edit.now)) }
 {
     match edit {
         Edit::RenameTarget { to, .. } => push_sought(notes, told, doc, None, Sought::Target(to)),
@@ -299,7 +299,7 @@ fn push_by_lines<A: Allocator, B: Allocator + Copy>(
     address: Address<'_>,
 ) -> Result<(), AllocError>
     ensures { IfOk result (λ _. notes.new.items ≡ notes.old.items
-        ++ notes_by_lines (told_seen told) doc.now takes_all refusal (address_view address)) }
+        ++ notes_by_lines (told_seen told.entry) doc.now takes_all refusal (address_view address.entry)) }
 {
     match refusal {
         Refusal::Ambiguous(_) => push_ambiguous(alloc, notes, told, doc, takes_all, address),
@@ -324,7 +324,7 @@ fn push_by_meant<A: Allocator, B: Allocator + Copy>(
     address: Option<Address<'_>>,
 ) -> Result<(), AllocError>
     ensures { IfOk result (λ _. notes.new.items ≡ notes.old.items
-        ++ notes_by_meant (told_seen told) doc.now takes_all refusal (address_seen address)) }
+        ++ notes_by_meant (told_seen told.entry) doc.now takes_all refusal (address_seen address.entry)) }
 {
     match address {
         Some(address) => push_by_lines(alloc, notes, told, doc, takes_all, refusal, address),
@@ -342,7 +342,7 @@ fn push_notes<A: Allocator, B: Allocator + Copy>(
     refusal: Refusal,
 ) -> Result<(), AllocError>
     ensures { IfOk result (λ _. notes.new.items ≡ notes.old.items
-        ++ notes_on (told_seen told) doc.now (edit_of edit.now) refusal) }
+        ++ notes_on (told_seen told.entry) doc.now (edit_of edit.now) refusal) }
 {
     match refusal {
         Refusal::Taken => push_taken(notes, told, doc, edit),
@@ -387,7 +387,7 @@ pub fn refusal_notes<A: Allocator, B: Allocator + Copy>(
     refusal: Refusal,
 ) -> Result<Vec<u8, B>, AllocError>
     ensures { IfOk result (λ notes. notes.items
-        ≡ notes_on (told_seen told) doc.now (edit_of edit.now) refusal) }
+        ≡ notes_on (told_seen told.entry) doc.now (edit_of edit.now) refusal) }
 {
     let mut notes = Vec::new(alloc);
     push_notes(alloc, &mut notes, told, doc, edit, refusal)?;

@@ -43,7 +43,7 @@ pub(crate) enum Sought<'a> {
 impl Sought<'_> {
     /// Whether a line is one of those that are sought.
     pub(crate) fn is_met<A: Allocator>(self, line: &Line<A>) -> bool
-        ensures { result ≡ is_sought (sought_seen self) (line_view line.now) }
+        ensures { result ≡ is_sought (sought_seen self.entry) (line_view line.now) }
     {
         match self {
             Sought::Variable(name) => assigns(line, name),
