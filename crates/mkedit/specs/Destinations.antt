@@ -14,6 +14,12 @@ destination_of (output.File name) file = File name
 destination_of (output.InPlace backup) (input.File name) = InPlace name backup.0
 destination_of (output.InPlace backup) input.Standard = Standard
 
+-- what a file is called in notes
+abbrev pub input_name : Input → List ℕ
+input_name (input.File name) = name.now
+input_name input.Standard = codes "standard input"
+
+-- what a makefile is called where lines begin with its name
 abbrev pub name_of : Input → List ℕ
 name_of (input.File name) = name.now
 name_of input.Standard = codes "-"

@@ -14,7 +14,7 @@ use mk_lines::sink::write_all;
 use mk_lines::source::read_all;
 use mk_lines::{ByteSink, ByteSource, Fault, StdSource};
 use mk_prompt::TextSink;
-use mk_run::Outcome;
+use mk_run::{Outcome, Witness};
 use std::alloc::Allocator;
 
 // The makefile where it could not be read to its end: a source that fails at once, or that never
@@ -120,17 +120,19 @@ fn shown_diff<A: Allocator + Copy>(
 }
 
 // Runs the script over a makefile that could not be read to its end, for this fault.
-fn run_unread<A, S, P>(
+fn run_unread<A, S, P, T>(
     alloc: A,
     words: &EditWords<'_>,
     fault: Fault,
     script: &mut S,
     report: &mut P,
+    witness: &mut T,
 ) -> Outcome
 where
     A: Allocator + Copy,
     S: ByteSource,
     P: ByteSink,
+    T: Witness<A>,
     requires script_works { S.failed script.old ≡ false }
     requires report_works { P.failed report.old ≡ false }
     ensures unprinted { is_printed result words.now.keep_going ≡ false }
@@ -140,7 +142,15 @@ where
         is_failed: false,
     };
     let mut sink = TextSink::new(alloc);
-    let outcome = run_to(alloc, words, &mut makefile, script, &mut sink, report);
+    let outcome = run_to(
+        alloc,
+        words,
+        &mut makefile,
+        script,
+        &mut sink,
+        report,
+        witness,
+    );
     if fault == Fault::NoMemory || is_printed(&outcome, words.keep_going) {
         return Outcome::NoMemory;
     }
@@ -149,7 +159,7 @@ where
 
 /// Runs the script over the makefile as the words say, and puts the diff of the makefile and the text
 /// out in place of the text. Where the text would not go out, nothing does.
-pub(crate) fn run_diff<A, R, S, W, P>(
+pub(crate) fn run_diff<A, R, S, W, P, T>(
     alloc: A,
     words: &EditWords<'_>,
     form: DiffForm<'_>,
@@ -157,6 +167,7 @@ pub(crate) fn run_diff<A, R, S, W, P>(
     script: &mut S,
     out: &mut W,
     report: &mut P,
+    witness: &mut T,
 ) -> Outcome
 where
     A: Allocator + Copy,
@@ -164,6 +175,7 @@ where
     S: ByteSource,
     P: ByteSink,
     W: ByteSink,
+    T: Witness<A>,
     requires script_works { S.failed script.old ≡ false }
     requires makefile_works { R.failed makefile.old ≡ false }
     requires report_works { P.failed report.old ≡ false }
@@ -178,11 +190,19 @@ where
 {
     let old = match read_all(alloc, makefile) {
         Ok(old) => old,
-        Err(fault) => return run_unread(alloc, words, fault, script, report),
+        Err(fault) => return run_unread(alloc, words, fault, script, report, witness),
     };
     let mut sink = TextSink::new(alloc);
     let mut source = StdSource::new(old.as_slice());
-    let outcome = run_to(alloc, words, &mut source, script, &mut sink, report);
+    let outcome = run_to(
+        alloc,
+        words,
+        &mut source,
+        script,
+        &mut sink,
+        report,
+        witness,
+    );
     if sink.is_failed {
         return Outcome::NoMemory;
     }

@@ -13,12 +13,13 @@ use crate::mistakes::{COMMAND_LINES, script_mistake};
 use crate::noted::Noted;
 use crate::notes::{STANDARD_INPUT, STANDARD_OUTPUT};
 use crate::out_file::OutFile;
+use crate::refused::{Names, NotesBelow};
 use crate::several::edit_each;
 use mk_command_line::{EditWords, Input, Script};
 use mk_lines::{ByteSink, ByteSource, StdSink, StdSource};
-use mk_run::{Outcome, run};
-use std::alloc::Allocator;
-use std::io::{IsTerminal, Read};
+use mk_run::{Outcome, Witness, run};
+use std::alloc::{Allocator, Global};
+use std::io::{IsTerminal, Read, Stderr};
 use std::mem;
 use std::process::ExitCode;
 
@@ -27,13 +28,14 @@ const _: () = prove!(mk_command_line::MAX_DEPTH == mk_history::history::MAX_DEPT
 
 /// Runs the script over the makefile as the words say, with the text to a sink. The session is not
 /// given up: the program ends soon, and a box for each line would be given up one by one.
-pub(crate) fn run_to<A, R, S, W, P>(
+pub(crate) fn run_to<A, R, S, W, P, T>(
     alloc: A,
     words: &EditWords<'_>,
     makefile: &mut R,
     script: &mut S,
     out: &mut W,
     report: &mut P,
+    witness: &mut T,
 ) -> Outcome
 where
     A: Allocator + Copy,
@@ -41,6 +43,7 @@ where
     S: ByteSource,
     W: ByteSink,
     P: ByteSink,
+    T: Witness<A>,
     requires makefile_works { R.failed makefile.old ≡ false }
     requires script_works { S.failed script.old ≡ false }
     requires out_works { W.failed out.old ≡ false }
@@ -61,50 +64,69 @@ where
         words.keep_going,
         out,
         report,
-        &mut (),
+        witness,
         &mut kept,
     );
     mem::forget(kept);
     outcome
 }
 
-// Runs the script over the makefile, with the text or the diff to a sink.
-fn print_to<R, S, W, P>(
+// The witness that writes notes below the lines on refusals, if there are notes.
+fn notes_below<'a>(
+    rt: &'a HostRuntime,
+    words: &EditWords<'a>,
+    file: Input<'a>,
+) -> Option<NotesBelow<'a, Stderr, Global>> {
+    if words.notes {
+        Some(NotesBelow::new(rt.alloc(), Names::of(words, file), rt.stderr()))
+    } else {
+        None
+    }
+}
+
+// Runs the script over the makefile, with the text or the diff to a sink, and what is said of it to
+// standard error.
+fn print_to<R, S, W>(
     rt: &HostRuntime,
     words: &EditWords<'_>,
-    form: DiffForm<'_>,
+    form: Option<DiffForm<'_>>,
+    file: Input<'_>,
     makefile: &mut R,
     script: &mut S,
     out: &mut W,
-    report: &mut P,
 ) -> Outcome
 where
     R: ByteSource,
     S: ByteSource,
     W: ByteSink,
-    P: ByteSink,
     requires makefile_works { R.failed makefile.old ≡ false }
     requires script_works { S.failed script.old ≡ false }
     requires out_works { W.failed out.old ≡ false }
-    requires report_works { P.failed report.old ≡ false }
 {
-    if words.is_diff {
-        return run_diff(rt.alloc(), words, form, makefile, script, out, report);
+    let alloc = rt.alloc();
+    let report = &mut StdSink::new(rt.stderr());
+    let witness = &mut notes_below(rt, words, file);
+    if let Some(form) = form {
+        return run_diff(alloc, words, form, makefile, script, out, report, witness);
     }
-    run_to(rt.alloc(), words, makefile, script, out, report)
+    run_to(alloc, words, makefile, script, out, report, witness)
 }
 
-// How the diff of a makefile is shown that goes to a terminal, or to something else.
+// How the diff of a makefile is shown that goes to a terminal, or to something else; None where the
+// text goes there.
 fn form_of<'a>(
     rt: &HostRuntime,
     words: &EditWords<'_>,
     file: Input<'a>,
     is_terminal: bool,
-) -> DiffForm<'a> {
-    DiffForm {
-        name: diff_name(file),
-        has_color: words.is_diff && has_color(rt, words.color, is_terminal),
+) -> Option<DiffForm<'a>> {
+    if !words.is_diff {
+        return None;
     }
+    Some(DiffForm {
+        name: diff_name(file),
+        has_color: has_color(rt, words.color, is_terminal),
+    })
 }
 
 // Runs the script over the makefile, with the text or the diff to where the words say.
@@ -118,17 +140,16 @@ fn run_over<'a, R: ByteSource, S: ByteSource>(
     requires makefile_works { R.failed makefile.old ≡ false }
     requires script_works { S.failed script.old ≡ false }
 {
-    let mut report = StdSink::new(rt.stderr());
     match destination_of(words.output, file) {
         Destination::File(name) => {
             let mut out = OutFile::new(rt, name);
             let form = form_of(rt, words, file, false);
-            let outcome = print_to(rt, words, form, makefile, script, &mut out, &mut report);
+            let outcome = print_to(rt, words, form, file, makefile, script, &mut out);
             End::of(outcome).with_fault(out.fault())
         }
         Destination::InPlace(name, backup) => {
             let mut out = InPlaceFile::new(rt, name, backup);
-            let outcome = run_to(rt.alloc(), words, makefile, script, &mut out, &mut report);
+            let outcome = print_to(rt, words, None, file, makefile, script, &mut out);
             let end = End::of(outcome).with_fault(out.fault());
             out.close();
             end
@@ -137,7 +158,7 @@ fn run_over<'a, R: ByteSource, S: ByteSource>(
             let form = form_of(rt, words, file, rt.stdout().is_terminal());
             let mut device = Noted::new(rt.stdout());
             let mut out = StdSink::new(&mut device);
-            let outcome = print_to(rt, words, form, makefile, script, &mut out, &mut report);
+            let outcome = print_to(rt, words, form, file, makefile, script, &mut out);
             End::of(outcome).with_fault(device.fault(STANDARD_OUTPUT))
         }
     }

@@ -15,6 +15,7 @@
 //! - `kept`: a source whose bytes are kept; `mistakes`: the note on a line of a script that is no command.
 //! - `named`: lines that begin with the name of a file.
 //! - `notes`: what is said of that below a message.
+//! - `refused`: the notes below the lines on refusals, by [`mk_notes`].
 //! - `out_file`: the file that a text goes to; `in_place`: the makefile itself.
 //! - `ending`: the message and the status.
 //! - `session`: a makefile that is edited step by step, by [`mk_prompt`].
@@ -39,6 +40,7 @@ mod notes;
 mod out_file;
 mod query;
 mod question;
+mod refused;
 mod script_command;
 mod session;
 mod several;

@@ -199,7 +199,7 @@ fn put_named_answer<W: ByteSink>(
 ) -> Result<(), Fault>
     requires { W.failed out.old ≡ false }
 {
-    put_named(alloc, name, answer, None, out)?;
+    put_named(alloc, name, answer, &[], None, out)?;
     ByteSink::flush(out)
 }
 
@@ -337,7 +337,7 @@ fn ask_each(
         let mut lines = Vec::new(rt.alloc());
         match ask_kept(rt, question, *file, &mut lines) {
             Ok(asked) => {
-                statuses.add(tell_named(rt, *file, &mut lines, &asked.end, notes));
+                statuses.add(tell_named(rt, *file, &mut lines, &[], &asked.end, notes));
                 if asked.is_left {
                     break;
                 }

@@ -21,11 +21,12 @@ use crate::named::named_lines;
 use crate::noted::Noted;
 use crate::notes::{STANDARD_INPUT, STANDARD_OUTPUT, SystemFault, put_notes};
 use crate::out_file::OutFile;
+use crate::refused::{Names, NotesKept};
 use mk_command_line::{EditWords, Input, Script};
 use mk_history::history::is_bad_depth;
 use mk_lines::sink::write_all;
 use mk_lines::{ByteSink, ByteSource, Fault, StdSink, StdSource};
-use mk_run::{Outcome, Step, message, read_script, run_steps, status};
+use mk_run::{Outcome, Step, Witness, message, read_script, run_steps, status};
 use std::alloc::{Allocator, Global};
 use std::io::Read;
 use std::mem;
@@ -33,19 +34,21 @@ use std::process::ExitCode;
 
 // Runs steps over a makefile, with the depth and the keep-going of the words. The session is not given
 // up: the program ends soon.
-fn run_steps_to<A, R, W, P>(
+fn run_steps_to<A, R, W, P, T>(
     alloc: A,
     words: &EditWords<'_>,
     steps: &[Step<A>],
     makefile: &mut R,
     out: &mut W,
     report: &mut P,
+    witness: &mut T,
 ) -> Outcome
 where
     A: Allocator + Copy,
     R: ByteSource,
     W: ByteSink,
     P: ByteSink,
+    T: Witness<A>,
     requires makefile_works { R.failed makefile.old ≡ false }
     requires out_works { W.failed out.old ≡ false }
     requires report_works { P.failed report.old ≡ false }
@@ -66,7 +69,7 @@ where
         words.keep_going,
         out,
         report,
-        &mut (),
+        witness,
         &mut kept,
     );
     mem::forget(kept);
@@ -84,8 +87,8 @@ pub fn kept_outcome(outcome: Outcome, is_failed: bool) -> Outcome
     }
 }
 
-/// Writes what is said of a makefile: some lines, each with the makefile's name before it, and below
-/// them the note on a fault.
+/// Writes what is said of a makefile: some lines, each with the makefile's name before it and its notes
+/// below it, and below them the note on a fault.
 ///
 /// # Errors
 ///
@@ -94,6 +97,7 @@ pub fn put_named<A, W>(
     alloc: A,
     name: &str,
     lines: &[u8],
+    below: &[Vec<u8>],
     fault: Option<SystemFault<'_>>,
     out: &mut W,
 ) -> Result<(), Fault>
@@ -102,14 +106,44 @@ where
     W: ByteSink,
     requires { W.failed out.old ≡ false }
     ensures whole { OnOk result (Appends (W.contents out.old) (W.contents out.new)
-        (named_lines name.now lines.now ++ notes_of fault.entry)) }
+        (named_lines name.now lines.now (map (λ notes. notes.items) below.now) ++ notes_of fault.entry)) }
     ensures prefix { AppendsPrefix (W.contents out.old) (W.contents out.new)
-        (named_lines name.now lines.now ++ notes_of fault.entry) }
+        (named_lines name.now lines.now (map (λ notes. notes.items) below.now) ++ notes_of fault.entry) }
     ensures works { OnOk result (W.failed out.new ≡ false) }
 {
-    let named = named_lines(alloc, name.as_bytes(), lines)?;
+    let named = named_lines(alloc, name.as_bytes(), lines, below)?;
     write_all(out, named.as_slice())?;
     put_notes(fault, out)
+}
+
+// What is said of a makefile, in memory: the report, and the notes below its lines where there are notes.
+#[derive(Drop)]
+struct Said<'a> {
+    report: Vec<u8>,
+    witness: Option<NotesKept<'a, Global>>,
+}
+
+impl<'a> Said<'a> {
+    // Nothing yet. There are notes if the words ask for them.
+    fn new(rt: &HostRuntime, words: &EditWords<'a>, file: Input<'a>) -> Said<'a> {
+        let witness = if words.notes {
+            Some(NotesKept::new(rt.alloc(), Names::of(words, file)))
+        } else {
+            None
+        };
+        Said {
+            report: Vec::new(rt.alloc()),
+            witness,
+        }
+    }
+}
+
+// The notes that a witness has kept.
+fn kept_notes<'a>(witness: &'a Option<NotesKept<'_, Global>>) -> &'a [Vec<u8>] {
+    match witness {
+        Some(witness) => witness.notes.as_slice(),
+        None => &[],
+    }
 }
 
 // Runs steps over a makefile, with the report into memory.
@@ -119,14 +153,15 @@ fn run_kept<R: ByteSource, W: ByteSink>(
     steps: &[Step<Global>],
     makefile: &mut R,
     out: &mut W,
-    report: &mut Vec<u8>,
+    said: &mut Said<'_>,
 ) -> Outcome
     requires makefile_works { R.failed makefile.old ≡ false }
     requires out_works { W.failed out.old ≡ false }
     requires depth { IsBadDepth words.now.depth → ⊥ }
 {
-    let mut lines = StdSink::new(report);
-    let outcome = run_steps_to(alloc, words, steps, makefile, out, &mut lines);
+    let mut lines = StdSink::new(&mut said.report);
+    let witness = &mut said.witness;
+    let outcome = run_steps_to(alloc, words, steps, makefile, out, &mut lines, witness);
     kept_outcome(outcome, lines.failed())
 }
 
@@ -144,7 +179,7 @@ fn run_over<'a, R: ByteSource>(
     steps: &[Step<Global>],
     file: Input<'a>,
     makefile: &mut R,
-    report: &mut Vec<u8>,
+    said: &mut Said<'a>,
 ) -> End<'a>
     requires makefile_works { R.failed makefile.old ≡ false }
     requires depth { IsBadDepth words.now.depth → ⊥ }
@@ -152,12 +187,12 @@ fn run_over<'a, R: ByteSource>(
     match destination_of(words.output, file) {
         Destination::File(name) => {
             let mut out = OutFile::new(rt, name);
-            let outcome = run_kept(rt.alloc(), words, steps, makefile, &mut out, report);
+            let outcome = run_kept(rt.alloc(), words, steps, makefile, &mut out, said);
             End::of(outcome).with_fault(out.fault())
         }
         Destination::InPlace(name, backup) => {
             let mut out = InPlaceFile::new(rt, name, backup);
-            let outcome = run_kept(rt.alloc(), words, steps, makefile, &mut out, report);
+            let outcome = run_kept(rt.alloc(), words, steps, makefile, &mut out, said);
             let end = End::of(outcome).with_fault(out.fault());
             out.close();
             end
@@ -165,7 +200,7 @@ fn run_over<'a, R: ByteSource>(
         Destination::Standard => {
             let mut device = Noted::new(rt.stdout());
             let mut out = StdSink::new(&mut device);
-            let outcome = run_kept(rt.alloc(), words, steps, makefile, &mut out, report);
+            let outcome = run_kept(rt.alloc(), words, steps, makefile, &mut out, said);
             End::of(outcome).with_fault(device.fault(STANDARD_OUTPUT))
         }
     }
@@ -179,7 +214,7 @@ fn run_noted<'a, R: Read + Drop>(
     file: Input<'a>,
     name: &'a str,
     makefile: R,
-    report: &mut Vec<u8>,
+    said: &mut Said<'a>,
 ) -> End<'a>
     requires { IsBadDepth words.now.depth → ⊥ }
 {
@@ -190,7 +225,7 @@ fn run_noted<'a, R: Read + Drop>(
         steps,
         file,
         &mut StdSource::new(&mut makefile),
-        report,
+        said,
     );
     end.with_fault(makefile.fault(name))
 }
@@ -201,28 +236,30 @@ fn run_by<'a>(
     words: &EditWords<'a>,
     steps: &[Step<Global>],
     file: Input<'a>,
-    report: &mut Vec<u8>,
+    said: &mut Said<'a>,
 ) -> Result<End<'a>, CannotOpen<'a>>
     requires { IsBadDepth words.now.depth → ⊥ }
 {
     match file {
         Input::File(name) => {
             let makefile = open(rt, name)?;
-            Ok(run_noted(rt, words, steps, file, name, makefile, report))
+            Ok(run_noted(rt, words, steps, file, name, makefile, said))
         }
         Input::Standard => {
             let name = STANDARD_INPUT;
-            Ok(run_noted(rt, words, steps, file, name, rt.stdin(), report))
+            Ok(run_noted(rt, words, steps, file, name, rt.stdin(), said))
         }
     }
 }
 
 /// Says on standard error how a run over one of several makefiles, or a query of it, ended, and answers
-/// its status. Where that cannot be said, the status is that of the fault.
+/// its status. `below` are the notes below the lines of the report. Where that cannot be said, the status
+/// is that of the fault.
 pub fn tell_named(
     rt: &HostRuntime,
     file: Input<'_>,
     report: &mut Vec<u8>,
+    below: &[Vec<u8>],
     end: &End<'_>,
     notes: bool,
 ) -> u8 {
@@ -233,6 +270,7 @@ pub fn tell_named(
         rt.alloc(),
         name_of(file),
         report.as_slice(),
+        below,
         fault,
         &mut errors,
     ) {
@@ -250,9 +288,12 @@ fn edit_one<'a>(
 ) -> u8
     requires { IsBadDepth words.now.depth → ⊥ }
 {
-    let mut report = Vec::new(rt.alloc());
-    match run_by(rt, words, steps, file, &mut report) {
-        Ok(end) => tell_named(rt, file, &mut report, &end, words.notes),
+    let mut said = Said::new(rt, words, file);
+    match run_by(rt, words, steps, file, &mut said) {
+        Ok(end) => {
+            let below = kept_notes(&said.witness);
+            tell_named(rt, file, &mut said.report, below, &end, words.notes)
+        }
         Err(file) => {
             tell_not_opened(rt, &file, words.notes);
             CANNOT_OPEN

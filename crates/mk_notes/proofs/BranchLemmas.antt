@@ -1,0 +1,24 @@
+-- The last branch that begins among the lines of a walk.
+use Rattle.std.proofs.Common.{◌≡◌, ◌<◌, ◌-◌, ℕ, sym, ap, ◌∙◌, [], ◌∷◌, ◌++◌, take, Option}
+use Rattle.mk_tree.specs.LocatedLines.{LocatedLine}
+use Rattle.mk_listing.specs.declared.position.Position.{Position}
+use Rattle.mk_listing.specs.Listings.{Standing, Walk, position_below, standing, standing_below}
+use Rattle.mk_notes.specs.LineNotes.{Placed, last_branch, later_branch}
+use Rattle.mk_notes.proofs.NoteLemmas.{taken}
+
+-- the line that a walk hands out stands before those that it has ahead then
+standing-next : (w left : Walk) (p : Position) (x : LocatedLine) → p ≡ position_below w.above → w.ahead ≡ x ∷ left.ahead → left.above ≡ w.above ++ x ∷ []
+    → standing w ≡ record { position = p; line = x; below = left } ∷ standing left
+standing-next w left p x here ahead above =
+    ap (standing_below w.above) ahead
+    ∙ (ap (λ a. record { position = position_below w.above; line = x; below = record { above = a; ahead = left.ahead } } ∷ standing_below a left.ahead) (sym above)
+    ∙ ap (λ q. record { position = q; line = x; below = left } ∷ standing left) (sym here))
+
+-- the branch after one more line
+pub branch-next : (d n : ℕ) (found next : Option Placed) (w left : Walk) (p : Position) (x : LocatedLine) → 0 < n → next ≡ later_branch d found p x
+    → p ≡ position_below w.above → w.ahead ≡ x ∷ left.ahead → left.above ≡ w.above ++ x ∷ []
+    → last_branch d next (take (n - 1) (standing left)) ≡ last_branch d found (take n (standing w))
+branch-next d n found next w left p x some later here ahead above =
+    let s : Standing = record { position = p; line = x; below = left } in
+    ap (λ z. last_branch d z (take (n - 1) (standing left))) later
+    ∙ sym (ap (λ z. last_branch d found (take n z)) (standing-next w left p x here ahead above) ∙ ap (last_branch d found) (taken n s (standing left) some))

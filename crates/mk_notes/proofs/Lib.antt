@@ -1,0 +1,4 @@
+mod BranchLemmas
+mod NoteLemmas
+mod RefusalLemmas
+mod TextLemmas

@@ -1,0 +1,13 @@
+-- # What the public contracts say
+-- The text of a line
+pub mod Excerpts
+-- Which lines notes tell of
+pub mod Sought
+-- The texts of notes
+pub mod LineNotes
+pub mod RefusalNotes
+-- What contracts see of what is sought, of lines that were found, and of names
+pub mod NoteViews
+-- # Vocabulary of private contracts
+-- The next line that is sought
+pub mod Finding

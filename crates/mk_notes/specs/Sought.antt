@@ -1,0 +1,122 @@
+-- The lines of a makefile that notes tell of, each where it stands.
+-- Told in docs/EDITS.md, "Notes below refusals".
+use Rattle.std.specs.Prelude.{ℕ, ◌==◌, if◌then◌else◌, Bool, true, false, not, ◌&&◌, ◌||◌, List, [], ◌∷◌, length, min, take, drop, Option, Some, None, option_map, unwrap_or}
+use Rattle.std.specs.List.{list_any}
+use Rattle.std.specs.Str.{bytes_eq}
+use Rattle.mk_lines.specs.Lists.{after_leading}
+use Rattle.mk_class.specs.Texts.{is_one_of}
+use Rattle.mk_class.specs.declared.class.Class.{Class}
+use Rattle.mk_class.specs.declared.class.Class.TheVariants.{Body, Recipe, Opaque, DefineHead, Rough}
+use Rattle.mk_script.specs.Spelling.{are_alike}
+use Rattle.mk_tree.specs.LocatedLines.{LocatedLine, text_of_line}
+use Rattle.mk_views.specs.Views.{TargetAssignmentView, assignment_of, define_of, rule_of, target_assignment_of}
+use Rattle.mk_listing.specs.Listings.{Spot, Walk, is_for, is_of, seen, standing, whole}
+use Rattle.mk_notes.specs.Excerpts.{is_blank}
+
+-- Which lines are sought.
+pub data Sought : Type 0 where
+  -- the assignments of a variable
+  Variable : (name : List ℕ) → Sought
+  -- the lines of the rules for a target
+  Rule : (target : List ℕ) → Sought
+  -- those lines, and the assignments for the target
+  Target : (target : List ℕ) → Sought
+  -- the assignments of a variable with another name that is spelled alike
+  AlikeVariable : (name : List ℕ) → Sought
+  -- the lines of the rules for another target that is spelled alike
+  AlikeRule : (target : List ℕ) → Sought
+  -- where the name of a variable stands and no edit looks
+  HiddenVariable : (name : List ℕ) → Sought
+  -- where a target stands and no edit looks
+  HiddenRule : (target : List ℕ) → Sought
+  -- the lines that begin a define
+  DefineLine : Sought
+  -- each line
+  AnyLine : Sought
+
+-- whether there is a view that passes a test
+abbrev pub shows : {V : Type 0} → (V → Bool) → Option V → Bool
+shows passes v = unwrap_or (option_map passes v) false
+
+-- ---- names that are spelled alike
+
+-- whether a name is another one that is spelled alike
+abbrev pub is_near : (name other : List ℕ) → Bool
+is_near n other = are_alike n other && not (bytes_eq n other)
+
+-- ---- lines that no edit looks at
+
+-- whether a line of this class is not read inside
+abbrev pub is_unread : Class → Bool
+is_unread (Body nesting) = true
+is_unread Recipe = true
+is_unread Opaque = true
+is_unread Rough = true
+is_unread k = false
+
+-- whether a byte begins an operator or a separator
+abbrev pub is_sign : ℕ → Bool
+is_sign b = (b == 61) || (b == 58) || (b == 43) || (b == 63) || (b == 33)
+
+abbrev pub begins_with_sign : List ℕ → Bool
+begins_with_sign [] = false
+begins_with_sign (b ∷ bs) = is_sign b
+
+-- whether a text begins with a name and an operator or a separator, with blanks around them
+abbrev pub leads_bare : (name text : List ℕ) → Bool
+leads_bare n t =
+    bytes_eq (take (min (length n) (length t)) t) n
+    && begins_with_sign (after_leading is_blank (drop (min (length n) (length t)) t))
+
+abbrev pub leads : (name text : List ℕ) → Bool
+leads n t = leads_bare n (after_leading is_blank t)
+
+-- the byte order mark of UTF-8
+abbrev mark : List ℕ
+mark = 239 ∷ 187 ∷ 191 ∷ []
+
+-- what follows a byte order mark at the front of a text, if there is one
+abbrev pub after_mark : List ℕ → Option (List ℕ)
+after_mark t = if bytes_eq (take (min (length t) 3) t) mark then Some (drop (min (length t) 3) t) else None
+
+-- whether a name stands behind a byte order mark
+abbrev pub is_marked : (name text : List ℕ) → Bool
+is_marked n t = shows (leads n) (after_mark t)
+
+-- whether a line assigns a variable for targets
+abbrev pub assigns_for_targets : (name : List ℕ) → TargetAssignmentView → Bool
+assigns_for_targets n a = bytes_eq a.assignment.name n
+
+-- whether a line is not read inside and begins with a name, or has it behind a byte order mark
+abbrev pub is_hidden : (name : List ℕ) → LocatedLine → Bool
+is_hidden n l = (is_unread l.class && leads n (text_of_line l)) || is_marked n (text_of_line l)
+
+-- ---- which lines are sought
+
+abbrev pub is_define_line : Class → Bool
+is_define_line (DefineHead p) = true
+is_define_line k = false
+
+-- whether a line is one of those that are sought
+abbrev pub is_sought : Sought → LocatedLine → Bool
+is_sought (Variable n) l = shows (is_of (Some n)) (assignment_of l)
+is_sought (Rule t) l = shows (is_for (Some t)) (rule_of l)
+is_sought (Target t) l =
+    shows (is_for (Some t)) (rule_of l) || shows (λ a. is_one_of t a.targets) (target_assignment_of l)
+is_sought (AlikeVariable n) l = shows (λ a. is_near n a.name) (assignment_of l)
+is_sought (AlikeRule t) l = shows (λ r. list_any (is_near t) r.targets) (rule_of l)
+is_sought (HiddenVariable n) l =
+    shows (λ name. bytes_eq name n) (define_of l)
+    || shows (assigns_for_targets n) (target_assignment_of l) || is_hidden n l
+is_sought (HiddenRule t) l =
+    shows (λ a. is_one_of t a.targets) (target_assignment_of l) || is_hidden t l
+is_sought DefineLine l = is_define_line l.class
+is_sought AnyLine l = true
+
+-- the lines that are sought among those that a walk has ahead
+abbrev pub sought_ahead : Sought → Walk → List (Spot LocatedLine)
+sought_ahead s w = seen (λ l. Some l) (is_sought s) (standing w)
+
+-- the lines of a document that are sought
+abbrev pub sought_in : Sought → List LocatedLine → List (Spot LocatedLine)
+sought_in s ls = sought_ahead s (whole ls)

@@ -1,0 +1,395 @@
+//! The notes on a refusal.
+ghost use Rattle.std.specs.Prelude.{◌≡◌, ◌++◌, IfOk};
+ghost use Rattle.mk_edit_language.specs.Addresses.{nth_meant};
+ghost use Rattle.mk_edit_language.specs.EditViews.{edit_of};
+ghost use Rattle.mk_edit_parts.specs.AddressViews.{address_seen, address_view};
+ghost use Rattle.mk_notes.specs.NoteViews.{sought_seen, told_seen};
+ghost use Rattle.mk_notes.specs.RefusalNotes.{ambiguous_notes, candidate_notes, candidates_of, choice_text, elsewhere_notes, fewer_text, hidden_of, is_several, last_notes, meant, meant_by_name, meant_notes, missing_notes, near_of, notes_by_lines, notes_by_meant, notes_on, said_notes, script_note, sought_notes, taken_notes};
+
+use crate::choice::{choice_text, fewer_text, takes_all};
+use crate::finding::count_sought;
+use crate::line_note::push_line_notes;
+use crate::sought::Sought;
+use crate::texts::{push_parts, push_place};
+use mk_edit_language::{Edit, Refusal};
+use mk_edit_parts::address::{Address, address_of};
+use mk_tree::Doc;
+use std::alloc::{AllocError, Allocator};
+
+/// What makefile and script are called in notes, and the line of the script that was refused.
+#[derive(Clone, Copy)]
+pub struct Told<'a> {
+    /// What the makefile is called.
+    pub makefile: &'a str,
+    /// What the script is called.
+    pub script: &'a str,
+    /// The number of the line in the script, from 1.
+    pub line: u64,
+}
+
+// ---- notes on lines that are sought
+
+// Puts the note on the line of the script behind some notes.
+fn push_script_note<B: Allocator>(
+    notes: &mut Vec<u8, B>,
+    told: Told<'_>,
+    said: &[u8],
+) -> Result<(), AllocError>
+    ensures { IfOk result (λ _. notes.new.items
+        ≡ notes.old.items ++ script_note (told_seen told.entry) said.now) }
+{
+    push_place(notes, told.script.as_bytes(), told.line)?;
+    push_parts(notes, &[b": note: ", said, b"\n"])
+}
+
+// Puts the notes on the lines that are sought behind some notes: on the nth, or on all if no number is
+// given.
+fn push_sought<A: Allocator, B: Allocator>(
+    notes: &mut Vec<u8, B>,
+    told: Told<'_>,
+    doc: &Doc<A>,
+    nth: Option<usize>,
+    sought: Sought<'_>,
+) -> Result<(), AllocError>
+    ensures { IfOk result (λ _. notes.new.items ≡ notes.old.items
+        ++ sought_notes (told_seen told.entry) doc.now nth (sought_seen sought.entry)) }
+{
+    push_line_notes(notes, told.makefile.as_bytes(), doc, nth, sought)
+}
+
+// Puts the notes on the last of the lines that are sought behind some notes.
+fn push_last<A: Allocator, B: Allocator>(
+    notes: &mut Vec<u8, B>,
+    told: Told<'_>,
+    doc: &Doc<A>,
+    sought: Sought<'_>,
+) -> Result<(), AllocError>
+    ensures { IfOk result (λ _. notes.new.items ≡ notes.old.items
+        ++ last_notes (told_seen told.entry) doc.now (sought_seen sought.entry)) }
+{
+    let count = count_sought(doc, sought);
+    push_sought(notes, told, doc, Some(count), sought)
+}
+
+// Puts the notes on all lines that are sought behind some notes, and what is said of them; nothing if
+// there are none.
+fn push_said<A: Allocator, B: Allocator>(
+    notes: &mut Vec<u8, B>,
+    told: Told<'_>,
+    doc: &Doc<A>,
+    said: &[u8],
+    sought: Sought<'_>,
+) -> Result<(), AllocError>
+    ensures { IfOk result (λ _. notes.new.items ≡ notes.old.items
+        ++ said_notes (told_seen told.entry) doc.now said.now (sought_seen sought.entry)) }
+{
+    if count_sought(doc, sought) == 0 {
+        return Ok(());
+    }
+    push_sought(notes, told, doc, None, sought)?;
+    push_script_note(notes, told, said)
+}
+
+// ---- the lines that an edit is about
+
+// What an edit means that has no address, if it means lines by one name.
+fn meant_by_name<A: Allocator>(edit: &Edit<A>) -> Option<Address<'_>>
+    ensures { address_seen result ≡ meant_by_name (edit_of edit.now) }
+{
+    match edit {
+        Edit::ChangeValues { name, .. } => Some(Address::Variable(None, name)),
+        Edit::RenameTarget { from, .. } => Some(Address::Rule(None, from)),
+        _ => None,
+    }
+}
+
+// What an edit means.
+fn meant<A: Allocator>(edit: &Edit<A>) -> Option<Address<'_>>
+    ensures { address_seen result ≡ meant (edit_of edit.now) }
+{
+    match address_of(edit) {
+        Some(address) => Some(address),
+        None => meant_by_name(edit),
+    }
+}
+
+// The lines that an address may mean.
+fn candidates_of(address: Address<'_>) -> Sought<'_>
+    ensures { sought_seen result ≡ candidates_of (address_view address.entry) }
+{
+    match address {
+        Address::Variable(_, name) => Sought::Variable(name),
+        Address::Rule(_, target) => Sought::Rule(target),
+    }
+}
+
+// The number that an address gives.
+fn nth_of(address: Address<'_>) -> Option<usize>
+    ensures { result ≡ nth_meant (address_view address.entry) }
+{
+    match address {
+        Address::Variable(Some(nth), _) | Address::Rule(Some(nth), _) => Some(nth as usize),
+        Address::Variable(None, _) | Address::Rule(None, _) => None,
+    }
+}
+
+// Puts the notes on the lines that an address means behind some notes.
+fn push_meant<A: Allocator, B: Allocator>(
+    notes: &mut Vec<u8, B>,
+    told: Told<'_>,
+    doc: &Doc<A>,
+    address: Address<'_>,
+) -> Result<(), AllocError>
+    ensures { IfOk result (λ _. notes.new.items ≡ notes.old.items
+        ++ meant_notes (told_seen told.entry) doc.now (address_view address.entry)) }
+{
+    push_sought(notes, told, doc, nth_of(address), candidates_of(address))
+}
+
+// ---- Ambiguous
+
+// Whether no number is given, and so many lines are several.
+fn is_several(nth: Option<usize>, count: usize) -> bool
+    ensures { result ≡ is_several nth count }
+{
+    match nth {
+        Some(_) => false,
+        None => count > 1,
+    }
+}
+
+// Puts the notes on several lines behind some notes, of which one was to be meant.
+fn push_candidates<A: Allocator, B: Allocator + Copy>(
+    alloc: B,
+    notes: &mut Vec<u8, B>,
+    told: Told<'_>,
+    doc: &Doc<A>,
+    takes_all: bool,
+    count: usize,
+    sought: Sought<'_>,
+) -> Result<(), AllocError>
+    ensures { IfOk result (λ _. notes.new.items ≡ notes.old.items
+        ++ candidate_notes (told_seen told.entry) doc.now takes_all count (sought_seen sought.entry)) }
+{
+    push_sought(notes, told, doc, None, sought)?;
+    let choice = choice_text(alloc, count, takes_all)?;
+    push_script_note(notes, told, choice.as_slice())
+}
+
+// Puts the notes on an ambiguous address behind some notes.
+fn push_ambiguous<A: Allocator, B: Allocator + Copy>(
+    alloc: B,
+    notes: &mut Vec<u8, B>,
+    told: Told<'_>,
+    doc: &Doc<A>,
+    takes_all: bool,
+    address: Address<'_>,
+) -> Result<(), AllocError>
+    ensures { IfOk result (λ _. notes.new.items ≡ notes.old.items
+        ++ ambiguous_notes (told_seen told.entry) doc.now takes_all (address_view address.entry)) }
+{
+    let sought = candidates_of(address);
+    let count = count_sought(doc, sought);
+    if !is_several(nth_of(address), count) {
+        return push_meant(notes, told, doc, address);
+    }
+    push_candidates(alloc, notes, told, doc, takes_all, count, sought)
+}
+
+// ---- NoSuch
+
+// The lines for another name that is spelled alike.
+fn near_of(address: Address<'_>) -> Sought<'_>
+    ensures { sought_seen result ≡ near_of (address_view address.entry) }
+{
+    match address {
+        Address::Variable(_, name) => Sought::AlikeVariable(name),
+        Address::Rule(_, target) => Sought::AlikeRule(target),
+    }
+}
+
+// Where the name stands and no edit looks.
+fn hidden_of(address: Address<'_>) -> Sought<'_>
+    ensures { sought_seen result ≡ hidden_of (address_view address.entry) }
+{
+    match address {
+        Address::Variable(_, name) => Sought::HiddenVariable(name),
+        Address::Rule(_, target) => Sought::HiddenRule(target),
+    }
+}
+
+// Puts the notes on what is there in the place of a name behind some notes.
+fn push_elsewhere<A: Allocator, B: Allocator>(
+    notes: &mut Vec<u8, B>,
+    told: Told<'_>,
+    doc: &Doc<A>,
+    address: Address<'_>,
+) -> Result<(), AllocError>
+    ensures { IfOk result (λ _. notes.new.items ≡ notes.old.items
+        ++ elsewhere_notes (told_seen told.entry) doc.now (address_view address.entry)) }
+{
+    let near = near_of(address);
+    push_said(notes, told, doc, b"these names are spelled alike", near)?;
+    let hidden = hidden_of(address);
+    push_said(notes, told, doc, b"no edit looks at these lines", hidden)
+}
+
+// Puts the note that there are so many lines of a name, fewer than were asked for, behind some notes.
+fn push_fewer<B: Allocator + Copy>(
+    alloc: B,
+    notes: &mut Vec<u8, B>,
+    told: Told<'_>,
+    count: usize,
+) -> Result<(), AllocError>
+    ensures { IfOk result (λ _. notes.new.items
+        ≡ notes.old.items ++ script_note (told_seen told.entry) (fewer_text count)) }
+{
+    let said = fewer_text(alloc, count)?;
+    push_script_note(notes, told, said.as_slice())
+}
+
+// Puts the notes on an address that fits no line behind some notes.
+fn push_missing<A: Allocator, B: Allocator + Copy>(
+    alloc: B,
+    notes: &mut Vec<u8, B>,
+    told: Told<'_>,
+    doc: &Doc<A>,
+    address: Address<'_>,
+) -> Result<(), AllocError>
+    ensures { IfOk result (λ _. notes.new.items ≡ notes.old.items
+        ++ missing_notes (told_seen told.entry) doc.now (address_view address.entry)) }
+{
+    let sought = candidates_of(address);
+    let count = count_sought(doc, sought);
+    if count == 0 {
+        return push_elsewhere(notes, told, doc, address);
+    }
+    push_sought(notes, told, doc, None, sought)?;
+    push_fewer(alloc, notes, told, count)
+}
+
+// ---- Taken
+
+// Puts the notes on the lines for a new name that is taken behind some notes.
+fn push_taken<A: Allocator, B: Allocator>(
+    notes: &mut Vec<u8, B>,
+    told: Told<'_>,
+    doc: &Doc<A>,
+    edit: &Edit<A>,
+) -> Result<(), AllocError>
+    ensures { IfOk result (λ _. notes.new.items ≡ notes.old.items
+        ++ taken_notes (told_seen told.entry) doc.now (edit_of edit.now)) }
+{
+    match edit {
+        Edit::RenameTarget { to, .. } => push_sought(notes, told, doc, None, Sought::Target(to)),
+        _ => Ok(()),
+    }
+}
+
+// ---- each refusal
+
+// Puts the notes on a refusal behind some notes, where the edit is about the lines of an address.
+fn push_by_lines<A: Allocator, B: Allocator + Copy>(
+    alloc: B,
+    notes: &mut Vec<u8, B>,
+    told: Told<'_>,
+    doc: &Doc<A>,
+    takes_all: bool,
+    refusal: Refusal,
+    address: Address<'_>,
+) -> Result<(), AllocError>
+    ensures { IfOk result (λ _. notes.new.items ≡ notes.old.items
+        ++ notes_by_lines (told_seen told.entry) doc.now takes_all refusal (address_view address.entry)) }
+{
+    match refusal {
+        Refusal::Ambiguous(_) => push_ambiguous(alloc, notes, told, doc, takes_all, address),
+        Refusal::NoSuch => push_missing(alloc, notes, told, doc, address),
+        Refusal::Absent => push_meant(notes, told, doc, address),
+        Refusal::Already => push_meant(notes, told, doc, address),
+        Refusal::SharedRule(_) => push_meant(notes, told, doc, address),
+        Refusal::Straddles => push_meant(notes, told, doc, address),
+        Refusal::OpenValue => push_meant(notes, told, doc, address),
+        _ => Ok(()),
+    }
+}
+
+// Puts the notes on a refusal behind some notes, where the edit may be about the lines of an address.
+fn push_by_meant<A: Allocator, B: Allocator + Copy>(
+    alloc: B,
+    notes: &mut Vec<u8, B>,
+    told: Told<'_>,
+    doc: &Doc<A>,
+    takes_all: bool,
+    refusal: Refusal,
+    address: Option<Address<'_>>,
+) -> Result<(), AllocError>
+    ensures { IfOk result (λ _. notes.new.items ≡ notes.old.items
+        ++ notes_by_meant (told_seen told.entry) doc.now takes_all refusal (address_seen address.entry)) }
+{
+    match address {
+        Some(address) => push_by_lines(alloc, notes, told, doc, takes_all, refusal, address),
+        None => Ok(()),
+    }
+}
+
+// Puts the notes on a refusal behind some notes.
+fn push_notes<A: Allocator, B: Allocator + Copy>(
+    alloc: B,
+    notes: &mut Vec<u8, B>,
+    told: Told<'_>,
+    doc: &Doc<A>,
+    edit: &Edit<A>,
+    refusal: Refusal,
+) -> Result<(), AllocError>
+    ensures { IfOk result (λ _. notes.new.items ≡ notes.old.items
+        ++ notes_on (told_seen told.entry) doc.now (edit_of edit.now) refusal) }
+{
+    match refusal {
+        Refusal::Taken => push_taken(notes, told, doc, edit),
+        Refusal::OpenLine => push_last(notes, told, doc, Sought::AnyLine),
+        Refusal::OpenDefine => push_last(notes, told, doc, Sought::DefineLine),
+        _ => push_by_meant(
+            alloc,
+            notes,
+            told,
+            doc,
+            takes_all(edit),
+            refusal,
+            meant(edit),
+        ),
+    }
+}
+
+/// The notes on a refusal of an edit, as a text: each line begins with the name of a file, mostly the
+/// number of a line in it, and `note`. The document is the makefile as it stood when the edit was
+/// refused; the numbers of lines are its own.
+///
+/// | Refusal | Notes on |
+/// |---|---|
+/// | `Ambiguous` | the lines that fit the address, and what tells one of them; the line of the rule, if several of its recipe lines have the text |
+/// | `NoSuch` | if the number is too high, the lines of the name; otherwise the lines of other names that are spelled alike, and those that begin with the name and that no edit looks at |
+/// | `Absent`, `Already`, `SharedRule`, `Straddles`, `OpenValue` | the line that the edit means; with `all` those of the name |
+/// | `Taken` | the lines for the new name |
+/// | `OpenLine` | the last line |
+/// | `OpenDefine` | the line that begins the define |
+///
+/// There are no notes on any other refusal. Of many lines the first ten are told of, each by at most 100
+/// bytes of its text.
+///
+/// # Errors
+///
+/// Want of memory.
+pub fn refusal_notes<A: Allocator, B: Allocator + Copy>(
+    alloc: B,
+    told: Told<'_>,
+    doc: &Doc<A>,
+    edit: &Edit<A>,
+    refusal: Refusal,
+) -> Result<Vec<u8, B>, AllocError>
+    ensures { IfOk result (λ notes. notes.items
+        ≡ notes_on (told_seen told.entry) doc.now (edit_of edit.now) refusal) }
+{
+    let mut notes = Vec::new(alloc);
+    push_notes(alloc, &mut notes, told, doc, edit, refusal)?;
+    Ok(notes)
+}

@@ -1,0 +1,138 @@
+//! The witnesses of a run that make the notes on refusals: of one makefile at once, of several later.
+ghost use Rattle.std.specs.Prelude.{◌≡◌};
+ghost use Rattle.mkedit.specs.Destinations.{input_name};
+
+use crate::mistakes::COMMAND_LINES;
+use crate::notes::STANDARD_INPUT;
+use mk_command_line::{EditWords, Input, Script};
+use mk_lines::sink::write_all;
+use mk_lines::{ByteSink, StdSink};
+use mk_notes::{Told, refusal_notes};
+use mk_run::{Reported, Witness};
+use mk_session::{Edit, Session};
+use std::alloc::Allocator;
+use std::io::Write;
+
+/// What makefile and script are called in notes.
+#[derive(Clone, Copy)]
+pub struct Names<'a> {
+    /// What the makefile is called.
+    pub makefile: &'a str,
+    /// What the script is called.
+    pub script: &'a str,
+}
+
+impl<'a> Names<'a> {
+    /// What the words call the script and this makefile.
+    pub fn of(words: &EditWords<'a>, file: Input<'a>) -> Names<'a> {
+        Names {
+            makefile: input_name(file),
+            script: script_name(&words.script),
+        }
+    }
+}
+
+// What a file is called in notes.
+fn input_name<'a>(file: Input<'a>) -> &'a str
+    ensures { result.now ≡ input_name file.entry }
+{
+    match file {
+        Input::File(name) => name,
+        Input::Standard => STANDARD_INPUT,
+    }
+}
+
+// What a script is called in notes.
+fn script_name<'a>(script: &Script<'a>) -> &'a str {
+    match script {
+        Script::From(file) => input_name(*file),
+        Script::Lines(_) => COMMAND_LINES,
+    }
+}
+
+// The notes on a refusal; nothing where it is not that of an edit, or memory ends.
+fn notes_on<A: Allocator, B: Allocator + Copy>(
+    alloc: B,
+    names: Names<'_>,
+    reported: &Reported<'_, A>,
+    session: &Session<A>,
+) -> Vec<u8, B> {
+    let Some(edit) = reported.edit else {
+        return Vec::new(alloc);
+    };
+    let told = Told {
+        makefile: names.makefile,
+        script: names.script,
+        line: reported.line,
+    };
+    match refusal_notes(alloc, told, session.doc(), edit, reported.refusal) {
+        Ok(notes) => notes,
+        Err(_) => Vec::new(alloc),
+    }
+}
+
+/// A witness that writes the notes on each refusal once its line is in the report. Where a write fails,
+/// it writes nothing more.
+#[derive(Drop)]
+pub struct NotesBelow<'a, W, B> {
+    alloc: B,
+    names: Names<'a>,
+    out: StdSink<W>,
+}
+
+impl<'a, W: Write, B> NotesBelow<'a, W, B> {
+    /// A witness that writes to where the report goes.
+    pub fn new(alloc: B, names: Names<'a>, out: W) -> NotesBelow<'a, W, B> {
+        NotesBelow {
+            alloc,
+            names,
+            out: StdSink::new(out),
+        }
+    }
+}
+
+impl<A: Allocator, W: Write, B: Allocator + Copy> Witness<A> for NotesBelow<'_, W, B> {
+    fn refused(&mut self, reported: &Reported<'_, A>, session: &Session<A>) {
+        if self.out.failed() {
+            return;
+        }
+        let notes = notes_on(self.alloc, self.names, reported, session);
+        let _ = write_all(&mut self.out, notes.as_slice());
+    }
+
+    fn accepted(&mut self, _line: u64, _edit: &Edit<A>, _session: &Session<A>) {}
+}
+
+/// A witness that keeps the notes on each refusal. Where memory ends, it keeps no more.
+#[derive(Drop)]
+pub struct NotesKept<'a, B: Allocator> {
+    names: Names<'a>,
+    alloc: B,
+    /// The notes on the first refusal, on the second and so on.
+    pub notes: Vec<Vec<u8, B>, B>,
+    is_full: bool,
+}
+
+impl<'a, B: Allocator + Copy> NotesKept<'a, B> {
+    /// A witness that was told nothing yet.
+    pub fn new(alloc: B, names: Names<'a>) -> NotesKept<'a, B> {
+        NotesKept {
+            names,
+            alloc,
+            notes: Vec::new(alloc),
+            is_full: false,
+        }
+    }
+}
+
+impl<A: Allocator, B: Allocator + Copy> Witness<A> for NotesKept<'_, B> {
+    fn refused(&mut self, reported: &Reported<'_, A>, session: &Session<A>) {
+        if self.is_full {
+            return;
+        }
+        let notes = notes_on(self.alloc, self.names, reported, session);
+        self.is_full = self.notes.push(notes).is_err();
+    }
+
+    fn accepted(&mut self, _line: u64, _edit: &Edit<A>, _session: &Session<A>) {}
+}
