@@ -4,7 +4,7 @@ ghost use Rattle.std.specs.Prelude.{◌≡◌, false};
 
 use mk_lines::sink::write_parts;
 use mk_lines::{ByteSink, Fault};
-use mk_prompt::{After, Listener, converse};
+use mk_prompt::{After, Listener, converse, write_greeting, write_too_long};
 use std::process::Abort;
 use std::test::Fail;
 use test_devices::{MemorySink, MemorySource};
@@ -15,6 +15,14 @@ use watched::Watched;
 struct Echo;
 
 impl Listener for Echo {
+    fn greet<W: ByteSink>(&self, out: &mut W) -> Result<(), Fault> {
+        write_greeting(out)
+    }
+
+    fn turn_down<W: ByteSink>(&self, out: &mut W) -> Result<(), Fault> {
+        write_too_long(out)
+    }
+
     fn hear<W: ByteSink>(&mut self, line: &[u8], out: &mut W) -> Result<After, Fault> {
         write_parts(out, &[b"[", line, b"]\n"])?;
         Ok(if line.first() == Some(&b'q') {

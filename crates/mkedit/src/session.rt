@@ -2,12 +2,18 @@
 //! a request, and is answered before the next one is read.
 //!
 //! - `desk`: the makefile that is open, and what it answers.
+//! - `protocol`: its replies to a program; `terminal`: its replies to a person, whose words `sentences` has.
 //! - `not_done`: why a request is not done.
 //! - `on_disk`: the makefile's file.
+
+ghost use Rattle.std.specs.Prelude.{◌≡◌, false};
 
 mod desk;
 mod not_done;
 mod on_disk;
+mod protocol;
+mod sentences;
+mod terminal;
 
 use crate::ending::{End, finished};
 use crate::files::{CannotOpen, open};
@@ -16,12 +22,14 @@ use crate::notes::STANDARD_OUTPUT;
 use desk::Desk;
 use mk_command_line::SessionWords;
 use mk_lines::source::read_all;
-use mk_lines::{Fault, StdSink, StdSource};
+use mk_lines::{ByteSink, ByteSource, Fault, StdSink, StdSource};
 use mk_prompt::converse;
 use mk_run::Outcome;
 use std::fs::File;
+use std::io::IsTerminal;
 use std::mem;
 use std::process::ExitCode;
+use terminal::converse_at_terminal;
 
 // How a talk ended.
 fn outcome_of(talked: Result<(), Fault>) -> Outcome {
@@ -41,21 +49,39 @@ fn opened<'a>(
     Desk::open(rt, words, text)
 }
 
-// Replies to the lines of standard input, on standard output. The session is not given up: the program
-// ends soon.
-fn talk<'a>(rt: &'a HostRuntime, mut desk: Desk<'a>) -> End<'a> {
+// Replies to the lines of a source. The session is not given up: the program ends soon.
+fn reply<S: ByteSource, W: ByteSink>(
+    rt: &HostRuntime,
+    at_terminal: bool,
+    mut desk: Desk<'_>,
+    source: &mut S,
+    out: &mut W,
+) -> Result<(), Fault>
+    requires source_works { S.failed source.old ≡ false }
+    requires out_works { W.failed out.old ≡ false }
+{
+    if at_terminal {
+        return converse_at_terminal(desk, source, out);
+    }
+    let talked = converse(rt.alloc(), source, &mut desk, out);
+    mem::forget(desk);
+    talked
+}
+
+// Replies to the lines of standard input, on standard output.
+fn talk<'a>(rt: &'a HostRuntime, by_protocol: bool, desk: Desk<'a>) -> End<'a> {
+    let at_terminal = !by_protocol && rt.stdin().is_terminal();
     let mut source = StdSource::new(rt.stdin());
     let mut device = Noted::new(rt.stdout());
     let mut out = StdSink::new(&mut device);
-    let talked = converse(rt.alloc(), &mut source, &mut desk, &mut out);
-    mem::forget(desk);
+    let talked = reply(rt, at_terminal, desk, &mut source, &mut out);
     End::of(outcome_of(talked)).with_fault(device.fault(STANDARD_OUTPUT))
 }
 
 // Opens the makefile, and replies to the lines of standard input.
 fn over_file<'a>(rt: &'a HostRuntime, words: SessionWords<'a>) -> Result<End<'a>, CannotOpen<'a>> {
     match opened(rt, words, open(rt, words.file)?) {
-        Ok(desk) => Ok(talk(rt, desk)),
+        Ok(desk) => Ok(talk(rt, words.by_protocol, desk)),
         Err(fault) => Ok(End::of(Outcome::from(fault))),
     }
 }

@@ -1,8 +1,5 @@
-//! A makefile that is open, and what it answers.
-ghost use Rattle.std.specs.Prelude.{◌≡◌, false, true, ⊤, IfErr, OnOk};
-ghost use Rattle.mk_prompt.specs.Talks.{SaysOut};
-
-use super::not_done::{NotDone, put_fault, shown_name};
+//! A makefile that is open, and what it answers to requests.
+use super::not_done::NotDone;
 use super::on_disk::{look, put};
 use crate::diff::diff_name;
 use crate::explain::{put_out, refusal_of};
@@ -10,11 +7,10 @@ use crate::explanations::explanation;
 use crate::question::put_lines;
 use mk_command_line::{Input, Query, SessionWords};
 use mk_diff::diff;
-use mk_lines::sink::write_parts;
-use mk_lines::{ByteSink, Fault};
+use mk_lines::Fault;
 use mk_prompt::{
-    After, Heard, Listener, Request, RequestWord, Reverted, TextSink, answer_line, answer_lines,
-    lines_between, read_request, revert, text_of,
+    After, Obeyed, Request, RequestWord, Reverted, TextSink, lines_between, obey_line, revert,
+    text_of,
 };
 use mk_session::Session;
 use std::alloc::Global;
@@ -33,6 +29,15 @@ pub struct Desk<'a> {
     written: Option<Vec<u8>>,
     // Whether the last request was a `quit` that was not done.
     is_warned: bool,
+}
+
+/// What came of a request.
+#[derive(Drop)]
+pub struct Asked {
+    /// The text of the answer, or why the request is not done.
+    pub answer: Result<Vec<u8>, NotDone>,
+    /// Whether the session goes on.
+    pub after: After,
 }
 
 impl<'a> Desk<'a> {
@@ -58,28 +63,38 @@ impl<'a> Desk<'a> {
         })
     }
 
-    // The bytes that the makefile was left with.
-    fn left(&self) -> &[u8] {
+    /// The runtime.
+    pub fn runtime(&self) -> &'a HostRuntime {
+        self.rt
+    }
+
+    /// The name of the makefile, as the command line has it.
+    pub fn name(&self) -> &'a str {
+        self.name
+    }
+
+    /// The bytes that the makefile was left with.
+    pub fn left(&self) -> &[u8] {
         match &self.written {
             Some(text) => text.as_slice(),
             None => self.opened.as_slice(),
         }
     }
 
-    // The text that is shown.
-    fn text(&self) -> Result<Vec<u8>, NotDone> {
+    /// The text that is shown.
+    ///
+    /// # Errors
+    ///
+    /// [`NotDone::NoMemory`].
+    pub fn text(&self) -> Result<Vec<u8>, NotDone> {
         Ok(text_of(self.rt.alloc(), self.session.doc())?)
-    }
-
-    // The lines of an answer.
-    fn quoted(&self, text: &[u8]) -> Result<Vec<u8>, NotDone> {
-        Ok(answer_lines(self.rt.alloc(), text)?)
     }
 
     // The lines of the text from one number to another.
     fn print(&self, from: u64, to: u64) -> Result<Vec<u8>, NotDone> {
         let text = self.text()?;
-        self.quoted(lines_between(text.as_slice(), from, to))
+        let lines = lines_between(text.as_slice(), from, to);
+        Ok(Vec::from_slice(self.rt.alloc(), lines)?)
     }
 
     // What has changed since the text was opened.
@@ -92,7 +107,7 @@ impl<'a> Desk<'a> {
             text.as_slice(),
             name,
         ) {
-            Ok(text) => self.quoted(text.as_slice()),
+            Ok(text) => Ok(text),
             Err(_) => Err(NotDone::NoMemory),
         }
     }
@@ -101,7 +116,7 @@ impl<'a> Desk<'a> {
     fn query(&self, query: Query<'_>) -> Result<Vec<u8>, NotDone> {
         let mut sink = TextSink::new(self.rt.alloc());
         match put_lines(query, self.session.doc(), &mut sink) {
-            Ok(()) => self.quoted(sink.text.as_slice()),
+            Ok(()) => Ok(sink.text),
             Err(_) => Err(NotDone::NoMemory),
         }
     }
@@ -116,7 +131,7 @@ impl<'a> Desk<'a> {
         };
         let mut sink = TextSink::new(self.rt.alloc());
         match put_out(&refusal, explanation(&refusal), &mut sink) {
-            Ok(()) => self.quoted(sink.text.as_slice()),
+            Ok(()) => Ok(sink.text),
             Err(_) => Err(NotDone::NoMemory),
         }
     }
@@ -156,7 +171,7 @@ impl<'a> Desk<'a> {
         }
     }
 
-    // What is answered to a request of one word; the lines of the answer.
+    // What is answered to a request of one word; the text of the answer.
     fn done_word(&mut self, word: RequestWord) -> Result<Vec<u8>, NotDone> {
         match word {
             RequestWord::Diff => return self.diff(),
@@ -183,32 +198,17 @@ impl<'a> Desk<'a> {
         }
     }
 
-    // Replies to a request, and says whether it was done.
-    fn reply<W: ByteSink>(&mut self, request: Request<'_>, out: &mut W) -> Result<bool, Fault>
-        requires { W.failed out.old ≡ false }
-        ensures said { OnOk result (SaysOut (W.contents out.old) (W.contents out.new) (λ _. ⊤)) }
-        ensures fault { IfErr result (λ fault. (fault ≡ Fault.Write) × (W.failed out.new ≡ true)) }
-        ensures works { OnOk result (W.failed out.new ≡ false) }
-    {
-        match self.done(request) {
-            Ok(lines) => {
-                write_parts(out, &[lines.as_slice(), b"ok\n"])?;
-                Ok(true)
-            }
-            Err(not_done) => {
-                put_fault(not_done, shown_name(self.name), out)?;
-                Ok(false)
-            }
+    /// Obeys the command of a line, if it is one.
+    pub fn obey(&mut self, line: &[u8]) -> Obeyed {
+        let obeyed = obey_line(self.rt.alloc(), &mut self.session, line, &mut ());
+        if matches!(obeyed, Obeyed::Done | Obeyed::Refused(_)) {
+            self.is_warned = false;
         }
+        obeyed
     }
 
-    // Replies to a request. The second `quit` in a row ends the talk.
-    fn answer<W: ByteSink>(&mut self, request: Request<'_>, out: &mut W) -> Result<After, Fault>
-        requires { W.failed out.old ≡ false }
-        ensures said { OnOk result (SaysOut (W.contents out.old) (W.contents out.new) (λ _. ⊤)) }
-        ensures fault { IfErr result (λ fault. (fault ≡ Fault.Write) × (W.failed out.new ≡ true)) }
-        ensures works { OnOk result (W.failed out.new ≡ false) }
-    {
+    /// Answers a request. The second `quit` in a row ends the session.
+    pub fn ask(&mut self, request: Request<'_>) -> Asked {
         let was_warned = mem::replace(&mut self.is_warned, false);
         let request = match request {
             Request::Word(RequestWord::Quit) if was_warned => Request::Word(
@@ -216,54 +216,16 @@ impl<'a> Desk<'a> {
             ),
             request => request,
         };
-        let is_done = self.reply(request, out)?;
+        let answer = self.done(request);
         let is_quit = matches!(
             request,
             Request::Word(RequestWord::Quit | RequestWord::QuitAnyway)
         );
-        Ok(if is_done && is_quit {
+        let after = if answer.is_ok() && is_quit {
             After::Ends
         } else {
             After::GoesOn
-        })
-    }
-
-    // Replies to a line that is no command.
-    fn answer_other<W: ByteSink>(&mut self, line: &[u8], out: &mut W) -> Result<After, Fault>
-        requires { W.failed out.old ≡ false }
-        ensures said { OnOk result (SaysOut (W.contents out.old) (W.contents out.new) (λ _. ⊤)) }
-        ensures fault { IfErr result (λ fault. (fault ≡ Fault.Write) × (W.failed out.new ≡ true)) }
-        ensures works { OnOk result (W.failed out.new ≡ false) }
-    {
-        match read_request(line) {
-            Some(request) => self.answer(request, out),
-            None => {
-                put_fault(NotDone::NotACommand, shown_name(self.name), out)?;
-                Ok(After::GoesOn)
-            }
-        }
-    }
-
-    // Replies to a line.
-    fn answer_to<W: ByteSink>(&mut self, line: &[u8], out: &mut W) -> Result<After, Fault>
-        requires { W.failed out.old ≡ false }
-        ensures said { OnOk result (SaysOut (W.contents out.old) (W.contents out.new) (λ _. ⊤)) }
-        ensures fault { IfErr result (λ fault. (fault ≡ Fault.Write) × (W.failed out.new ≡ true)) }
-        ensures works { OnOk result (W.failed out.new ≡ false) }
-    {
-        match answer_line(self.rt.alloc(), &mut self.session, line, out, &mut ())? {
-            Heard::Command => {
-                self.is_warned = false;
-                Ok(After::GoesOn)
-            }
-            Heard::Nothing => Ok(After::GoesOn),
-            Heard::NoCommand => self.answer_other(line, out),
-        }
-    }
-}
-
-impl Listener for Desk<'_> {
-    fn hear<W: ByteSink>(&mut self, line: &[u8], out: &mut W) -> Result<After, Fault> {
-        self.answer_to(line, out)
+        };
+        Asked { answer, after }
     }
 }

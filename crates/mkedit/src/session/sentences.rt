@@ -1,0 +1,123 @@
+//! What is said at a terminal, as sentences.
+ghost use Rattle.std.specs.Prelude.{◌≡◌, false};
+ghost use Rattle.mk_lines.specs.Device.{Writes};
+ghost use Rattle.mkedit.specs.SessionSentences.{sentence_text};
+
+use super::not_done::NotDone;
+use crate::explanations::explanation;
+use mk_lines::sink::{write_all, write_parts};
+use mk_lines::{ByteSink, Fault};
+use mk_prompt::{TextSink, line_length};
+use mk_run::write_refusal;
+use mk_session::Refusal;
+use std::alloc::{AllocError, Global};
+
+/// What is said where no memory is left to say more.
+pub const NO_MEMORY: &[u8] = b"There is no memory for this.\n";
+
+/// What is said of a command that was done and has changed no byte.
+pub const AS_IT_WAS: &[u8] = b"Done; the text is as it was.\n";
+
+/// What is said of a line that is too long.
+pub const TOO_LONG: &[u8] = b"This line is too long.\n";
+
+/// Writes why a request is not done, as a sentence. A makefile is shown by this name.
+///
+/// # Errors
+///
+/// [`Fault::Write`] if the sink failed. A prefix of the sentence is out then.
+pub fn put_sentence<W: ByteSink>(not_done: NotDone, name: &[u8], out: &mut W) -> Result<(), Fault>
+    requires { W.failed out.old ≡ false }
+    ensures { Writes W.contents W.failed W.flushes out.old out.new result
+        (sentence_text not_done name.now) }
+{
+    match not_done {
+        NotDone::Refused(refusal) => write_refusal(out, refusal),
+        NotDone::NotACommand => {
+            write_all(out, b"This is no command and no request; `quit` ends.\n")
+        }
+        NotDone::NoMemory => write_all(out, NO_MEMORY),
+        NotDone::NoRefusal => write_all(out, b"No refusal has this name or this number.\n"),
+        NotDone::CannotRead => {
+            write_parts(out, &[name, b" cannot be read, and is not written.\n"])
+        }
+        NotDone::CannotWrite => write_parts(out, &[name, b" cannot be written.\n"]),
+        NotDone::HasChanged => write_parts(
+            out,
+            &[name, b" has changed since, and is not written; `write!` writes it.\n"],
+        ),
+        NotDone::BeyondDepth => {
+            write_all(out, b"All is undone that can be; the text is another than at first.\n")
+        }
+        NotDone::Unwritten => write_all(
+            out,
+            b"There are unwritten changes: `write` writes them, and `quit` once more drops them.\n",
+        ),
+    }
+}
+
+// The first sentence of a text, whose full stop a blank or a line end follows.
+fn first_sentence(text: &[u8]) -> &[u8] {
+    for (at, pair) in text.windows(2).enumerate() {
+        if matches!(pair, [b'.', b' ' | b'\n']) {
+            return text.split_at(at + 1).0;
+        }
+    }
+    text
+}
+
+/// Why a refusal comes, in one line: what a report says of it, and the first sentence of its
+/// explanation.
+///
+/// # Errors
+///
+/// Want of memory.
+pub fn refusal_sentence(alloc: Global, refusal: Refusal) -> Result<Vec<u8>, AllocError> {
+    let mut report = TextSink::new(alloc);
+    if write_refusal(&mut report, refusal).is_err() {
+        return Err(AllocError);
+    }
+    let mut line = report.text;
+    line.pop();
+    line.extend_from_slice(b": ")?;
+    for byte in first_sentence(explanation(&refusal).as_bytes()) {
+        line.push(if *byte == b'\n' { b' ' } else { *byte })?;
+    }
+    line.push(b'\n')?;
+    Ok(line)
+}
+
+// Whether a line of a diff says what was taken out or put in. That a line has no line feed is said below
+// it, in a line that counts if the line above does.
+fn is_change(line: &[u8], is_above: bool) -> bool {
+    match line.first() {
+        Some(b'-' | b'+') => true,
+        Some(b'\\') => is_above,
+        _ => false,
+    }
+}
+
+/// The lines of a diff that were taken out and put in, without its context and its names.
+///
+/// # Errors
+///
+/// Want of memory.
+pub fn changed_lines(alloc: Global, diff: &[u8]) -> Result<Vec<u8>, AllocError> {
+    let mut changes = Vec::new(alloc);
+    let mut rest = diff;
+    let mut names = 2;
+    let mut is_above = false;
+    while !rest.is_empty() {
+        let (line, after) = rest.split_at(line_length(rest));
+        if names > 0 {
+            names -= 1;
+        } else {
+            is_above = is_change(line, is_above);
+            if is_above {
+                changes.extend_from_slice(line)?;
+            }
+        }
+        rest = after;
+    }
+    Ok(changes)
+}

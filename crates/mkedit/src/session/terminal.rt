@@ -1,0 +1,216 @@
+//! A makefile that is open at a terminal: a prompt before each line, and sentences for replies.
+ghost use Rattle.std.specs.Prelude.{◌≡◌, false};
+
+use super::desk::Desk;
+use super::not_done::{NotDone, shown_name};
+use super::sentences::{
+    AS_IT_WAS, NO_MEMORY, TOO_LONG, changed_lines, put_sentence, refusal_sentence,
+};
+use crate::diff::diff_name;
+use mk_command_line::Input;
+use mk_diff::diff;
+use mk_lines::sink::{write_all, write_parts};
+use mk_lines::{ByteSink, ByteSource, Fault};
+use mk_prompt::{
+    After, Listener, Obeyed, Request, RequestWord, TextSink, converse, read_request,
+};
+use mk_session::Refusal;
+use std::mem;
+
+// A makefile that is open at a terminal.
+#[derive(Drop)]
+struct Terminal<'a> {
+    desk: Desk<'a>,
+    // The text as it was shown last.
+    shown: Vec<u8>,
+    // Whether a request has ended the session.
+    is_over: bool,
+}
+
+impl<'a> Terminal<'a> {
+    // The session is at its first line.
+    fn open(desk: Desk<'a>) -> Result<Terminal<'a>, Fault> {
+        let shown = Vec::from_slice(desk.runtime().alloc(), desk.left())?;
+        Ok(Terminal {
+            desk,
+            shown,
+            is_over: false,
+        })
+    }
+
+    // A mark where there are unwritten changes.
+    fn mark(&self) -> &'static [u8] {
+        if self.shown.as_slice() == self.desk.left() {
+            b""
+        } else {
+            b"*"
+        }
+    }
+
+    // What stands before the next line; nothing where the session has ended.
+    fn put_prompt<W: ByteSink>(&self, said: &[u8], out: &mut W) -> Result<(), Fault>
+        requires { W.failed out.old ≡ false }
+    {
+        let name = shown_name(self.desk.name());
+        write_parts(out, &[said, name, self.mark(), b"> "])
+    }
+
+    // The sentence on a request that is not done.
+    fn sentence(&self, not_done: NotDone) -> Result<Vec<u8>, NotDone> {
+        if let NotDone::Refused(refusal) = not_done {
+            return Ok(refusal_sentence(self.desk.runtime().alloc(), refusal)?);
+        }
+        let mut sink = TextSink::new(self.desk.runtime().alloc());
+        match put_sentence(not_done, shown_name(self.desk.name()), &mut sink) {
+            Ok(()) => Ok(sink.text),
+            Err(_) => Err(NotDone::NoMemory),
+        }
+    }
+
+    // What has changed since the text was shown last, of which no more is said from now on.
+    fn change(&mut self) -> Result<Vec<u8>, NotDone> {
+        let alloc = self.desk.runtime().alloc();
+        let text = self.desk.text()?;
+        let shown = mem::replace(&mut self.shown, text);
+        let name = diff_name(Input::File(self.desk.name()));
+        match diff(alloc, shown.as_slice(), self.shown.as_slice(), name) {
+            Ok(text) => Ok(changed_lines(alloc, text.as_slice())?),
+            Err(_) => Err(NotDone::NoMemory),
+        }
+    }
+
+    // What a command that was done has changed.
+    fn done(&mut self) -> Result<Vec<u8>, NotDone> {
+        let changed = self.change()?;
+        if changed.is_empty() {
+            return Ok(Vec::from_slice(self.desk.runtime().alloc(), AS_IT_WAS)?);
+        }
+        Ok(changed)
+    }
+
+    // That the makefile is written.
+    fn written(&self) -> Result<Vec<u8>, NotDone> {
+        let mut said = Vec::new(self.desk.runtime().alloc());
+        said.extend_from_slice(shown_name(self.desk.name()))?;
+        said.extend_from_slice(b" is written.\n")?;
+        Ok(said)
+    }
+
+    // The answer to a request, and a line end behind it where it has none.
+    fn answer(&mut self, request: Request<'_>) -> Result<Vec<u8>, NotDone> {
+        let asked = self.desk.ask(request);
+        self.is_over = asked.after == After::Ends;
+        let mut text = asked.answer?;
+        match request {
+            Request::Word(RequestWord::Write | RequestWord::WriteAnyway) => self.written(),
+            Request::Word(RequestWord::Revert) => self.done(),
+            _ => {
+                if !matches!(text.last(), None | Some(b'\n')) {
+                    text.extend_from_slice(b"\n")?;
+                }
+                Ok(text)
+            }
+        }
+    }
+
+    // What comes of a line.
+    fn heard(&mut self, line: &[u8]) -> Result<Vec<u8>, NotDone> {
+        match self.desk.obey(line) {
+            Obeyed::Done => self.done(),
+            Obeyed::Refused(Refusal::NoMemory) => Err(NotDone::NoMemory),
+            Obeyed::Refused(refusal) => Err(NotDone::Refused(refusal)),
+            Obeyed::Nothing => Ok(Vec::new(self.desk.runtime().alloc())),
+            Obeyed::NoCommand => match read_request(line) {
+                Some(request) => self.answer(request),
+                None => Err(NotDone::NotACommand),
+            },
+        }
+    }
+
+    // What is said of what came of a line. What a request has undone that is not done is shown too.
+    fn said(&mut self, heard: Result<Vec<u8>, NotDone>) -> Result<Vec<u8>, NotDone> {
+        let not_done = match heard {
+            Ok(text) => return Ok(text),
+            Err(not_done) => not_done,
+        };
+        let mut said = self.change()?;
+        said.extend_from_slice(self.sentence(not_done)?.as_slice())?;
+        Ok(said)
+    }
+
+    // Says what came of a line, and the next prompt if the session goes on.
+    fn put_said<W: ByteSink>(
+        &mut self,
+        heard: Result<Vec<u8>, NotDone>,
+        out: &mut W,
+    ) -> Result<After, Fault>
+        requires { W.failed out.old ≡ false }
+    {
+        let said = self.said(heard);
+        let said = match &said {
+            Ok(text) => text.as_slice(),
+            Err(_) => NO_MEMORY,
+        };
+        if self.is_over {
+            write_all(out, said)?;
+            return Ok(After::Ends);
+        }
+        self.put_prompt(said, out)?;
+        Ok(After::GoesOn)
+    }
+
+    // The key that ends the input was pressed, which is `quit`: says whether the session ends.
+    fn end<W: ByteSink>(&mut self, out: &mut W) -> Result<bool, Fault>
+        requires { W.failed out.old ≡ false }
+    {
+        let heard = self.answer(Request::Word(RequestWord::Quit));
+        let said = self.said(heard);
+        write_parts(out, &[b"\n", match &said {
+            Ok(text) => text.as_slice(),
+            Err(_) => NO_MEMORY,
+        }])?;
+        out.flush()?;
+        Ok(self.is_over)
+    }
+}
+
+impl Listener for Terminal<'_> {
+    fn greet<W: ByteSink>(&self, out: &mut W) -> Result<(), Fault> {
+        self.put_prompt(b"", out)
+    }
+
+    fn turn_down<W: ByteSink>(&self, out: &mut W) -> Result<(), Fault> {
+        self.put_prompt(TOO_LONG, out)
+    }
+
+    fn hear<W: ByteSink>(&mut self, line: &[u8], out: &mut W) -> Result<After, Fault> {
+        let heard = self.heard(line);
+        self.put_said(heard, out)
+    }
+}
+
+/// Replies at a terminal to the lines of a source, also behind an end of it that is a `quit` which is
+/// not done. The session is not given up: the program ends soon.
+///
+/// # Errors
+///
+/// Those of [`converse`], and [`Fault::NoMemory`] if there is none for the text that is shown.
+pub fn converse_at_terminal<S: ByteSource, W: ByteSink>(
+    desk: Desk<'_>,
+    source: &mut S,
+    out: &mut W,
+) -> Result<(), Fault>
+    requires source_works { S.failed source.old ≡ false }
+    requires out_works { W.failed out.old ≡ false }
+{
+    let alloc = desk.runtime().alloc();
+    let mut terminal = Terminal::open(desk)?;
+    for _ in 0..u64::MAX {
+        converse(alloc, source, &mut terminal, out)?;
+        if terminal.is_over || terminal.end(out)? {
+            mem::forget(terminal);
+            return Ok(());
+        }
+    }
+    Err(Fault::TooLong)
+}
