@@ -62,7 +62,7 @@ reply_to obeyed.Nothing = []
 reply_to obeyed.NoCommand = []
 
 -- what a line was of which this came
-abbrev pub heard_as : o.Obeyed → h.Heard
+abbrev heard_as : o.Obeyed → h.Heard
 heard_as obeyed.Done = heard.Command
 heard_as (obeyed.Refused refusal) = heard.Command
 heard_as obeyed.Nothing = heard.Nothing

@@ -3,11 +3,11 @@ ghost use Rattle.std.specs.Prelude.{◌≡◌, false, true, map, IfErr, IfOk, On
 ghost use Rattle.mk_run.specs.RunEnds.{IsOut, IsPrefixOut, written};
 ghost use Rattle.mk_lines.specs.Device.{Writes};
 ghost use Rattle.mk_script.specs.Scripts.{step_of};
-ghost use Rattle.mk_prompt.specs.Replies.{AreObeyed, IsAnswered, IsLineObeyed, refused_reply, reply_to};
+ghost use Rattle.mk_prompt.specs.Replies.{AreObeyed, IsAnswered, IsLineObeyed, came_of, refused_reply, reply_to};
 
 use mk_lines::sink::write_all;
 use mk_lines::{ByteSink, Fault};
-use mk_run::{ScriptFault, Step, Witness, obey_step, parse_script, write_refusal};
+use mk_run::{RefusedCommand, ScriptFault, Step, Witness, obey_step, parse_script, write_refusal};
 use mk_session::{Refusal, Session};
 use std::alloc::Allocator;
 
@@ -37,6 +37,16 @@ pub enum Obeyed {
     NoCommand,
 }
 
+// What came of a step that was obeyed.
+fn came_of(obeyed: Result<(), RefusedCommand>) -> Obeyed
+    ensures { result ≡ came_of obeyed }
+{
+    match obeyed {
+        Ok(()) => Obeyed::Done,
+        Err(refused) => Obeyed::Refused(refused.refusal),
+    }
+}
+
 // Obeys the steps of a line, of which there may be one.
 fn obey_only<A: Allocator + Copy, T: Witness<A>>(
     session: &mut Session<A>,
@@ -47,10 +57,7 @@ fn obey_only<A: Allocator + Copy, T: Witness<A>>(
 {
     match steps {
         [] => Obeyed::Nothing,
-        [step] => match obey_step(session, step, witness) {
-            Ok(()) => Obeyed::Done,
-            Err(refused) => Obeyed::Refused(refused.refusal),
-        },
+        [step] => came_of(obey_step(session, step, witness)),
         _ => Obeyed::NoCommand,
     }
 }
@@ -58,12 +65,7 @@ fn obey_only<A: Allocator + Copy, T: Witness<A>>(
 /// Obeys the command of a line, and says what came of it. The line is one of a script: its line end
 /// is LF, CR LF or none. It may begin with `try`; `or` needs the lines above it, and is no command
 /// here. `witness` is told of each edit that is made.
-pub fn obey_line<A, T>(
-    alloc: A,
-    session: &mut Session<A>,
-    line: &[u8],
-    witness: &mut T,
-) -> Obeyed
+pub fn obey_line<A, T>(alloc: A, session: &mut Session<A>, line: &[u8], witness: &mut T) -> Obeyed
 where
     A: Allocator + Copy,
     T: Witness<A>,

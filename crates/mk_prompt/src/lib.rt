@@ -37,7 +37,7 @@ pub use answer::{Heard, Obeyed, answer_line, obey_line, write_reply};
 pub use line::{LineRead, MAX_LINE, read_line};
 pub use lines::{line_length, lines_between};
 pub use quote::answer_lines;
-pub use request::{Request, RequestWord, read_request};
+pub use request::{Request, RequestOf, RequestWord, read_request};
 pub use talk::{After, Listener, converse, write_greeting, write_too_long};
 pub use text::{TextSink, text_of};
 pub use undoing::{Reverted, revert};

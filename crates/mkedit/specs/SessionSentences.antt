@@ -3,14 +3,16 @@
 use Rattle.std.specs.Prelude.{ℕ, List, ◌++◌, codes}
 use Rattle.mk_run.specs.Report.{refusal_text}
 use Rattle.mkedit.specs.declared.session.not_done.NotDone.{NotDone}
-use Rattle.mkedit.specs.declared.session.not_done.NotDone.TheVariants.{NotACommand, NoMemory, Refused, NoRefusal, CannotRead, CannotWrite, HasChanged, BeyondDepth, Unwritten}
+use Rattle.mkedit.specs.declared.session.not_done.NotDone.TheVariants.{NotACommand, NoMemory, Refused, NoRefusal, NoCommand, CannotRead, CannotWrite, HasChanged, BeyondDepth, Unwritten}
 
 -- the sentence, which shows the makefile by this name
 abbrev pub sentence_text : NotDone → (name : List ℕ) → List ℕ
 sentence_text (Refused refusal) name = refusal_text refusal
-sentence_text NotACommand name = codes "This is no command and no request; `quit` ends.\n"
+sentence_text NotACommand name =
+    codes "This is no command and no request; `help` lists them.\n"
 sentence_text NoMemory name = codes "There is no memory for this.\n"
 sentence_text NoRefusal name = codes "No refusal has this name or this number.\n"
+sentence_text NoCommand name = codes "No command of a script has this word.\n"
 sentence_text CannotRead name = name ++ codes " cannot be read, and is not written.\n"
 sentence_text CannotWrite name = name ++ codes " cannot be written.\n"
 sentence_text HasChanged name =

@@ -1,7 +1,8 @@
 //! `mkedit session`: a makefile that is edited step by step. Each line of standard input is a command or
 //! a request, and is answered before the next one is read.
 //!
-//! - `desk`: the makefile that is open, and what it answers.
+//! - `desk`: the makefile that is open, and what it answers; `help_text`: what `help` says.
+//! - `journal`: the lines of what can be undone and redone.
 //! - `protocol`: its replies to a program; `terminal`: its replies to a person, whose words `sentences` has.
 //! - `not_done`: why a request is not done.
 //! - `on_disk`: the makefile's file.
@@ -9,6 +10,8 @@
 ghost use Rattle.std.specs.Prelude.{◌≡◌, false};
 
 mod desk;
+mod help_text;
+mod journal;
 mod not_done;
 mod on_disk;
 mod protocol;
@@ -18,7 +21,7 @@ mod terminal;
 use crate::ending::{End, finished};
 use crate::files::{CannotOpen, open};
 use crate::noted::Noted;
-use crate::notes::STANDARD_OUTPUT;
+use crate::notes::{Cause, STANDARD_OUTPUT, SystemFault};
 use desk::Desk;
 use mk_command_line::SessionWords;
 use mk_lines::source::read_all;
@@ -26,7 +29,7 @@ use mk_lines::{ByteSink, ByteSource, Fault, StdSink, StdSource};
 use mk_prompt::converse;
 use mk_run::Outcome;
 use std::fs::File;
-use std::io::IsTerminal;
+use std::io::{ErrorKind, IsTerminal};
 use std::mem;
 use std::process::ExitCode;
 use terminal::converse_at_terminal;
@@ -46,7 +49,26 @@ fn opened<'a>(
     makefile: File,
 ) -> Result<Desk<'a>, Fault> {
     let text = read_all(rt.alloc(), &mut StdSource::new(makefile))?;
-    Desk::open(rt, words, text)
+    Desk::open(rt, words, text, false)
+}
+
+// Opens the makefile, which may be missing if the words say so, and a session over it.
+fn open_desk<'a>(
+    rt: &'a HostRuntime,
+    words: SessionWords<'a>,
+) -> Result<Result<Desk<'a>, Fault>, CannotOpen<'a>> {
+    match open(rt, words.file) {
+        Ok(makefile) => Ok(opened(rt, words, makefile)),
+        Err(
+            CannotOpen(
+                SystemFault {
+                    cause: Cause::System(ErrorKind::NotFound),
+                    ..
+                },
+            ),
+        ) if words.may_be_new => Ok(Desk::open(rt, words, Vec::new(rt.alloc()), true)),
+        Err(cannot) => Err(cannot),
+    }
 }
 
 // Replies to the lines of a source. The session is not given up: the program ends soon.
@@ -80,7 +102,7 @@ fn talk<'a>(rt: &'a HostRuntime, by_protocol: bool, desk: Desk<'a>) -> End<'a> {
 
 // Opens the makefile, and replies to the lines of standard input.
 fn over_file<'a>(rt: &'a HostRuntime, words: SessionWords<'a>) -> Result<End<'a>, CannotOpen<'a>> {
-    match opened(rt, words, open(rt, words.file)?) {
+    match open_desk(rt, words)? {
         Ok(desk) => Ok(talk(rt, words.by_protocol, desk)),
         Err(fault) => Ok(End::of(Outcome::from(fault))),
     }

@@ -1,18 +1,25 @@
 //! A makefile that is open, and what it answers to requests.
-use super::not_done::NotDone;
-use super::on_disk::{look, put};
+use super::help_text::HELP;
+use super::journal::{EditMade, Journal};
+use super::not_done::{NotDone, shown_name};
+use super::on_disk::{look, look_missing, put, put_or_make};
+use crate::command_texts::command_text;
 use crate::diff::diff_name;
 use crate::explain::{put_out, refusal_of};
 use crate::explanations::explanation;
+use crate::help::put_help;
 use crate::question::put_lines;
+use crate::script_command::command_called;
 use mk_command_line::{Input, Query, SessionWords};
 use mk_diff::diff;
 use mk_lines::Fault;
+use mk_lookup::get;
 use mk_prompt::{
-    After, Obeyed, Request, RequestWord, Reverted, TextSink, lines_between, obey_line, revert,
-    text_of,
+    After, Obeyed, Request, RequestOf, RequestWord, Reverted, TextSink, lines_between, obey_line,
+    revert, text_of,
 };
-use mk_session::Session;
+use mk_queries::{recipes_for, rules_for, vars_named};
+use mk_session::{Refusal, Session};
 use std::alloc::Global;
 use std::mem;
 use std::str::from_utf8;
@@ -27,6 +34,9 @@ pub struct Desk<'a> {
     opened: Vec<u8>,
     // The text as it was written last, if it was.
     written: Option<Vec<u8>>,
+    // Whether there is no file yet.
+    is_missing: bool,
+    journal: Journal,
     // Whether the last request was a `quit` that was not done.
     is_warned: bool,
 }
@@ -41,7 +51,7 @@ pub struct Asked {
 }
 
 impl<'a> Desk<'a> {
-    /// Opens a text, which is that of the makefile.
+    /// Opens a text, which is that of the makefile, or that of a makefile that is missing.
     ///
     /// # Errors
     ///
@@ -50,6 +60,7 @@ impl<'a> Desk<'a> {
         rt: &'a HostRuntime,
         words: SessionWords<'a>,
         text: Vec<u8>,
+        is_missing: bool,
     ) -> Result<Desk<'a>, Fault> {
         let opened = Vec::from_slice(rt.alloc(), text.as_slice())?;
         let session = Session::open_vec(rt.alloc(), text, words.depth)?;
@@ -59,6 +70,8 @@ impl<'a> Desk<'a> {
             session,
             opened,
             written: None,
+            is_missing,
+            journal: Journal::new(rt.alloc(), words.depth as usize),
             is_warned: false,
         })
     }
@@ -136,23 +149,98 @@ impl<'a> Desk<'a> {
         }
     }
 
+    // What is said of the command that has a word.
+    fn help(&self, word: &[u8]) -> Result<Vec<u8>, NotDone> {
+        let Ok(word) = from_utf8(word) else {
+            return Err(NotDone::NoCommand);
+        };
+        let Some(command) = command_called(word) else {
+            return Err(NotDone::NoCommand);
+        };
+        let mut sink = TextSink::new(self.rt.alloc());
+        match put_help(command, command_text(command), &mut sink) {
+            Ok(()) => Ok(sink.text),
+            Err(_) => Err(NotDone::NoMemory),
+        }
+    }
+
+    // The value of a variable, which `set` would change, and the end of its line.
+    fn get(&self, nth: Option<u32>, name: &[u8]) -> Result<Vec<u8>, NotDone> {
+        match get(self.session.doc(), nth, name) {
+            Ok(value) => {
+                let mut text = Vec::from_slice(self.rt.alloc(), value)?;
+                text.extend_from_slice(b"\n")?;
+                Ok(text)
+            }
+            Err(refusal) => Err(NotDone::Refused(refusal)),
+        }
+    }
+
+    // The value of one of several assignments.
+    fn get_nth(&self, nth: u64, name: &[u8]) -> Result<Vec<u8>, NotDone> {
+        match u32::try_from(nth) {
+            Ok(nth) => self.get(Some(nth), name),
+            Err(_) => Err(NotDone::Refused(Refusal::NoSuch)),
+        }
+    }
+
+    // The answer to a query about one name or target.
+    fn query_of(&self, of: RequestOf, word: &[u8]) -> Result<Vec<u8>, NotDone> {
+        let mut sink = TextSink::new(self.rt.alloc());
+        let doc = self.session.doc();
+        let put = match of {
+            RequestOf::Rules => rules_for(doc, word, &mut sink),
+            RequestOf::Recipes => recipes_for(doc, word, &mut sink),
+            _ => vars_named(doc, word, &mut sink),
+        };
+        match put {
+            Ok(()) => Ok(sink.text),
+            Err(_) => Err(NotDone::NoMemory),
+        }
+    }
+
     // Puts the text into the makefile's place.
     fn write_text(&mut self) -> Result<(), NotDone> {
         let text = self.text()?;
-        put(self.rt, self.name, text.as_slice())?;
+        if self.is_missing {
+            put_or_make(self.rt, self.name, text.as_slice())?;
+        } else {
+            put(self.rt, self.name, text.as_slice())?;
+        }
+        self.is_missing = false;
         self.written = Some(text);
         Ok(())
     }
 
     // The same, if the makefile is as it was left.
     fn write_if_left(&mut self) -> Result<(), NotDone> {
-        look(self.rt, self.name, self.left())?;
+        if self.is_missing {
+            look_missing(self.rt, self.name)?;
+        } else {
+            look(self.rt, self.name, self.left())?;
+        }
         self.write_text()
+    }
+
+    // Puts the text into a file of this name. The makefile's own name is `write`.
+    fn write_to(&mut self, file: &[u8]) -> Result<(), NotDone> {
+        let Ok(file) = from_utf8(file) else {
+            return Err(NotDone::CannotWrite);
+        };
+        if file == self.name {
+            return self.write_if_left();
+        }
+        let text = self.text()?;
+        put_or_make(self.rt, file, text.as_slice())
     }
 
     // Undoes all that can be undone.
     fn revert(&mut self) -> Result<(), NotDone> {
-        match revert(self.rt.alloc(), &mut self.session, self.opened.as_slice()) {
+        let reverted = revert(self.rt.alloc(), &mut self.session, self.opened.as_slice());
+        if reverted.is_ok() {
+            self.journal.note_reverted();
+        }
+        match reverted {
             Ok(Reverted::Opened) => Ok(()),
             Ok(Reverted::BeyondDepth) => Err(NotDone::BeyondDepth),
             Ok(Reverted::Unknown) => Err(NotDone::NoMemory),
@@ -180,6 +268,8 @@ impl<'a> Desk<'a> {
             RequestWord::Recipes => return self.query(Query::Recipes(None)),
             RequestWord::Check => return self.query(Query::Check),
             RequestWord::Caveats => return self.query(Query::Caveats),
+            RequestWord::History => return Ok(self.journal.text()?),
+            RequestWord::Help => return Ok(Vec::from_slice(self.rt.alloc(), HELP.as_bytes())?),
             RequestWord::Write => self.write_if_left()?,
             RequestWord::WriteAnyway => self.write_text()?,
             RequestWord::Revert => self.revert()?,
@@ -189,22 +279,53 @@ impl<'a> Desk<'a> {
         Ok(Vec::new(self.rt.alloc()))
     }
 
+    // What is answered to a request of two words; the text of the answer.
+    fn done_of(&mut self, of: RequestOf, word: &[u8]) -> Result<Vec<u8>, NotDone> {
+        match of {
+            RequestOf::Explain => self.explain(word),
+            RequestOf::Help => self.help(word),
+            RequestOf::Get => self.get(None, word),
+            RequestOf::Vars | RequestOf::Rules | RequestOf::Recipes => self.query_of(of, word),
+            RequestOf::Write => {
+                self.write_to(word)?;
+                Ok(Vec::new(self.rt.alloc()))
+            }
+        }
+    }
+
     // What is answered to a request.
     fn done(&mut self, request: Request<'_>) -> Result<Vec<u8>, NotDone> {
         match request {
             Request::Print(from, to) => self.print(from, to),
-            Request::Explain(word) => self.explain(word),
+            Request::GetNth(nth, name) => self.get_nth(nth, name),
+            Request::Of(of, word) => self.done_of(of, word),
             Request::Word(word) => self.done_word(word),
         }
     }
 
     /// Obeys the command of a line, if it is one.
     pub fn obey(&mut self, line: &[u8]) -> Obeyed {
-        let obeyed = obey_line(self.rt.alloc(), &mut self.session, line, &mut ());
+        let mut made = EditMade(false);
+        let obeyed = obey_line(self.rt.alloc(), &mut self.session, line, &mut made);
+        if obeyed == Obeyed::Done {
+            self.journal.note(line, &made);
+        }
         if matches!(obeyed, Obeyed::Done | Obeyed::Refused(_)) {
             self.is_warned = false;
         }
         obeyed
+    }
+
+    /// The name by which a reply to a request shows a file: that of the makefile, or of the file that the
+    /// request names.
+    pub fn shown_in<'b>(&self, request: Request<'b>) -> &'b [u8]
+    where
+        'a: 'b,
+    {
+        match request {
+            Request::Of(RequestOf::Write, file) => file,
+            _ => shown_name(self.name),
+        }
     }
 
     /// Answers a request. The second `quit` in a row ends the session.

@@ -7,7 +7,8 @@ use super::not_done::{NotDone, put_fault, shown_name};
 use mk_lines::sink::write_parts;
 use mk_lines::{ByteSink, Fault};
 use mk_prompt::{
-    After, Listener, Obeyed, answer_lines, read_request, write_greeting, write_reply, write_too_long,
+    After, Listener, Obeyed, answer_lines, read_request, write_greeting, write_reply,
+    write_too_long,
 };
 
 impl Desk<'_> {
@@ -19,10 +20,11 @@ impl Desk<'_> {
         }
     }
 
-    // Replies to a request.
+    // Replies to a request. A file is shown by this name.
     fn put_answer<W: ByteSink>(
         &self,
         answer: Result<Vec<u8>, NotDone>,
+        name: &[u8],
         out: &mut W,
     ) -> Result<(), Fault>
         requires { W.failed out.old ≡ false }
@@ -32,7 +34,7 @@ impl Desk<'_> {
     {
         match self.quoted(answer) {
             Ok(lines) => write_parts(out, &[lines.as_slice(), b"ok\n"]),
-            Err(not_done) => put_fault(not_done, shown_name(self.name()), out),
+            Err(not_done) => put_fault(not_done, name, out),
         }
     }
 
@@ -48,7 +50,7 @@ impl Desk<'_> {
             return Ok(After::GoesOn);
         };
         let asked = self.ask(request);
-        self.put_answer(asked.answer, out)?;
+        self.put_answer(asked.answer, self.shown_in(request), out)?;
         Ok(asked.after)
     }
 

@@ -34,20 +34,30 @@ pub fn put_sentence<W: ByteSink>(not_done: NotDone, name: &[u8], out: &mut W) ->
     match not_done {
         NotDone::Refused(refusal) => write_refusal(out, refusal),
         NotDone::NotACommand => {
-            write_all(out, b"This is no command and no request; `quit` ends.\n")
+            write_all(
+                out,
+                b"This is no command and no request; `help` lists them.\n",
+            )
         }
         NotDone::NoMemory => write_all(out, NO_MEMORY),
         NotDone::NoRefusal => write_all(out, b"No refusal has this name or this number.\n"),
+        NotDone::NoCommand => write_all(out, b"No command of a script has this word.\n"),
         NotDone::CannotRead => {
             write_parts(out, &[name, b" cannot be read, and is not written.\n"])
         }
         NotDone::CannotWrite => write_parts(out, &[name, b" cannot be written.\n"]),
         NotDone::HasChanged => write_parts(
             out,
-            &[name, b" has changed since, and is not written; `write!` writes it.\n"],
+            &[
+                name,
+                b" has changed since, and is not written; `write!` writes it.\n",
+            ],
         ),
         NotDone::BeyondDepth => {
-            write_all(out, b"All is undone that can be; the text is another than at first.\n")
+            write_all(
+                out,
+                b"All is undone that can be; the text is another than at first.\n",
+            )
         }
         NotDone::Unwritten => write_all(
             out,

@@ -1,5 +1,6 @@
 //! A makefile that is open at a terminal: a prompt before each line, and sentences for replies.
-ghost use Rattle.std.specs.Prelude.{◌≡◌, false};
+ghost use Rattle.std.specs.Prelude.{◌≡◌, false, true, ⊤, IfErr, OnOk};
+ghost use Rattle.mk_prompt.specs.Talks.{SaysOut};
 
 use super::desk::Desk;
 use super::not_done::{NotDone, shown_name};
@@ -12,7 +13,7 @@ use mk_diff::diff;
 use mk_lines::sink::{write_all, write_parts};
 use mk_lines::{ByteSink, ByteSource, Fault};
 use mk_prompt::{
-    After, Listener, Obeyed, Request, RequestWord, TextSink, converse, read_request,
+    After, Listener, Obeyed, Request, RequestOf, RequestWord, TextSink, converse, read_request,
 };
 use mk_session::Refusal;
 use std::mem;
@@ -47,21 +48,24 @@ impl<'a> Terminal<'a> {
         }
     }
 
-    // What stands before the next line; nothing where the session has ended.
+    // Writes a text, and what stands before the next line.
     fn put_prompt<W: ByteSink>(&self, said: &[u8], out: &mut W) -> Result<(), Fault>
         requires { W.failed out.old ≡ false }
+        ensures said { OnOk result (SaysOut (W.contents out.old) (W.contents out.new) (λ _. ⊤)) }
+        ensures fault { IfErr result (λ fault. (fault ≡ Fault.Write) × (W.failed out.new ≡ true)) }
+        ensures works { OnOk result (W.failed out.new ≡ false) }
     {
         let name = shown_name(self.desk.name());
         write_parts(out, &[said, name, self.mark(), b"> "])
     }
 
-    // The sentence on a request that is not done.
-    fn sentence(&self, not_done: NotDone) -> Result<Vec<u8>, NotDone> {
+    // The sentence on a request that is not done. A file is shown by this name.
+    fn sentence(&self, not_done: NotDone, name: &[u8]) -> Result<Vec<u8>, NotDone> {
         if let NotDone::Refused(refusal) = not_done {
             return Ok(refusal_sentence(self.desk.runtime().alloc(), refusal)?);
         }
         let mut sink = TextSink::new(self.desk.runtime().alloc());
-        match put_sentence(not_done, shown_name(self.desk.name()), &mut sink) {
+        match put_sentence(not_done, name, &mut sink) {
             Ok(()) => Ok(sink.text),
             Err(_) => Err(NotDone::NoMemory),
         }
@@ -88,10 +92,9 @@ impl<'a> Terminal<'a> {
         Ok(changed)
     }
 
-    // That the makefile is written.
-    fn written(&self) -> Result<Vec<u8>, NotDone> {
-        let mut said = Vec::new(self.desk.runtime().alloc());
-        said.extend_from_slice(shown_name(self.desk.name()))?;
+    // That a file is written.
+    fn written(&self, name: &[u8]) -> Result<Vec<u8>, NotDone> {
+        let mut said = Vec::from_slice(self.desk.runtime().alloc(), name)?;
         said.extend_from_slice(b" is written.\n")?;
         Ok(said)
     }
@@ -102,7 +105,8 @@ impl<'a> Terminal<'a> {
         self.is_over = asked.after == After::Ends;
         let mut text = asked.answer?;
         match request {
-            Request::Word(RequestWord::Write | RequestWord::WriteAnyway) => self.written(),
+            Request::Word(RequestWord::Write | RequestWord::WriteAnyway)
+            | Request::Of(RequestOf::Write, _) => self.written(self.desk.shown_in(request)),
             Request::Word(RequestWord::Revert) => self.done(),
             _ => {
                 if !matches!(text.last(), None | Some(b'\n')) {
@@ -113,64 +117,74 @@ impl<'a> Terminal<'a> {
         }
     }
 
-    // What comes of a line.
-    fn heard(&mut self, line: &[u8]) -> Result<Vec<u8>, NotDone> {
+    // What is said of a request. What one has undone that is not done is shown too.
+    fn said_of(&mut self, request: Request<'_>) -> Result<Vec<u8>, NotDone> {
+        match self.answer(request) {
+            Ok(text) => Ok(text),
+            Err(not_done) => {
+                let mut said = self.change()?;
+                let sentence = self.sentence(not_done, self.desk.shown_in(request))?;
+                said.extend_from_slice(sentence.as_slice())?;
+                Ok(said)
+            }
+        }
+    }
+
+    // What is said of a line that is no command.
+    fn said_of_other(&mut self, line: &[u8]) -> Result<Vec<u8>, NotDone> {
+        match read_request(line) {
+            Some(request) => self.said_of(request),
+            None => self.sentence(NotDone::NotACommand, b""),
+        }
+    }
+
+    // What is said of a line.
+    fn said(&mut self, line: &[u8]) -> Result<Vec<u8>, NotDone> {
         match self.desk.obey(line) {
             Obeyed::Done => self.done(),
             Obeyed::Refused(Refusal::NoMemory) => Err(NotDone::NoMemory),
-            Obeyed::Refused(refusal) => Err(NotDone::Refused(refusal)),
+            Obeyed::Refused(refusal) => self.sentence(NotDone::Refused(refusal), b""),
             Obeyed::Nothing => Ok(Vec::new(self.desk.runtime().alloc())),
-            Obeyed::NoCommand => match read_request(line) {
-                Some(request) => self.answer(request),
-                None => Err(NotDone::NotACommand),
-            },
+            Obeyed::NoCommand => self.said_of_other(line),
         }
     }
 
-    // What is said of what came of a line. What a request has undone that is not done is shown too.
-    fn said(&mut self, heard: Result<Vec<u8>, NotDone>) -> Result<Vec<u8>, NotDone> {
-        let not_done = match heard {
-            Ok(text) => return Ok(text),
-            Err(not_done) => not_done,
-        };
-        let mut said = self.change()?;
-        said.extend_from_slice(self.sentence(not_done)?.as_slice())?;
-        Ok(said)
-    }
-
-    // Says what came of a line, and the next prompt if the session goes on.
+    // Says what is to be said of a line, and the next prompt if the session goes on.
     fn put_said<W: ByteSink>(
-        &mut self,
-        heard: Result<Vec<u8>, NotDone>,
+        &self,
+        said: Result<Vec<u8>, NotDone>,
         out: &mut W,
     ) -> Result<After, Fault>
         requires { W.failed out.old ≡ false }
+        ensures said { OnOk result (SaysOut (W.contents out.old) (W.contents out.new) (λ _. ⊤)) }
+        ensures fault { IfErr result (λ fault. (fault ≡ Fault.Write) × (W.failed out.new ≡ true)) }
+        ensures works { OnOk result (W.failed out.new ≡ false) }
     {
-        let said = self.said(heard);
-        let said = match &said {
-            Ok(text) => text.as_slice(),
-            Err(_) => NO_MEMORY,
-        };
+        let text = text_said(&said);
         if self.is_over {
-            write_all(out, said)?;
+            write_all(out, text)?;
             return Ok(After::Ends);
         }
-        self.put_prompt(said, out)?;
+        self.put_prompt(text, out)?;
         Ok(After::GoesOn)
     }
 
-    // The key that ends the input was pressed, which is `quit`: says whether the session ends.
-    fn end<W: ByteSink>(&mut self, out: &mut W) -> Result<bool, Fault>
+    // The key that ends the input was pressed, which is `quit`.
+    fn end<W: ByteSink>(&mut self, out: &mut W) -> Result<(), Fault>
         requires { W.failed out.old ≡ false }
+        ensures works { OnOk result (W.failed out.new ≡ false) }
     {
-        let heard = self.answer(Request::Word(RequestWord::Quit));
-        let said = self.said(heard);
-        write_parts(out, &[b"\n", match &said {
-            Ok(text) => text.as_slice(),
-            Err(_) => NO_MEMORY,
-        }])?;
-        out.flush()?;
-        Ok(self.is_over)
+        let said = self.said_of(Request::Word(RequestWord::Quit));
+        write_parts(out, &[b"\n", text_said(&said)])?;
+        out.flush()
+    }
+}
+
+// What is to be said, or that there is no memory for it.
+fn text_said(said: &Result<Vec<u8>, NotDone>) -> &[u8] {
+    match said {
+        Ok(text) => text.as_slice(),
+        Err(_) => NO_MEMORY,
     }
 }
 
@@ -184,8 +198,8 @@ impl Listener for Terminal<'_> {
     }
 
     fn hear<W: ByteSink>(&mut self, line: &[u8], out: &mut W) -> Result<After, Fault> {
-        let heard = self.heard(line);
-        self.put_said(heard, out)
+        let said = self.said(line);
+        self.put_said(said, out)
     }
 }
 
@@ -207,7 +221,10 @@ pub fn converse_at_terminal<S: ByteSource, W: ByteSink>(
     let mut terminal = Terminal::open(desk)?;
     for _ in 0..u64::MAX {
         converse(alloc, source, &mut terminal, out)?;
-        if terminal.is_over || terminal.end(out)? {
+        if !terminal.is_over {
+            terminal.end(out)?;
+        }
+        if terminal.is_over {
             mem::forget(terminal);
             return Ok(());
         }
