@@ -66,14 +66,21 @@ pub fn put_sentence<W: ByteSink>(not_done: NotDone, name: &[u8], out: &mut W) ->
     }
 }
 
-// The first sentence of a text, whose full stop a blank or a line end follows.
-fn first_sentence(text: &[u8]) -> &[u8] {
-    for (at, pair) in text.windows(2).enumerate() {
-        if matches!(pair, [b'.', b' ' | b'\n']) {
-            return text.split_at(at + 1).0;
+// Puts the first sentence of a text behind a line, with blanks for its line ends. A full stop ends it
+// which a blank or a line end follows.
+fn push_sentence(line: &mut Vec<u8>, text: &[u8]) -> Result<(), AllocError> {
+    let mut is_stop = false;
+    for byte in text {
+        let is_blank = matches!(*byte, b' ' | b'\n');
+        if is_stop && is_blank {
+            break;
+        }
+        is_stop = *byte == b'.';
+        if line.push(if is_blank { b' ' } else { *byte }).is_err() {
+            return Err(AllocError);
         }
     }
-    text
+    line.extend_from_slice(b"\n")
 }
 
 /// Why a refusal comes, in one line: what a report says of it, and the first sentence of its
@@ -90,10 +97,7 @@ pub fn refusal_sentence(alloc: Global, refusal: Refusal) -> Result<Vec<u8>, Allo
     let mut line = report.text;
     line.pop();
     line.extend_from_slice(b": ")?;
-    for byte in first_sentence(explanation(&refusal).as_bytes()) {
-        line.push(if *byte == b'\n' { b' ' } else { *byte })?;
-    }
-    line.push(b'\n')?;
+    push_sentence(&mut line, explanation(&refusal).as_bytes())?;
     Ok(line)
 }
 
@@ -117,7 +121,7 @@ pub fn changed_lines(alloc: Global, diff: &[u8]) -> Result<Vec<u8>, AllocError> 
     let mut rest = diff;
     let mut names = 2;
     let mut is_above = false;
-    while !rest.is_empty() {
+    'lines: while !rest.is_empty() {
         let (line, after) = rest.split_at(line_length(rest));
         if names > 0 {
             names -= 1;
