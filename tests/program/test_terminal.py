@@ -129,8 +129,16 @@ class Terminal(RoomCase):
     def test_faults_are_sentences(self):
         user = self.at_terminal("-d", "1", "Makefile")
         user.shown(b"> ")
-        no_command = user.types(b"frobnicate\n")
-        self.assertTrue(no_command.startswith(b"This is no command and no request"), no_command)
+        no_command = b"This is no command and no request; `help` lists them.\n"
+        self.assert_said(
+            user,
+            (b"frobnicate\n", no_command + b"Makefile> "),
+            (b"ste CC gcc\n", no_command + b"Column 1: there is no such command; the nearest is `set`\nMakefile> "),
+            (b" set CC\n", no_command + b"Column 8: VALUE is missing\nMakefile> "),
+            (b"help set it\n", no_command + b"Makefile> "),
+            (b"help frobnicate\n", b"No command of a script has this word.\nMakefile> "),
+            (b"write no/such\n", b"no/such cannot be written.\nMakefile> "),
+        )
         self.assertEqual(user.types(b"explain 99\n"), b"No refusal has this name or this number.\nMakefile> ")
         user.types(b"set CC a\n"), user.types(b"set CC b\n")
         self.assertEqual(

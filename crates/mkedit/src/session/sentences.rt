@@ -5,10 +5,12 @@ ghost use Rattle.mkedit.specs.SessionSentences.{sentence_text};
 
 use super::not_done::NotDone;
 use crate::explanations::explanation;
+use crate::mistakes::{ScriptMistake, put_nearest, said_of, script_mistake};
 use mk_lines::sink::{write_all, write_parts};
 use mk_lines::{ByteSink, Fault};
 use mk_prompt::{TextSink, line_length};
-use mk_run::write_refusal;
+use mk_run::{Outcome, write_refusal};
+use mk_script::MistakeCause;
 use mk_session::Refusal;
 use std::alloc::{AllocError, Global};
 
@@ -99,6 +101,40 @@ pub fn refusal_sentence(alloc: Global, refusal: Refusal) -> Result<Vec<u8>, Allo
     line.extend_from_slice(b": ")?;
     push_sentence(&mut line, explanation(&refusal).as_bytes())?;
     Ok(line)
+}
+
+// Whether it is told what is wrong with a line. It is not where its first word is like that of no command.
+fn is_told(found: &ScriptMistake<'_>) -> bool {
+    !matches!(found.mistake.cause, MistakeCause::UnknownCommand) || found.nearest.is_some()
+}
+
+// Writes what is wrong with a line that is no command.
+fn put_mistake_in<W: ByteSink>(found: &ScriptMistake<'_>, out: &mut W) -> Result<(), Fault>
+    requires { W.failed out.old ≡ false }
+{
+    let mut digits = itoa::Buffer::new();
+    let column = digits.format(found.mistake.column).as_bytes();
+    let said = said_of(found.mistake.cause).as_bytes();
+    write_parts(out, &[b"Column ", column, b": ", said])?;
+    put_nearest(found.nearest, out)
+}
+
+/// What is wrong with a line that is no command, as the notes on a script say it. It is empty where the
+/// first word of the line is like that of no command.
+///
+/// # Errors
+///
+/// Want of memory.
+pub fn mistake_sentence(alloc: Global, line: &[u8]) -> Result<Vec<u8>, AllocError> {
+    let mut sink = TextSink::new(alloc);
+    let put = match script_mistake("", line, Outcome::NotACommand(1)) {
+        Some(found) if is_told(&found) => put_mistake_in(&found, &mut sink),
+        _ => Ok(()),
+    };
+    match put {
+        Ok(()) => Ok(sink.text),
+        Err(_) => Err(AllocError),
+    }
 }
 
 // Whether a line of a diff says what was taken out or put in. That a line has no line feed is said below

@@ -5,7 +5,8 @@ ghost use Rattle.mk_prompt.specs.Talks.{SaysOut};
 use super::desk::Desk;
 use super::not_done::{NotDone, shown_name};
 use super::sentences::{
-    AS_IT_WAS, NO_MEMORY, TOO_LONG, changed_lines, put_sentence, refusal_sentence,
+    AS_IT_WAS, NO_MEMORY, TOO_LONG, changed_lines, mistake_sentence, put_sentence,
+    refusal_sentence,
 };
 use crate::diff::diff_name;
 use mk_command_line::Input;
@@ -130,11 +131,19 @@ impl<'a> Terminal<'a> {
         }
     }
 
+    // That a line is neither a command nor a request, and what is wrong with it as a command.
+    fn no_command(&self, line: &[u8]) -> Result<Vec<u8>, NotDone> {
+        let mut said = self.sentence(NotDone::NotACommand, b"")?;
+        let mistake = mistake_sentence(self.desk.runtime().alloc(), line)?;
+        said.extend_from_slice(mistake.as_slice())?;
+        Ok(said)
+    }
+
     // What is said of a line that is no command.
     fn said_of_other(&mut self, line: &[u8]) -> Result<Vec<u8>, NotDone> {
         match read_request(line) {
             Some(request) => self.said_of(request),
-            None => self.sentence(NotDone::NotACommand, b""),
+            None => self.no_command(line),
         }
     }
 
