@@ -5,8 +5,8 @@ use Rattle.mk_prompt.specs.declared.answer.Obeyed.TheVariants.{Done, Refused, No
 use Rattle.mk_prompt.proofs.StepLemmas.{Appends-nothing, if-any-err}
 use Rattle.mk_prompt.proofs.answer.answer_line.Goals as goal
 
-pub returns-in-Done-clause-answered : goal.returns-in-Done-clause-answered
-returns-in-Done-clause-answered g c = (
+pub returns-in_ok-write_reply-in-Done-clause-answered : goal.returns-in_ok-write_reply-in-Done-clause-answered
+returns-in_ok-write_reply-in-Done-clause-answered g c = (
   Done,
   subst (IsLineObeyed c.args.line.now c.args.session.now.shown c.obey_line.new.session.shown) c.in-Done.is c.obey_line.ensures,
   refl,
@@ -15,15 +15,15 @@ returns-in-Done-clause-answered g c = (
 
 pub returns-in_err-write_reply-in-Done-clause-cut : goal.returns-in_err-write_reply-in-Done-clause-cut
 returns-in_err-write_reply-in-Done-clause-cut g c =
-    if-any-err c.from_residual-in_err-write_reply-in-Done.result (
+    if-any-err c.from_residual.result (
       Done,
       subst (IsLineObeyed c.args.line.now c.args.session.now.shown c.obey_line.new.session.shown) c.in-Done.is c.obey_line.ensures,
       refl,
       c.in_err-write_reply-in-Done.ensures.prefix,
     )
 
-pub returns-in-Refused-clause-answered : goal.returns-in-Refused-clause-answered
-returns-in-Refused-clause-answered g c = (
+pub returns-in_ok-write_reply-in-Refused-clause-answered : goal.returns-in_ok-write_reply-in-Refused-clause-answered
+returns-in_ok-write_reply-in-Refused-clause-answered g c = (
   Refused c.in-Refused.refusal,
   subst (IsLineObeyed c.args.line.now c.args.session.now.shown c.obey_line.new.session.shown) c.in-Refused.is c.obey_line.ensures,
   refl,

@@ -1,5 +1,5 @@
 -- By what the line is.
-use Rattle.std.proofs.Common.{refl, sym, subst, map, inl, inr}
+use Rattle.std.proofs.Common.{refl, subst, map, inl, inr}
 use Rattle.mk_script.specs.Scripts.{IsScriptFault, step_of}
 use Rattle.mk_prompt.specs.Replies.{AreObeyed}
 use Rattle.mk_prompt.proofs.answer.obey_line.Goals as goal
@@ -12,10 +12,6 @@ returns-in-Ok g c =
       subst (λ items. AreObeyed (map step_of items) c.args.session.now.shown c.obey_only.new.session.shown c.obey_only.result)
           c.as_slice.ensures.value c.obey_only.ensures,
     )
-
-pub returns-in-Err-NotACommand : goal.returns-in-Err-NotACommand
-returns-in-Err-NotACommand g c =
-    inr (inr ((c.in-Err-NotACommand.field-0, subst (λ fault. IsScriptFault c.args.line.now fault) c.in-Err-NotACommand.field-0-is c.in-Err-NotACommand.ensures.fault), refl, refl))
 
 pub returns-in-Err-NoMemory : goal.returns-in-Err-NoMemory
 returns-in-Err-NoMemory g c =

@@ -29,4 +29,6 @@ returns-in-Ends g c = record {
       c.args.listener.now c.loop.listener c.reply.new.listener (g.W.ByteSink.contents c.args.out.now) (g.W.ByteSink.contents c.loop.out)
       (g.W.ByteSink.contents c.reply.new.out) c.read_line.new.line.items c.as_slice.result.now c.in_ok-read.read c.in_ok-reply.field-0
       c.loop.invariant.2 c.in_ok-read.ensures.read c.as_slice.ensures.value c.in_ok-reply.ensures.replied c.in-Ends.is;
+  source = search rules;
+  works = search rules;
 }
