@@ -39,8 +39,9 @@
 #   make bench      compares its time and memory with those of cat and sed and with what is aimed
 #                   at, draws into bench/data/speed.svg how its time grows, and measures the reading
 #                   of lines, and edits of a large makefile; then many edits of each kind, which it
-#                   draws into bench/data/many.svg, beside a program that rustc builds; 30 to 60
-#                   minutes long, and less where EDITS=1000 leaves out the cases of 10,000 edits
+#                   draws into bench/data/many.svg, beside a program that rustc builds; and how long
+#                   a line of a session waits for its reply; 30 to 60 minutes long, and less where
+#                   EDITS=1000 leaves out the cases of 10,000 edits
 #   make clean      removes all that was made but releases, and what rt keeps between two checks
 #
 # It is written for POSIX.1-2024 make, which GNU make 4 reads as well.
@@ -144,6 +145,7 @@ bench: $(PROGRAM) $(BENCH)
 	@bench/lines $(BENCH)
 	@bench/edits $(BENCH)
 	@bench/many --edits $(EDITS) $(PROGRAM)
+	@bench/sessions $(PROGRAM)
 
 clean:
 	rm -rf crates/*/out bench/data

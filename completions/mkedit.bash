@@ -9,7 +9,7 @@ _mkedit_options() {
         vars) echo "--name --notes -h --help" ;;
         rules | recipes) echo "--target --notes -h --help" ;;
         check | caveats) echo "--notes -h --help" ;;
-        session) echo "-d --depth -h --help" ;;
+        session) echo "-d --depth --protocol --new -h --help" ;;
         get) echo "--nth --notes -h --help" ;;
         help) ;;
         *) echo "-h --help" ;;

@@ -45,6 +45,9 @@ complete -c mkedit -n '__fish_seen_subcommand_from edit' -l diff -d 'Prints what
 complete -c mkedit -n '__fish_seen_subcommand_from edit' -l color -x -a 'auto always never' -d 'Whether a diff has colours'
 complete -c mkedit -n '__fish_seen_subcommand_from edit' -s e -l expression -x -d 'A line of a script, in place of SCRIPT; several -e are its lines'
 
+complete -c mkedit -n '__fish_seen_subcommand_from session; and not __fish_seen_subcommand_from help' -l protocol -d 'Reply as to a program, also at a terminal'
+complete -c mkedit -n '__fish_seen_subcommand_from session; and not __fish_seen_subcommand_from help' -l new -d 'Open a makefile that is missing as an empty one; write makes it'
+
 complete -c mkedit -n '__fish_seen_subcommand_from vars; and not __fish_seen_subcommand_from help' -l name -x -a '(__mkedit_names)' -d 'Lists the assignments of this name alone, for targets or not'
 complete -c mkedit -n '__fish_seen_subcommand_from rules recipes; and not __fish_seen_subcommand_from help' -l target -x -a '(__mkedit_targets)' -d 'Lists what belongs to the rules for this target alone'
 complete -c mkedit -n '__fish_seen_subcommand_from get; and not __fish_seen_subcommand_from help' -l nth -x -d 'Takes the N-th of several assignments of the name, from 1'

@@ -126,6 +126,8 @@ _mkedit_explain() {
 _mkedit_session() {
     _arguments -s \
         '(-d --depth)'{-d+,--depth=}'[how many edits can be undone, from 1 to 10000]:depth: ' \
+        '--protocol[reply as to a program, also at a terminal]' \
+        '--new[open a makefile that is missing as an empty one]' \
         '(-h --help)'{-h,--help}'[print help]' \
         '1:makefile:_files'
 }

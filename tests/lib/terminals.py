@@ -6,7 +6,7 @@ import pty
 import termios
 import tty
 
-END = b"\x04"
+END, INTERRUPT = b"\x04", b"\x03"
 
 
 @contextlib.contextmanager
@@ -16,8 +16,8 @@ def terminal(lines=True):
     tty.setraw(program)
     if lines:
         modes = termios.tcgetattr(program)
-        modes[3] |= termios.ICANON
-        modes[6][termios.VEOF] = END
+        modes[3] |= termios.ICANON | termios.ISIG
+        modes[6][termios.VEOF], modes[6][termios.VINTR] = END, INTERRUPT
         termios.tcsetattr(program, termios.TCSANOW, modes)
     try:
         yield user, program

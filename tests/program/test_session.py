@@ -116,6 +116,116 @@ class Session(RoomCase):
             ("explain 4 5", "fault not a command"),
         )
 
+    def test_get_vars_rules_and_recipes_are_those_of_one_name(self):
+        self.room.write("many", b"X = 1\nX = 2 # c\nall: a\n\tcc\nb all:\n\tld\nc:\n\tls\n")
+        talk = self.talk("many")
+        for query, option, word in (
+            ("vars", "--name", "X"),
+            ("vars", "--name", "Y"),
+            ("rules", "--target", "all"),
+            ("recipes", "--target", "all"),
+        ):
+            wanted = self.room.run(query, option, word, "many").stdout
+            self.assertEqual(talk.answer(f"{query} {word}"), wanted, (query, word))
+        self.assertEqual(talk.answer("nth 2 get X"), b"2\n")
+        self.assert_replies(
+            talk,
+            ("get X", "refused 5 Ambiguous 2"),
+            ("get Y", "refused 4 NoSuch"),
+            ("nth 3 get X", "refused 4 NoSuch"),
+            ("nth 0 get X", "refused 4 NoSuch"),
+            ("get a:b", "refused 1 BadArgument name"),
+            ("unset Y", "refused 4 NoSuch"),
+            ("nth 1 unset X", "ok"),
+            ("get X Y", "fault not a command"),
+            ("nth x get X", "fault not a command"),
+        )
+        self.assertEqual(talk.answer("get X"), b"2\n")
+
+    def test_help_says_what_the_program_says(self):
+        talk = self.talk("Makefile")
+        for word in ("set", "recipe-insert", "or"):
+            self.assertEqual(talk.answer(f"help {word}"), self.room.run("help", word).stdout)
+        for word in ("vars", "Set", "\udcff"):
+            line = f"help {word}".encode("utf-8", "surrogateescape")
+            self.assertEqual(talk.reply(line), "fault no such command")
+        told = talk.answer("help").decode().split()
+        forms = self.room.run("edit", "--help").stdout.decode().split("blank:\n")[1].split("PLACE is")[0]
+        words = set(re.findall(r"(?:^| {2,})([a-z][a-z-]*)", forms, re.M))
+        self.assertEqual(words - set(told), set())
+
+    def test_history_has_what_can_be_undone_and_redone(self):
+        talk = self.talk("-d", "3", "Makefile")
+        self.assertEqual(talk.answer("history"), b"")
+        self.assert_replies(
+            talk,
+            ("set CC a", "ok"),
+            (' set  CC "b c" \r', "ok"),
+            ("try unset Y", "ok"),
+            ("set Y 1", "refused 4 NoSuch"),
+            ("begin", "ok"),
+            ("set CC d", "ok"),
+            ("assign bottom X = 1", "ok"),
+        )
+        wanted = b'open begin; set CC d; assign bottom X = 1\nundo set  CC "b c"\nundo set CC a\n'
+        self.assertEqual(talk.answer("history"), wanted)
+        self.assertEqual(talk.reply("end"), "ok")
+        self.assert_replies(talk, ("undo", "ok"), ("undo", "ok"))
+        wanted = b'undo set CC a\nredo set  CC "b c"\nredo begin; set CC d; assign bottom X = 1; end\n'
+        self.assertEqual(talk.answer("history"), wanted)
+        self.assert_replies(talk, ("begin", "ok"), ("end", "ok"), ("redo", "ok"), ("redo", "ok"))
+        self.assert_replies(talk, ("set CC e", "ok"), ("try set CC f", "ok"), ("begin", "ok"), ("set CC g", "ok"))
+        self.assertEqual(talk.reply("cancel"), "ok")
+        wanted = b"undo try set CC f\nundo set CC e\nundo begin; set CC d; assign bottom X = 1; end\n"
+        self.assertEqual(talk.answer("history"), wanted)
+        self.assertEqual(talk.reply("revert"), "fault edits beyond the depth")
+        wanted = b"redo begin; set CC d; assign bottom X = 1; end\nredo set CC e\nredo try set CC f\n"
+        self.assertEqual(talk.answer("history"), wanted)
+
+    def test_write_to_another_file_leaves_the_makefile_alone(self):
+        self.room.write("other", b"X = 1\n", mode=0o600)
+        talk = self.talk("Makefile")
+        self.assert_replies(talk, ("set CC clang", "ok"), ("write other", "ok"), ("write new", "ok"))
+        self.assert_holds("other", b"CC = clang # c\n")
+        self.assert_holds("new", b"CC = clang # c\n")
+        self.assertEqual((self.room.folder / "other").stat().st_mode & 0o777, 0o600)
+        self.assert_replies(
+            talk,
+            ("write no/such", "fault cannot write no/such"),
+            ("write .", "fault cannot write ."),
+            ("write a b", "fault not a command"),
+            ("write! other", "fault not a command"),
+            ("quit", UNWRITTEN),
+        )
+        self.assert_holds("Makefile", TEXT)
+        self.room.write("Makefile", b"CC = other\n")
+        self.assertEqual(talk.reply("write Makefile"), CHANGED)
+
+    def test_a_missing_makefile_may_be_opened_as_an_empty_one(self):
+        talk = self.talk("--new", "fresh.mk")
+        self.assertEqual(talk.answer("print"), b"")
+        self.assert_replies(talk, ("assign bottom X = 1", "ok"), ("quit", UNWRITTEN))
+        self.assert_holds("fresh.mk", None)
+        self.assertEqual(talk.reply("write"), "ok")
+        self.assert_holds("fresh.mk", b"X = 1\n")
+        self.assert_replies(talk, ("set X 2", "ok"), ("write", "ok"), ("quit", "ok"))
+        self.assert_holds("fresh.mk", b"X = 2\n")
+        self.assert_talk(b"print\nquit\n", b"| CC = gcc # c\nok\nok\n", "--new", "Makefile")
+        self.assert_talk(b"quit\n", b"ok\n", "--new", "never.mk")
+        self.assert_holds("never.mk", None)
+        self.assert_run(cannot_open("missing"), "session", "missing")
+
+    def test_a_missing_makefile_that_was_made_since_is_not_overwritten(self):
+        talk = self.talk("--new", "fresh.mk")
+        self.assertEqual(talk.reply("assign bottom X = 1"), "ok")
+        self.room.write("fresh.mk", b"Y = 1\n")
+        self.assertEqual(talk.reply("write"), "fault fresh.mk has changed")
+        self.assert_well(self.room.changed())
+        self.assertEqual(talk.reply("write!"), "ok")
+        self.assert_holds("fresh.mk", b"X = 1\n")
+        talk = self.talk("--new", "no/such.mk")
+        self.assert_replies(talk, ("write", "fault cannot write no/such.mk"), ("quit", "ok"))
+
     def test_a_script_that_is_told_gives_the_text_of_a_run(self):
         script = b"set CC clang\nassign bottom X += 1\nbegin\nset X 2\ncancel\nundo\nredo\n"
         self.room.write("steps", script)

@@ -1,11 +1,12 @@
 """A makefile that is open."""
 
+import os
 from contextlib import contextmanager
 from types import TracebackType
 from typing import Iterator, Optional, Type
 
 from .places import Place
-from .talk import PathName, Talk, field
+from .talk import PathName, Talk, field, word
 
 
 class Session:
@@ -16,8 +17,10 @@ class Session:
     only one. `Fault` is raised where the session cannot answer.
     """
 
-    def __init__(self, path: PathName, depth: Optional[int] = None, program: str = "mkedit") -> None:
-        self._talk = Talk(path, depth, program)
+    def __init__(
+        self, path: PathName, depth: Optional[int] = None, program: str = "mkedit", new: bool = False
+    ) -> None:
+        self._talk = Talk(path, depth, program, new)
 
     def __enter__(self) -> "Session":
         return self
@@ -171,17 +174,26 @@ class Session:
         """The difference from the file as it was opened, as `mkedit edit --diff` prints it."""
         return self._told("diff")
 
-    def vars(self) -> str:
-        """What `mkedit vars` prints."""
-        return self._told("vars")
+    def get(self, name: str, nth: Optional[int] = None) -> str:
+        """The value of the assignment that `set` would change; refused as `set` is."""
+        number = ["nth", str(nth)] if nth is not None else []
+        return self._told(*number, "get", word(name))[:-1]
 
-    def rules(self) -> str:
-        """What `mkedit rules` prints."""
-        return self._told("rules")
+    def vars(self, name: Optional[str] = None) -> str:
+        """What `mkedit vars` prints, or `mkedit vars --name NAME`."""
+        return self._told("vars", *([word(name)] if name is not None else []))
 
-    def recipes(self) -> str:
-        """What `mkedit recipes` prints."""
-        return self._told("recipes")
+    def rules(self, target: Optional[str] = None) -> str:
+        """What `mkedit rules` prints, or `mkedit rules --target TARGET`."""
+        return self._told("rules", *([word(target)] if target is not None else []))
+
+    def recipes(self, target: Optional[str] = None) -> str:
+        """What `mkedit recipes` prints, or `mkedit recipes --target TARGET`."""
+        return self._told("recipes", *([word(target)] if target is not None else []))
+
+    def history(self) -> str:
+        """What can be undone and redone, a line each, the last first."""
+        return self._told("history")
 
     def check(self) -> str:
         """What `mkedit check` prints."""
@@ -193,7 +205,11 @@ class Session:
 
     def explain(self, refusal: str) -> str:
         """What `mkedit explain` prints of a refusal, by its name or its number."""
-        return self._told("explain", refusal)
+        return self._told("explain", word(refusal))
+
+    def help(self, command: str) -> str:
+        """What `mkedit help` prints of a command of a script."""
+        return self._told("help", word(command))
 
     # ---- the file
 
@@ -201,7 +217,16 @@ class Session:
         """Puts the text into the file in one step; a fault where the file has changed, unless anyway is true."""
         self._do("write!" if anyway else "write")
 
+    def write_to(self, path: PathName) -> None:
+        """Puts the text into another file in one step; its name has no blank. The open file stays what it is."""
+        self._told("write", word(os.fspath(path)))
 
-def open(path: PathName, depth: Optional[int] = None, program: str = "mkedit") -> Session:
-    """Opens a makefile. depth is how many edits can be undone, from 1 to 10,000; without it 100."""
-    return Session(path, depth, program)
+
+def open(
+    path: PathName, depth: Optional[int] = None, program: str = "mkedit", new: bool = False
+) -> Session:
+    """Opens a makefile. depth is how many edits can be undone, from 1 to 10,000; without it 100.
+
+    If new is true, a makefile that is missing is opened as an empty one, which the first `write` makes.
+    """
+    return Session(path, depth, program, new)

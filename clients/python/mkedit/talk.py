@@ -17,6 +17,9 @@ LINE, OPEN_LINE = b"| ", b"|~ "
 # What has to stand between quotes, and what gets a backslash there.
 QUOTED, ESCAPED = re.compile(r'[ \t\r"]'), re.compile(r'(["\\])')
 
+# What ends a word of a request.
+WORD_END = re.compile(r"[ \t\r\n]")
+
 
 class Refused(Exception):
     """A command was refused, and nothing has changed.
@@ -44,6 +47,13 @@ def field(text: str) -> str:
     return '"' + ESCAPED.sub(r"\\\1", text) + '"'
 
 
+def word(text: str) -> str:
+    """A word of a request, which has no quotes."""
+    if not text or WORD_END.search(text):
+        raise ValueError("a word of a request is not empty, and has no blank in it")
+    return text
+
+
 def refusal(words: Sequence[str]) -> Refused:
     """The refusal of a reply, by its words after the first."""
     number, name, *others = words
@@ -56,8 +66,10 @@ def refusal(words: Sequence[str]) -> Refused:
 class Talk:
     """A running `mkedit session`."""
 
-    def __init__(self, path: PathName, depth: Optional[int], program: str) -> None:
-        words = [program, "session", *(["-d", str(depth)] if depth is not None else []), "--", os.fspath(path)]
+    def __init__(self, path: PathName, depth: Optional[int], program: str, new: bool = False) -> None:
+        options = ["-d", str(depth)] if depth is not None else []
+        options += ["--new"] if new else []
+        words = [program, "session", *options, "--", os.fspath(path)]
         pipe = subprocess.PIPE
         self._process = subprocess.Popen(words, stdin=pipe, stdout=pipe, stderr=pipe)
         if self._read() != GREETING:

@@ -138,6 +138,42 @@ class Client(unittest.TestCase):
         makefile.set("CC", "clang")
         self.assertIn("\n-CC = gcc # c\n+CC = clang # c\n", makefile.diff())
 
+    def test_what_is_of_one_name(self):
+        makefile = self.open()
+        self.assertEqual((makefile.get("CC"), makefile.get("X", nth=2)), ("gcc", "2"))
+        with self.assertRaises(mkedit.Refused) as caught:
+            makefile.get("X")
+        self.assertEqual(caught.exception.number, 5)
+        self.assertEqual(makefile.vars("X"), "3:0: X = 1\n4:0: X = 2\n")
+        self.assertEqual(makefile.rules("all"), "6:0: all: a.o b.o [2]\n")
+        self.assertEqual((makefile.rules("b.o"), makefile.recipes("b.o")), ("", ""))
+        self.assertIn("set NAME VALUE", makefile.help("set"))
+        for name in ("", "a b", "a\nundo"):
+            with self.assertRaises(ValueError):
+                makefile.get(name)
+
+    def test_history_has_what_can_be_undone_and_redone(self):
+        makefile = self.open()
+        makefile.set("CC", "clang")
+        makefile.unset("CFLAGS")
+        makefile.undo()
+        self.assertEqual(makefile.history(), "undo set CC clang\nredo unset CFLAGS\n")
+
+    def test_another_file_may_be_written(self):
+        makefile, other = self.open(), self.path.parent / "other"
+        makefile.set("CC", "clang")
+        makefile.write_to(other)
+        self.assertEqual(other.read_text(), MAKEFILE.replace("gcc", "clang"))
+        self.assertEqual(self.path.read_text(), MAKEFILE)
+
+    def test_a_makefile_may_be_new(self):
+        path = self.path.parent / "fresh.mk"
+        with mkedit.open(path, program=PROGRAM, new=True) as makefile:
+            makefile.assign(mkedit.BOTTOM, "X", "=", "1")
+            self.assertFalse(path.exists())
+            makefile.write()
+        self.assertEqual(path.read_text(), "X = 1\n")
+
     def test_bytes_that_are_no_text_stay(self):
         self.path.write_bytes(b"A = \xff\nB = 1")
         makefile = self.open()

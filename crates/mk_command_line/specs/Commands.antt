@@ -138,6 +138,20 @@ nth_rule = record (new_rule (codes "nth")) {
   value_names = 1;
 }
 
+-- --protocol
+abbrev pub protocol_rule : Rule
+protocol_rule = record (new_rule (codes "protocol")) {
+  long = Some (codes "protocol");
+  action = Some SetTrue;
+}
+
+-- --new
+abbrev pub new_makefile_rule : Rule
+new_makefile_rule = record (new_rule (codes "new")) {
+  long = Some (codes "new");
+  action = Some SetTrue;
+}
+
 -- NAME, which is required
 abbrev pub variable_rule : Rule
 variable_rule = record (new_rule (codes "NAME")) { required = true }
@@ -174,12 +188,16 @@ choice_of Caveats = []
 abbrev pub get_options : List Rule
 get_options = nth_rule ∷ notes_rule ∷ []
 
+-- those of `session`
+abbrev pub session_options : List Rule
+session_options = depth_rule ∷ protocol_rule ∷ new_makefile_rule ∷ []
+
 abbrev arguments_of : CommandName → List Rule
 arguments_of Edit = edit_options ++ script_rule ∷ file_rule ∷ []
 arguments_of (Query query) = choice_of query ++ notes_rule ∷ file_rule ∷ []
 arguments_of Get = get_options ++ variable_rule ∷ file_rule ∷ []
 arguments_of Explain = refusal_rule ∷ []
-arguments_of Session = depth_rule ∷ session_file_rule ∷ []
+arguments_of Session = session_options ++ session_file_rule ∷ []
 
 -- a command with these arguments, and without commands of its own
 abbrev shape_with : Text → List Rule → Shape

@@ -2,8 +2,8 @@
 ghost use Rattle.std.specs.Prelude.{◌≡◌, IfOk, false};
 ghost use Rattle.clap.specs.Words.{rule_of};
 ghost use Rattle.mk_command_line.specs.Commands.{backup_rule, color_rule, depth_rule, diff_rule, expression_rule, file_rule};
-ghost use Rattle.mk_command_line.specs.Commands.{in_place_rule, keep_going_rule, name_rule, notes_rule, nth_rule, output_rule};
-ghost use Rattle.mk_command_line.specs.Commands.{refusal_rule, script_rule, session_file_rule, target_rule, variable_rule};
+ghost use Rattle.mk_command_line.specs.Commands.{in_place_rule, keep_going_rule, name_rule, new_makefile_rule, notes_rule, nth_rule, output_rule};
+ghost use Rattle.mk_command_line.specs.Commands.{protocol_rule, refusal_rule, script_rule, session_file_rule, target_rule, variable_rule};
 
 use crate::request::MAX_DEPTH;
 use clap::builder::ValueParser;
@@ -40,6 +40,10 @@ pub(crate) const NAME: &str = "name";
 pub(crate) const TARGET: &str = "target";
 
 pub(crate) const NTH: &str = "nth";
+
+pub(crate) const PROTOCOL: &str = "protocol";
+
+pub(crate) const NEW: &str = "new";
 
 pub(crate) const VARIABLE: &str = "NAME";
 
@@ -223,6 +227,28 @@ pub(crate) fn refusal<'a>(alloc: Global) -> Arg<'a>
     Arg::new(alloc, REFUSAL)
         .required(true)
         .help("Its number or its name, as the report has them")
+}
+
+/// Whether the replies of a session are those of the protocol.
+pub(crate) fn protocol<'a>(alloc: Global) -> Arg<'a>
+    ensures rule { rule_of result ≡ protocol_rule }
+    ensures local { result.global ≡ false }
+{
+    Arg::new(alloc, PROTOCOL)
+        .long("protocol")
+        .action(ArgAction::SetTrue)
+        .help("Replies as to a program, also at a terminal")
+}
+
+/// Whether a makefile that is missing is opened as an empty one.
+pub(crate) fn new_makefile<'a>(alloc: Global) -> Arg<'a>
+    ensures rule { rule_of result ≡ new_makefile_rule }
+    ensures local { result.global ≡ false }
+{
+    Arg::new(alloc, NEW)
+        .long("new")
+        .action(ArgAction::SetTrue)
+        .help("Opens a FILE that is missing as an empty one; `write` makes it")
 }
 
 /// The makefile of a session.

@@ -2,12 +2,12 @@
 ghost use Rattle.std.specs.Prelude.{◌≡◌, ◌++◌, IfOk, false, map, [], string_bytes};
 ghost use Rattle.clap.specs.Words.{app_of, with_subcommand};
 ghost use Rattle.clap.specs.declared.builder.command.Command.TheViews.{out-Command as fields_of};
-ghost use Rattle.mk_command_line.specs.Commands.{command_app, commands, edit_options, get_options, leaf, output_options, run_options};
+ghost use Rattle.mk_command_line.specs.Commands.{command_app, commands, edit_options, get_options, leaf, output_options, run_options, session_options};
 ghost use Rattle.mk_command_line.specs.Commands.{choice_of, first_command, program_for, program_with, shape_of_command, word_of};
 
 use crate::arguments::{
-    backup, color, depth, diff, expression, file, in_place, keep_going, name, notes, nth, output,
-    refusal, script, session_file, target, variable,
+    backup, color, depth, diff, expression, file, in_place, keep_going, name, new_makefile, notes,
+    nth, output, protocol, refusal, script, session_file, target, variable,
 };
 use crate::command_name::{COMMANDS, CommandName, QueryName, command_named};
 use crate::help;
@@ -108,14 +108,24 @@ fn get<'a>(alloc: Global) -> Result<Command<'a>, AllocError>
     get_options(alloc)?.arg(variable(alloc))?.arg(file(alloc))
 }
 
+// `session` with its options.
+fn session_options<'a>(alloc: Global) -> Result<Command<'a>, AllocError>
+    ensures app { IfOk result (λ session. app_of session
+        ≡ leaf (word_of CommandName.Session) session_options) }
+    ensures local { IfOk result (λ session. (fields_of session).has_globals ≡ false) }
+{
+    titled(alloc, CommandName::Session)
+        .arg(depth(alloc))?
+        .arg(protocol(alloc))?
+        .arg(new_makefile(alloc))
+}
+
 // `session`: a makefile that is edited step by step.
 fn session<'a>(alloc: Global) -> Result<Command<'a>, AllocError>
     ensures app { IfOk result (λ session. app_of session ≡ command_app CommandName.Session) }
     ensures local { IfOk result (λ session. (fields_of session).has_globals ≡ false) }
 {
-    titled(alloc, CommandName::Session)
-        .arg(depth(alloc))?
-        .arg(session_file(alloc))
+    session_options(alloc)?.arg(session_file(alloc))
 }
 
 // The command of this name, with its arguments.

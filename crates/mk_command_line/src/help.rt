@@ -176,10 +176,13 @@ const ABOUT_SESSION: &str = "Answers commands and requests on one makefile, a li
 const SESSION: &str = "\
 Each line of standard input is a command of a script, as `mkedit help edit` lists them, or a request:
     print    print FROM    print FROM TO    diff    vars    rules    recipes    check    caveats
-    explain REFUSAL    write    write!    revert    quit    quit!
+    vars NAME    rules TARGET    recipes TARGET    get NAME    nth N get NAME    history
+    help    help COMMAND    explain REFUSAL
+    write    write!    write FILE    revert    quit    quit!
 Each is answered at once: the lines of an answer, each behind `| `, and then a line `ok`, `refused` with
 the number and the name of the refusal, or `fault` with what is wrong. The first line is the version of
-this protocol, which docs/PROTOCOL.md has. FILE changes by `write` and `write!` alone.
+this protocol, which docs/PROTOCOL.md has. FILE changes by `write` and `write!` alone. At a terminal the
+replies are sentences, and each edit shows the lines that it changes.
 
 Example: with `CC = gcc # c` in config.mk and the lines `set CC clang`, `print`, `undo`, `undo` and `quit`,
     mkedit session config.mk

@@ -114,6 +114,10 @@ pub struct GetWords<'a> {
 pub struct SessionWords<'a> {
     /// How many edits can be undone.
     pub depth: u32,
+    /// Whether the replies are those of the protocol, also at a terminal.
+    pub by_protocol: bool,
+    /// Whether a makefile that is missing is opened as an empty one.
+    pub may_be_new: bool,
     /// The name of the makefile, which is not `-`.
     pub file: &'a str,
 }

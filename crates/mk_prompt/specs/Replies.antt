@@ -1,4 +1,4 @@
--- What a session replies to a line, and what is shown after it.
+-- What comes of a line in a session, what is replied to it, and what is shown after it.
 -- Told in docs/PROTOCOL.md, "Replies".
 use Rattle.std.specs.Prelude.{◌≡◌, ◌⊎◌, ℕ, List, [], ◌∷◌, Result, Ok, Err, codes}
 use Rattle.mk_edit_language.specs.declared.refusal.Refusal.{Refusal}
@@ -11,45 +11,66 @@ use Rattle.mk_run.specs.RunSteps.{IsObeyed}
 use Rattle.mk_run.specs.declared.step.RefusedCommand.{RefusedCommand}
 use Rattle.mk_prompt.specs.declared.answer.Heard as h
 use Rattle.mk_prompt.specs.declared.answer.Heard.TheVariants as heard
+use Rattle.mk_prompt.specs.declared.answer.Obeyed as o
+use Rattle.mk_prompt.specs.declared.answer.Obeyed.TheVariants as obeyed
 
--- the reply to a command for which a growth was refused
-abbrev no_memory : List ℕ
-no_memory = codes "fault no memory\n"
+-- ---- what comes of a line
+
+-- what came of a step, without the number of its line
+abbrev pub came_of : Result (Unit {0}) RefusedCommand → o.Obeyed
+came_of (Ok u) = obeyed.Done
+came_of (Err refused) = obeyed.Refused refused.refusal
+
+-- The steps of a line were obeyed: none is nothing, one is done or refused, and of more none is obeyed.
+abbrev pub AreObeyed : List Step → (old new : Shown (List ℕ)) → o.Obeyed → Type 0
+AreObeyed [] old new result = (result ≡ obeyed.Nothing) × (new ≡ old)
+AreObeyed (step ∷ []) old new result =
+    (told : Result (Unit {0}) RefusedCommand) × IsObeyed step told old new × (result ≡ came_of told)
+AreObeyed (first ∷ second ∷ others) old new result = (result ≡ obeyed.NoCommand) × (new ≡ old)
+
+-- a line of steps was obeyed
+abbrev HasObeyedSteps : (line : List ℕ) → (old new : Shown (List ℕ)) → o.Obeyed → Type 0
+HasObeyedSteps line old new result = (steps : List Step) × IsScript line steps × AreObeyed steps old new result
+
+-- a line has a command for whose texts a growth was refused
+abbrev IsUnread : (line : List ℕ) → (old new : Shown (List ℕ)) → o.Obeyed → Type 0
+IsUnread line old new result =
+    IsScriptFault line script_fault.NoMemory × (new ≡ old) × (result ≡ obeyed.Refused refusal.NoMemory)
+
+-- a line is no line of a script
+abbrev IsNoLine : (line : List ℕ) → (old new : Shown (List ℕ)) → o.Obeyed → Type 0
+IsNoLine line old new result =
+    ((number : ℕ) × HasNoCommand line number) × (new ≡ old) × (result ≡ obeyed.NoCommand)
+
+-- This came of a line in a session, and this is shown before and after it.
+abbrev pub IsLineObeyed : (line : List ℕ) → (old new : Shown (List ℕ)) → o.Obeyed → Type 0
+IsLineObeyed line old new result =
+    HasObeyedSteps line old new result ⊎ (IsUnread line old new result ⊎ IsNoLine line old new result)
+
+-- ---- what is replied to it
 
 -- the reply to a command that was not done
-abbrev refused_reply : Refusal → List ℕ
-refused_reply refusal.NoMemory = no_memory
+abbrev pub refused_reply : Refusal → List ℕ
+refused_reply refusal.NoMemory = codes "fault no memory\n"
 refused_reply r = refusal_text r
 
--- the reply to a command that was obeyed
-abbrev pub reply_to : Result (Unit {0}) RefusedCommand → List ℕ
-reply_to (Ok u) = codes "ok\n"
-reply_to (Err refused) = refused_reply refused.refusal
+-- the reply to what came of a line
+abbrev pub reply_to : o.Obeyed → List ℕ
+reply_to obeyed.Done = codes "ok\n"
+reply_to (obeyed.Refused refusal) = refused_reply refusal
+reply_to obeyed.Nothing = []
+reply_to obeyed.NoCommand = []
 
--- A line is this command, which was obeyed, and this holds of the reply to it.
-pub record IsStepAnswered (line : List ℕ) (old new : Shown (List ℕ)) (Says : List ℕ → Type 0)
-    : Type 0 where
-  pub step : Step
-  pub obeyed : Result (Unit {0}) RefusedCommand
-  pub is_step : IsScript line (step ∷ [])
-  pub is_obeyed : IsObeyed step obeyed old new
-  pub says : Says (reply_to obeyed)
-
--- A line has a command for whose texts a growth was refused, and this holds of the reply to it.
-abbrev IsUnread : (line : List ℕ) → (old new : Shown (List ℕ)) → (Says : List ℕ → Type 0) → Type 0
-IsUnread line old new Says =
-    IsScriptFault line script_fault.NoMemory × (new ≡ old) × Says no_memory
-
--- A line is no command that stands alone: it is none of a script, or it is more than one.
-abbrev IsNoCommand : List ℕ → Type 0
-IsNoCommand line =
-    ((number : ℕ) × HasNoCommand line number)
-    ⊎ ((first second : Step) × (others : List Step) × IsScript line (first ∷ second ∷ others))
+-- what a line was of which this came
+abbrev heard_as : o.Obeyed → h.Heard
+heard_as obeyed.Done = heard.Command
+heard_as (obeyed.Refused refusal) = heard.Command
+heard_as obeyed.Nothing = heard.Nothing
+heard_as obeyed.NoCommand = heard.NoCommand
 
 -- A session has answered a line: this holds of its reply, and this is shown before and after it.
 abbrev pub IsAnswered : (line : List ℕ) → (old new : Shown (List ℕ)) → (Says : List ℕ → Type 0)
     → h.Heard → Type 0
-IsAnswered line old new Says heard.Command =
-    IsStepAnswered line old new Says ⊎ IsUnread line old new Says
-IsAnswered line old new Says heard.Nothing = IsScript line [] × (new ≡ old) × Says []
-IsAnswered line old new Says heard.NoCommand = IsNoCommand line × (new ≡ old) × Says []
+IsAnswered line old new Says heard =
+    (result : o.Obeyed) × IsLineObeyed line old new result × (heard ≡ heard_as result)
+    × Says (reply_to result)

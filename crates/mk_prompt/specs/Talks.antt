@@ -1,5 +1,6 @@
--- Lines that are read and answered, one after the other. A listener of the type L says what hearing a
--- line comes to: before it, the line, the reply, whether the talk goes on, and after it.
+-- Lines that are read and answered, one after the other. A listener of the type L says what it says
+-- before the first line, what it replies to a line that is too long, and what hearing a line comes to:
+-- before it, the line, the reply, whether the talk goes on, and after it.
 -- Told in docs/PROTOCOL.md, "Lines" and "Replies".
 use Rattle.std.specs.Prelude.{◌≡◌, ◌⊎◌, ℕ, List, [], ◌∷◌, ◌++◌, Option, IfSome, codes}
 use Rattle.std.specs.Io.KnownBytes.{Appends}
@@ -10,12 +11,12 @@ use Rattle.mk_prompt.specs.declared.line.LineRead.TheVariants as line_read
 use Rattle.mk_prompt.specs.declared.talk.After.{After}
 use Rattle.mk_prompt.specs.declared.talk.After.TheVariants.{GoesOn, Ends}
 
--- the first line that goes out
+-- the first line of the protocol
 abbrev pub greeting : List ℕ
 greeting = codes "mkedit session 1\n"
 
--- the reply to a line that is too long
-abbrev too_long : List ℕ
+-- the reply of the protocol to a line that is too long
+abbrev pub too_long : List ℕ
 too_long = codes "fault line too long\n"
 
 -- A text went out, of which this holds.
@@ -26,20 +27,21 @@ SaysOut before after Says = (text : List ℕ) × Appends before after text × Sa
 abbrev pub BeginsWith : (bytes : Option (List ℕ)) → (lines rest : List (List ℕ)) → Type 0
 BeginsWith bytes lines rest = IfSome bytes (λ text. physical_lines text ≡ lines ++ rest)
 
-module _ {L : Type 0} (hears : L → List ℕ → List ℕ → After → L → Type 0) where
+module _ {L : Type 0} (turns_down : L → List ℕ → Type 0)
+    (hears : L → List ℕ → List ℕ → After → L → Type 0) where
   -- what was read gets this reply; at the end of the source there is none
   abbrev pub IsReadReplied : read.LineRead → (line : List ℕ) → (old : L) → (reply : List ℕ) → After
       → (new : L) → Type 0
   IsReadReplied line_read.Line line old reply after new = hears old line reply after new
   IsReadReplied line_read.TooLong line old reply after new =
-      (reply ≡ too_long) × (after ≡ GoesOn) × (new ≡ old)
+      turns_down old reply × (after ≡ GoesOn) × (new ≡ old)
   IsReadReplied line_read.End line old reply after new = (reply ≡ []) × (after ≡ Ends) × (new ≡ old)
 
   -- a line gets this reply: the listener's, or that on a line that is too long
   abbrev pub IsReplied : (line : List ℕ) → (old : L) → (reply : List ℕ) → After → (new : L) → Type 0
   IsReplied line old reply after new =
       (IsShort line × hears old line reply after new)
-      ⊎ (IsLong line × (reply ≡ too_long) × (after ≡ GoesOn) × (new ≡ old))
+      ⊎ (IsLong line × turns_down old reply × (after ≡ GoesOn) × (new ≡ old))
 
   -- lines, one after the other, get these replies, and the talk goes on after each of them
   abbrev pub GoesOver : List (List ℕ) → (old : L) → (replies : List ℕ) → (new : L) → Type 0
@@ -70,8 +72,11 @@ module _ {L : Type 0} (hears : L → List ℕ → List ℕ → After → L → T
     pub ends : IsReplied last middle reply Ends new
     pub replies_are : replies ≡ before ++ reply
 
-  -- A talk over the bytes of a source: this went out.
-  abbrev pub IsTalk : (bytes : Option (List ℕ)) → (old : L) → (out : List ℕ) → (new : L) → Type 0
-  IsTalk bytes old out new =
-      (replies : List ℕ) × (out ≡ greeting ++ replies)
-      × (IsAnsweredToTheEnd bytes old replies new ⊎ IsAnsweredToALine bytes old replies new)
+-- A talk over the bytes of a source: this went out, the greeting first.
+abbrev pub IsTalk : {L : Type 0} → (greets turns_down : L → List ℕ → Type 0)
+    → (hears : L → List ℕ → List ℕ → After → L → Type 0)
+    → (bytes : Option (List ℕ)) → (old : L) → (out : List ℕ) → (new : L) → Type 0
+IsTalk greets turns_down hears bytes old out new =
+    (first replies : List ℕ) × greets old first × (out ≡ first ++ replies)
+    × (IsAnsweredToTheEnd turns_down hears bytes old replies new
+    ⊎ IsAnsweredToALine turns_down hears bytes old replies new)

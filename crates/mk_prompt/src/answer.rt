@@ -1,12 +1,13 @@
 //! A line, and the reply to it.
-ghost use Rattle.std.specs.Prelude.{◌≡◌, false, true, IfErr, IfOk, OnOk};
+ghost use Rattle.std.specs.Prelude.{◌≡◌, false, true, map, IfErr, IfOk, OnOk};
 ghost use Rattle.mk_run.specs.RunEnds.{IsOut, IsPrefixOut, written};
 ghost use Rattle.mk_lines.specs.Device.{Writes};
-ghost use Rattle.mk_prompt.specs.Replies.{IsAnswered, reply_to};
+ghost use Rattle.mk_script.specs.Scripts.{step_of};
+ghost use Rattle.mk_prompt.specs.Replies.{AreObeyed, IsAnswered, IsLineObeyed, came_of, refused_reply, reply_to};
 
 use mk_lines::sink::write_all;
 use mk_lines::{ByteSink, Fault};
-use mk_run::{RefusedCommand, ScriptFault, Witness, obey_step, parse_script, write_refusal};
+use mk_run::{RefusedCommand, ScriptFault, Step, Witness, obey_step, parse_script, write_refusal};
 use mk_session::{Refusal, Session};
 use std::alloc::Allocator;
 
@@ -22,9 +23,62 @@ pub enum Heard {
     NoCommand,
 }
 
-/// Obeys the command of a line, and writes the reply to it. The line is one of a script: its line end
+/// What came of a line in a session.
+#[derive(Clone, Copy, Debug, PartialEq, Eq)]
+pub enum Obeyed {
+    /// The command was done, or behind `try` there was nothing to do.
+    Done,
+    /// The command was refused, and nothing has changed. [`Refusal::NoMemory`] says that a growth was
+    /// refused.
+    Refused(Refusal),
+    /// The line is a comment, or has blanks only.
+    Nothing,
+    /// The line is no command of a script that can stand alone.
+    NoCommand,
+}
+
+// What came of a step that was obeyed.
+fn came_of(obeyed: Result<(), RefusedCommand>) -> Obeyed
+    ensures { result ≡ came_of obeyed }
+{
+    match obeyed {
+        Ok(()) => Obeyed::Done,
+        Err(refused) => Obeyed::Refused(refused.refusal),
+    }
+}
+
+// Obeys the steps of a line, of which there may be one.
+fn obey_only<A: Allocator + Copy, T: Witness<A>>(
+    session: &mut Session<A>,
+    steps: &[Step<A>],
+    witness: &mut T,
+) -> Obeyed
+    ensures { AreObeyed (map step_of steps.now) session.old.shown session.new.shown result }
+{
+    match steps {
+        [] => Obeyed::Nothing,
+        [step] => came_of(obey_step(session, step, witness)),
+        _ => Obeyed::NoCommand,
+    }
+}
+
+/// Obeys the command of a line, and says what came of it. The line is one of a script: its line end
 /// is LF, CR LF or none. It may begin with `try`; `or` needs the lines above it, and is no command
-/// here. Nothing is flushed. `witness` is told of each edit that is made.
+/// here. `witness` is told of each edit that is made.
+pub fn obey_line<A, T>(alloc: A, session: &mut Session<A>, line: &[u8], witness: &mut T) -> Obeyed
+where
+    A: Allocator + Copy,
+    T: Witness<A>,
+    ensures { IsLineObeyed line.now session.old.shown session.new.shown result }
+{
+    match parse_script(alloc, line) {
+        Ok(steps) => obey_only(session, steps.as_slice(), witness),
+        Err(ScriptFault::NotACommand(_)) => Obeyed::NoCommand,
+        Err(ScriptFault::NoMemory) => Obeyed::Refused(Refusal::NoMemory),
+    }
+}
+
+/// Obeys the command of a line as [`obey_line`] does, and writes the reply to it. Nothing is flushed.
 ///
 /// | Reply | When |
 /// |---|---|
@@ -59,37 +113,43 @@ where
     ensures works { OnOk result (W.failed out.new ≡ false) }
     ensures unflushed { W.flushes out.new ≡ W.flushes out.old }
 {
-    let steps = match parse_script(alloc, line) {
-        Ok(steps) => steps,
-        Err(ScriptFault::NotACommand(_)) => return Ok(Heard::NoCommand),
-        Err(ScriptFault::NoMemory) => {
-            write_all(out, NO_MEMORY)?;
-            return Ok(Heard::Command);
-        }
-    };
-    match steps.as_slice() {
-        [] => Ok(Heard::Nothing),
-        [step] => {
-            reply_to(obey_step(session, step, witness), out)?;
+    match obey_line(alloc, session, line, witness) {
+        Obeyed::Done => {
+            write_reply(Obeyed::Done, out)?;
             Ok(Heard::Command)
         }
-        _ => Ok(Heard::NoCommand),
+        Obeyed::Refused(refusal) => {
+            write_reply(Obeyed::Refused(refusal), out)?;
+            Ok(Heard::Command)
+        }
+        Obeyed::Nothing => Ok(Heard::Nothing),
+        Obeyed::NoCommand => Ok(Heard::NoCommand),
     }
 }
 
-// What is said of a command for which a growth was refused.
-const NO_MEMORY: &[u8] = b"fault no memory\n";
+// Writes the reply to a command that was refused.
+fn write_refused<W: ByteSink>(refusal: Refusal, out: &mut W) -> Result<(), Fault>
+    requires { W.failed out.old ≡ false }
+    ensures { Writes W.contents W.failed W.flushes out.old out.new result (refused_reply refusal) }
+{
+    match refusal {
+        Refusal::NoMemory => write_all(out, b"fault no memory\n"),
+        refusal => write_refusal(out, refusal),
+    }
+}
 
-// Writes the reply to a command that was obeyed.
-fn reply_to<W: ByteSink>(obeyed: Result<(), RefusedCommand>, out: &mut W) -> Result<(), Fault>
+/// Writes the reply to what came of a line: that of [`answer_line`] to a command, and nothing else.
+///
+/// # Errors
+///
+/// [`Fault::Write`] if the sink failed. A prefix of the reply is out then.
+pub fn write_reply<W: ByteSink>(obeyed: Obeyed, out: &mut W) -> Result<(), Fault>
     requires { W.failed out.old ≡ false }
     ensures { Writes W.contents W.failed W.flushes out.old out.new result (reply_to obeyed) }
 {
-    let Err(refused) = obeyed else {
-        return write_all(out, b"ok\n");
-    };
-    match refused.refusal {
-        Refusal::NoMemory => write_all(out, NO_MEMORY),
-        refusal => write_refusal(out, refusal),
+    match obeyed {
+        Obeyed::Done => write_all(out, b"ok\n"),
+        Obeyed::Refused(refusal) => write_refused(refusal, out),
+        Obeyed::Nothing | Obeyed::NoCommand => write_all(out, b""),
     }
 }

@@ -1,7 +1,7 @@
 //! What a line asks for that is no command of a script.
 ghost use Rattle.std.specs.Prelude.{◌≡◌, ◌≤◌, length, option_map};
 ghost use Rattle.mk_prompt.specs.Requests.{after_word, asked_of, before_word, first_word, gap_length, is_gap, number, print_between};
-ghost use Rattle.mk_prompt.specs.Requests.{request_alone, request_by, request_in, request_named, request_with, word_length};
+ghost use Rattle.mk_prompt.specs.Requests.{get_nth, request_alone, request_by, request_in, request_named, request_of_named, request_with, word_length};
 
 /// A request that is one word.
 #[derive(Clone, Copy, Debug, PartialEq, Eq)]
@@ -22,6 +22,10 @@ pub enum RequestWord {
     Write,
     /// `write!`: the text goes into the file.
     WriteAnyway,
+    /// `history`: what can be undone and redone.
+    History,
+    /// `help`: the commands and the requests.
+    Help,
     /// `revert`: all that can be undone is undone.
     Revert,
     /// `quit`: the session ends, if nothing is unwritten.
@@ -30,21 +34,48 @@ pub enum RequestWord {
     QuitAnyway,
 }
 
+/// The first word of a request of two words.
+#[derive(Clone, Copy, Debug, PartialEq, Eq)]
+pub enum RequestOf {
+    /// `explain REFUSAL`: what is said of the refusal that this word calls.
+    Explain,
+    /// `help COMMAND`: what is said of the command of a script that has this word.
+    Help,
+    /// `get NAME`: the value of the only assignment of this name.
+    Get,
+    /// `vars NAME`: the assignments of this name.
+    Vars,
+    /// `rules TARGET`: the rules for this target.
+    Rules,
+    /// `recipes TARGET`: the recipe lines of the rules for this target.
+    Recipes,
+    /// `write FILE`: the text goes into another file.
+    Write,
+}
+
 /// What a line asks for.
 #[derive(Clone, Copy, Debug, PartialEq, Eq)]
 pub enum Request<'a> {
     /// `print`, `print FROM` or `print FROM TO`: the lines of the text from one number to another. The
     /// first line has the number 1. Without TO the second number is 2^64 - 1, which no line has.
     Print(u64, u64),
-    /// `explain REFUSAL`: what is said of the refusal that this word calls.
-    Explain(&'a [u8]),
+    /// `nth N get NAME`: the value of the assignment of this name that has this number, from 1.
+    GetNth(u64, &'a [u8]),
+    /// A request of two words, by its first word and its second.
+    Of(RequestOf, &'a [u8]),
     /// A request of one word.
     Word(RequestWord),
 }
 
 const PRINT: &[u8] = b"print";
 
+const NTH: &[u8] = b"nth";
+
 const EXPLAIN: &[u8] = b"explain";
+
+const HELP: &[u8] = b"help";
+
+const GET: &[u8] = b"get";
 
 const DIFF: &[u8] = b"diff";
 
@@ -61,6 +92,8 @@ const CAVEATS: &[u8] = b"caveats";
 const WRITE: &[u8] = b"write";
 
 const WRITE_ANYWAY: &[u8] = b"write!";
+
+const HISTORY: &[u8] = b"history";
 
 const REVERT: &[u8] = b"revert";
 
@@ -147,6 +180,10 @@ fn request_named(word: &[u8]) -> Option<RequestWord>
         Some(RequestWord::Write)
     } else if word == WRITE_ANYWAY {
         Some(RequestWord::WriteAnyway)
+    } else if word == HISTORY {
+        Some(RequestWord::History)
+    } else if word == HELP {
+        Some(RequestWord::Help)
     } else if word == REVERT {
         Some(RequestWord::Revert)
     } else if word == QUIT {
@@ -158,16 +195,37 @@ fn request_named(word: &[u8]) -> Option<RequestWord>
     }
 }
 
+// The request of two words whose first word this is.
+fn request_of_named(word: &[u8]) -> Option<RequestOf>
+    ensures { result ≡ request_of_named word.now }
+{
+    if word == EXPLAIN {
+        Some(RequestOf::Explain)
+    } else if word == HELP {
+        Some(RequestOf::Help)
+    } else if word == GET {
+        Some(RequestOf::Get)
+    } else if word == VARS {
+        Some(RequestOf::Vars)
+    } else if word == RULES {
+        Some(RequestOf::Rules)
+    } else if word == RECIPES {
+        Some(RequestOf::Recipes)
+    } else if word == WRITE {
+        Some(RequestOf::Write)
+    } else {
+        None
+    }
+}
+
 // A request with one word behind its first.
 fn request_with<'a>(first: &[u8], second: &'a [u8]) -> Option<Request<'a>>
     ensures { option_map asked_of result ≡ request_with first.now second.now }
 {
     if first == PRINT {
         Some(Request::Print(number(second)?, u64::MAX))
-    } else if first == EXPLAIN {
-        Some(Request::Explain(second))
     } else {
-        None
+        Some(Request::Of(request_of_named(first)?, second))
     }
 }
 
@@ -176,6 +234,13 @@ fn print_between<'a>(from: &[u8], to: &[u8]) -> Option<Request<'a>>
     ensures { option_map asked_of result ≡ print_between from.now to.now }
 {
     Some(Request::Print(number(from)?, number(to)?))
+}
+
+// The value of one of several assignments.
+fn get_nth<'a>(nth: &[u8], name: &'a [u8]) -> Option<Request<'a>>
+    ensures { option_map asked_of result ≡ get_nth nth.now name.now }
+{
+    Some(Request::GetNth(number(nth)?, name))
 }
 
 // The request of a word alone.
@@ -189,9 +254,16 @@ fn request_alone<'a>(word: &[u8]) -> Option<Request<'a>>
     }
 }
 
-// The request of a line by its first three words, of which an empty one is none, and by what follows.
-fn request_by<'a>(first: &[u8], second: &'a [u8], third: &[u8], rest: &[u8]) -> Option<Request<'a>>
-    ensures { option_map asked_of result ≡ request_by first.now second.now third.now rest.now }
+// The request of a line by its first four words, of which an empty one is none, and by what follows.
+fn request_by<'a>(
+    first: &[u8],
+    second: &'a [u8],
+    third: &[u8],
+    fourth: &'a [u8],
+    rest: &[u8],
+) -> Option<Request<'a>>
+    ensures { option_map asked_of result
+        ≡ request_by first.now second.now third.now fourth.now rest.now }
 {
     if second.is_empty() {
         return request_alone(first);
@@ -199,8 +271,11 @@ fn request_by<'a>(first: &[u8], second: &'a [u8], third: &[u8], rest: &[u8]) -> 
     if third.is_empty() {
         return request_with(first, second);
     }
-    if rest.is_empty() && first == PRINT {
+    if fourth.is_empty() && first == PRINT {
         return print_between(second, third);
+    }
+    if rest.is_empty() && first == NTH && third == GET && !fourth.is_empty() {
+        return get_nth(second, fourth);
     }
     None
 }
@@ -214,5 +289,6 @@ pub fn read_request(line: &[u8]) -> Option<Request<'_>>
     let (first, rest) = first_word(line);
     let (second, rest) = first_word(rest);
     let (third, rest) = first_word(rest);
-    request_by(first, second, third, before_word(rest))
+    let (fourth, rest) = first_word(rest);
+    request_by(first, second, third, fourth, before_word(rest))
 }

@@ -1,7 +1,7 @@
 //! A talk: lines that are read and answered, one after the other.
 ghost use Rattle.std.specs.Prelude.{◌≡◌, List, false, true, ℕ, ⊤, IfErr, IfOk, OnOk};
-ghost use Rattle.std.specs.Io.KnownBytes.{Appends};
-ghost use Rattle.mk_prompt.specs.Talks.{IsReadReplied, IsTalk, SaysOut, greeting};
+ghost use Rattle.mk_lines.specs.Device.{Writes};
+ghost use Rattle.mk_prompt.specs.Talks.{IsReadReplied, IsTalk, SaysOut, greeting, too_long};
 
 use crate::line::{LineRead, MAX_LINE, read_line};
 use mk_lines::sink::write_all;
@@ -21,9 +21,37 @@ pub enum After {
 pub trait Listener {
     ghost use Rattle.mk_prompt.specs.declared.talk.After.{After};
 
+    // What the listener says before the first line. The default says nothing of it.
+    ghost greets: { Self → List ℕ → Type 0 } = { λ _ _. ⊤ };
+
+    // The reply to a line that is too long. The default says nothing of it.
+    ghost turns_down: { Self → List ℕ → Type 0 } = { λ _ _. ⊤ };
+
     // What hearing a line comes to: the listener before it, the line, the reply, whether the talk goes
     // on, and the listener after it. The default says nothing.
     ghost hears: { Self → List ℕ → List ℕ → After → Self → Type 0 } = { λ _ _ _ _ _. ⊤ };
+
+    /// Says what stands before the first line is read. Nothing is flushed.
+    ///
+    /// # Errors
+    ///
+    /// [`Fault::Write`] if the sink failed.
+    fn greet<W: ByteSink>(&self, out: &mut W) -> Result<(), Fault>
+        requires { W.failed out.old ≡ false }
+        ensures greeted { OnOk result (SaysOut (W.contents out.old) (W.contents out.new)
+            (greets self.now)) }
+        ensures works { OnOk result (W.failed out.new ≡ false) };
+
+    /// Replies to a line that is too long, of which the listener does not hear more. Nothing is flushed.
+    ///
+    /// # Errors
+    ///
+    /// [`Fault::Write`] if the sink failed.
+    fn turn_down<W: ByteSink>(&self, out: &mut W) -> Result<(), Fault>
+        requires { W.failed out.old ≡ false }
+        ensures turned { OnOk result (SaysOut (W.contents out.old) (W.contents out.new)
+            (turns_down self.now)) }
+        ensures works { OnOk result (W.failed out.new ≡ false) };
 
     /// Replies to a line, of which the last may have no line feed, and says whether the talk goes on.
     /// Nothing is flushed.
@@ -39,19 +67,38 @@ pub trait Listener {
         ensures works { OnOk result (W.failed out.new ≡ false) };
 }
 
-// The first line that is written, with the version of the protocol.
-const GREETING: &[u8] = b"mkedit session 1\n";
-
-// The reply to a line that is too long.
-const TOO_LONG: &[u8] = b"fault line too long\n";
-
-// Writes the greeting, and flushes it.
-fn greet<W: ByteSink>(out: &mut W) -> Result<(), Fault>
+/// Writes the first line of the protocol, which has its version.
+///
+/// # Errors
+///
+/// [`Fault::Write`] if the sink failed. A prefix of the line is out then.
+pub fn write_greeting<W: ByteSink>(out: &mut W) -> Result<(), Fault>
     requires { W.failed out.old ≡ false }
-    ensures greeted { OnOk result (Appends (W.contents out.old) (W.contents out.new) greeting) }
+    ensures { Writes W.contents W.failed W.flushes out.old out.new result greeting }
+{
+    write_all(out, b"mkedit session 1\n")
+}
+
+/// Writes the reply of the protocol to a line that is too long.
+///
+/// # Errors
+///
+/// [`Fault::Write`] if the sink failed. A prefix of the reply is out then.
+pub fn write_too_long<W: ByteSink>(out: &mut W) -> Result<(), Fault>
+    requires { W.failed out.old ≡ false }
+    ensures { Writes W.contents W.failed W.flushes out.old out.new result too_long }
+{
+    write_all(out, b"fault line too long\n")
+}
+
+// Has the listener say what stands before the first line, and flushes it.
+fn greet<L: Listener, W: ByteSink>(listener: &L, out: &mut W) -> Result<(), Fault>
+    requires { W.failed out.old ≡ false }
+    ensures greeted { OnOk result (SaysOut (W.contents out.old) (W.contents out.new)
+        (L.greets listener.now)) }
     ensures works { OnOk result (W.failed out.new ≡ false) }
 {
-    write_all(out, GREETING)?;
+    listener.greet(out)?;
     out.flush()
 }
 
@@ -64,13 +111,13 @@ fn hear_read<L: Listener, W: ByteSink>(
 ) -> Result<After, Fault>
     requires { W.failed out.old ≡ false }
     ensures replied { IfOk result (λ after. SaysOut (W.contents out.old) (W.contents out.new)
-        (λ reply. IsReadReplied L.hears read line.now listener.old reply after listener.new)) }
+        (λ reply. IsReadReplied L.turns_down L.hears read line.now listener.old reply after listener.new)) }
     ensures works { OnOk result (W.failed out.new ≡ false) }
 {
     match read {
         LineRead::Line => listener.hear(line, out),
         LineRead::TooLong => {
-            write_all(out, TOO_LONG)?;
+            listener.turn_down(out)?;
             Ok(After::GoesOn)
         }
         LineRead::End => Ok(After::Ends),
@@ -86,7 +133,7 @@ fn reply<L: Listener, W: ByteSink>(
 ) -> Result<After, Fault>
     requires { W.failed out.old ≡ false }
     ensures replied { IfOk result (λ after. SaysOut (W.contents out.old) (W.contents out.new)
-        (λ reply. IsReadReplied L.hears read line.now listener.old reply after listener.new)) }
+        (λ reply. IsReadReplied L.turns_down L.hears read line.now listener.old reply after listener.new)) }
     ensures works { OnOk result (W.failed out.new ≡ false) }
 {
     let after = hear_read(listener, read, line, out)?;
@@ -94,8 +141,8 @@ fn reply<L: Listener, W: ByteSink>(
     Ok(after)
 }
 
-/// Writes the greeting, then reads line after line and has the listener reply, until it says that the
-/// talk ends, or until there is no line any more. After the greeting and after each reply the sink is
+/// Has the listener greet, then reads line after line and has it reply, until it says that the talk
+/// ends, or until there is no line any more. After the greeting and after each reply the sink is
 /// flushed, before more is read.
 ///
 /// # Errors
@@ -118,10 +165,12 @@ where
     requires source_works { S.failed source.old ≡ false }
     requires out_works { W.failed out.old ≡ false }
     ensures talk { OnOk result (SaysOut (W.contents out.old) (W.contents out.new)
-        (λ said. IsTalk L.hears (S.remaining source.old) listener.old said listener.new)) }
+        (λ said. IsTalk L.greets L.turns_down L.hears (S.remaining source.old) listener.old said listener.new)) }
+    ensures source { OnOk result (S.failed source.new ≡ false) }
+    ensures works { OnOk result (W.failed out.new ≡ false) }
 {
     let mut line = Vec::with_capacity(alloc, MAX_LINE)?;
-    greet(out)?;
+    greet(listener, out)?;
     for _ in 0..u64::MAX {
         let read = read_line(source, &mut line)?;
         match reply(listener, read, line.as_slice(), out)? {

@@ -3,8 +3,8 @@
 ghost use Rattle.std.specs.Prelude.{◌≡◌, ◌<◌, false};
 
 use mk_lines::{ByteSink, Fault};
-use mk_prompt::{Heard, answer_line};
-use mk_session::Session;
+use mk_prompt::{Heard, Obeyed, answer_line, obey_line};
+use mk_session::{Refusal, Session};
 use std::alloc::Allocator;
 use std::process::Abort;
 use std::test::Fail;
@@ -67,6 +67,26 @@ fn rows_at_any_step(rt: HostRuntime) -> Result<(), Fail> {
         }
         assert_eq!(rt; text_of(&rt, &session)?.bytes(), EDITED);
     }
+    Ok(())
+}
+
+// A line, and what comes of it.
+const CAME: [(&[u8], Obeyed); 6] = [
+    (b"set CC clang\n", Obeyed::Done),
+    (b"try set Y 1\n", Obeyed::Done),
+    (b"set X 3\n", Obeyed::Refused(Refusal::Ambiguous(2))),
+    (b"# set CC gcc\n", Obeyed::Nothing),
+    (b"print\n", Obeyed::NoCommand),
+    (b"undo\nundo\n", Obeyed::NoCommand),
+];
+
+#[test]
+fn it_is_told_what_came_of_a_line(rt: HostRuntime) -> Result<(), Fail> {
+    let mut session = Session::open(rt.alloc(), MAKEFILE, 100)?;
+    for (line, came) in CAME {
+        assert_eq!(rt; obey_line(rt.alloc(), &mut session, line, &mut ()), came);
+    }
+    assert_eq!(rt; text_of(&rt, &session)?.bytes(), EDITED);
     Ok(())
 }
 

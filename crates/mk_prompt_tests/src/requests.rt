@@ -1,21 +1,33 @@
 //! Tests of what a line asks for, and of the lines of an answer, over an allocator that refuses each
 //! growth in turn.
 
-use mk_prompt::{Request, RequestWord, answer_lines, line_length, lines_between, read_request};
+use mk_prompt::{
+    Request, RequestOf, RequestWord, answer_lines, line_length, lines_between, read_request,
+};
 use std::process::Abort;
 use std::test::Fail;
 use watched::Watched;
 
 const LAST: u64 = u64::MAX;
 
-const REQUESTS: [(&[u8], Request<'static>); 19] = [
+const REQUESTS: [(&[u8], Request<'static>); 29] = [
     (b"print\n", Request::Print(1, LAST)),
     (b" \tprint\t \r\n", Request::Print(1, LAST)),
     (b"print 7", Request::Print(7, LAST)),
     (b"print 0 999999999\n", Request::Print(0, 999_999_999)),
     (b"print 000000012 3\n", Request::Print(12, 3)),
-    (b"explain 4\n", Request::Explain(b"4")),
-    (b"explain \xff\n", Request::Explain(b"\xff")),
+    (b"explain 4\n", Request::Of(RequestOf::Explain, b"4")),
+    (b"explain \xff\n", Request::Of(RequestOf::Explain, b"\xff")),
+    (b"help set\n", Request::Of(RequestOf::Help, b"set")),
+    (b"get CC\n", Request::Of(RequestOf::Get, b"CC")),
+    (b"nth 2 get CC\n", Request::GetNth(2, b"CC")),
+    (b" nth\t02\tget  CC \r\n", Request::GetNth(2, b"CC")),
+    (b"vars CC\n", Request::Of(RequestOf::Vars, b"CC")),
+    (b"rules all\n", Request::Of(RequestOf::Rules, b"all")),
+    (b"recipes all\n", Request::Of(RequestOf::Recipes, b"all")),
+    (b"write a.mk\n", Request::Of(RequestOf::Write, b"a.mk")),
+    (b"history\n", Request::Word(RequestWord::History)),
+    (b"help\n", Request::Word(RequestWord::Help)),
     (b"diff\n", Request::Word(RequestWord::Diff)),
     (b"vars\n", Request::Word(RequestWord::Vars)),
     (b"rules\n", Request::Word(RequestWord::Rules)),
@@ -30,7 +42,7 @@ const REQUESTS: [(&[u8], Request<'static>); 19] = [
     (b"quit!", Request::Word(RequestWord::QuitAnyway)),
 ];
 
-const OTHERS: [&[u8]; 16] = [
+const OTHERS: [&[u8]; 27] = [
     b"",
     b"\n",
     b" \t\r\n",
@@ -47,6 +59,17 @@ const OTHERS: [&[u8]; 16] = [
     b"explain\n",
     b"explain 4 5\n",
     b"diff 1\n",
+    b"get\n",
+    b"get CC 2\n",
+    b"nth\n",
+    b"nth 2\n",
+    b"nth 2 get\n",
+    b"nth x get CC\n",
+    b"nth 2 get CC X\n",
+    b"nth 2 vars CC\n",
+    b"vars A B\n",
+    b"write! a.mk\n",
+    b"history 1\n",
 ];
 
 #[test]

@@ -2,9 +2,9 @@
 //! growth in turn.
 ghost use Rattle.std.specs.Prelude.{◌≡◌, false};
 
-use mk_lines::sink::write_parts;
+use mk_lines::sink::{write_all, write_parts};
 use mk_lines::{ByteSink, Fault};
-use mk_prompt::{After, Listener, converse};
+use mk_prompt::{After, Listener, MAX_LINE, converse, write_greeting, write_too_long};
 use std::process::Abort;
 use std::test::Fail;
 use test_devices::{MemorySink, MemorySource};
@@ -15,6 +15,14 @@ use watched::Watched;
 struct Echo;
 
 impl Listener for Echo {
+    fn greet<W: ByteSink>(&self, out: &mut W) -> Result<(), Fault> {
+        write_greeting(out)
+    }
+
+    fn turn_down<W: ByteSink>(&self, out: &mut W) -> Result<(), Fault> {
+        write_too_long(out)
+    }
+
     fn hear<W: ByteSink>(&mut self, line: &[u8], out: &mut W) -> Result<After, Fault> {
         write_parts(out, &[b"[", line, b"]\n"])?;
         Ok(if line.first() == Some(&b'q') {
@@ -90,4 +98,37 @@ fn without_memory_for_a_line_nothing_is_said(rt: HostRuntime) {
     assert_eq!(rt; talked, Err(Fault::NoMemory));
     assert!(rt; out.bytes().is_empty());
     assert_eq!(rt; source.left(), 2);
+}
+
+// Asks for each line by a prompt.
+#[derive(Drop)]
+struct Prompting;
+
+impl Listener for Prompting {
+    fn greet<W: ByteSink>(&self, out: &mut W) -> Result<(), Fault> {
+        write_all(out, b"> ")
+    }
+
+    fn turn_down<W: ByteSink>(&self, out: &mut W) -> Result<(), Fault> {
+        write_all(out, b"long\n> ")
+    }
+
+    fn hear<W: ByteSink>(&mut self, line: &[u8], out: &mut W) -> Result<After, Fault> {
+        write_parts(out, &[line, b"> "])?;
+        Ok(After::GoesOn)
+    }
+}
+
+#[test]
+fn a_listener_may_ask_for_each_line(rt: HostRuntime) -> Result<(), Fail> {
+    let mut lines = Vec::from_slice(rt.alloc(), b"a\n")?;
+    for _ in 0..MAX_LINE {
+        lines.extend_from_slice(b"x")?;
+    }
+    lines.extend_from_slice(b"\nb\n")?;
+    let mut source = MemorySource::new(lines.as_slice(), 1000);
+    let mut out = MemorySink::new(Vec::new(rt.alloc()), 100);
+    converse(rt.alloc(), &mut source, &mut Prompting, &mut out)?;
+    assert_eq!(rt; out.bytes(), b"> a\n> long\n> b\n> ".as_slice());
+    Ok(())
 }

@@ -6,5 +6,3 @@ mod UntoldLemmas
 mod ComparisonLemmas
 -- Lemmas on lines with a name
 mod NamedLineLemmas
--- Lemmas on what a session replies
-mod SaidLemmas

@@ -11,3 +11,4 @@ pub mod NamedLines
 pub mod Settled
 pub mod DiffRuns
 pub mod SessionFaults
+pub mod SessionSentences

@@ -24,8 +24,12 @@ pub fn asked_command(words: &[String]) -> Option<ScriptCommand>
     }
 }
 
-// Writes a text on a command below its form, and flushes it once.
-fn put_help<W: ByteSink>(
+/// Writes a text on a command below its form, and flushes it once.
+///
+/// # Errors
+///
+/// [`Fault::Write`] if the sink failed. A prefix is out then.
+pub(crate) fn put_help<W: ByteSink>(
     command: ScriptCommand,
     text: &'static str,
     out: &mut W,

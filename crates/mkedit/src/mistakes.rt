@@ -81,8 +81,8 @@ fn missing_field<'a>(name: FieldName) -> &'a str
     }
 }
 
-// What is wrong, in words.
-fn said_of<'a>(cause: MistakeCause) -> &'a str
+/// What is wrong, in words.
+pub(crate) fn said_of<'a>(cause: MistakeCause) -> &'a str
     ensures { result.now ≡ said_of cause }
 {
     match cause {
@@ -129,8 +129,8 @@ fn put_place<W: ByteSink>(
     write_parts(out, &[script, b":", line, b":", column, b": note: ", said])
 }
 
-// Writes the word of a command that is spelled alike, and ends the line.
-fn put_nearest<W: ByteSink>(nearest: Option<&str>, out: &mut W) -> Result<(), Fault>
+/// Writes the word of a command that is spelled alike, and ends the line.
+pub(crate) fn put_nearest<W: ByteSink>(nearest: Option<&str>, out: &mut W) -> Result<(), Fault>
     requires { W.failed out.old ≡ false }
     ensures { Writes W.contents W.failed W.flushes out.old out.new result
         (nearest_text (option_copied nearest.entry)) }

@@ -1,27 +1,38 @@
 //! `mkedit session`: a makefile that is edited step by step. Each line of standard input is a command or
 //! a request, and is answered before the next one is read.
 //!
-//! - `desk`: the makefile that is open, and what it answers.
+//! - `desk`: the makefile that is open, and what it answers; `help_text`: what `help` says.
+//! - `journal`: the lines of what can be undone and redone.
+//! - `protocol`: its replies to a program; `terminal`: its replies to a person, whose words `sentences` has.
 //! - `not_done`: why a request is not done.
 //! - `on_disk`: the makefile's file.
 
+ghost use Rattle.std.specs.Prelude.{◌≡◌, false};
+
 mod desk;
+mod help_text;
+mod journal;
 mod not_done;
 mod on_disk;
+mod protocol;
+mod sentences;
+mod terminal;
 
 use crate::ending::{End, finished};
 use crate::files::{CannotOpen, open};
 use crate::noted::Noted;
-use crate::notes::STANDARD_OUTPUT;
+use crate::notes::{Cause, STANDARD_OUTPUT, SystemFault};
 use desk::Desk;
 use mk_command_line::SessionWords;
 use mk_lines::source::read_all;
-use mk_lines::{Fault, StdSink, StdSource};
+use mk_lines::{ByteSink, ByteSource, Fault, StdSink, StdSource};
 use mk_prompt::converse;
 use mk_run::Outcome;
 use std::fs::File;
+use std::io::{ErrorKind, IsTerminal};
 use std::mem;
 use std::process::ExitCode;
+use terminal::converse_at_terminal;
 
 // How a talk ended.
 fn outcome_of(talked: Result<(), Fault>) -> Outcome {
@@ -38,24 +49,61 @@ fn opened<'a>(
     makefile: File,
 ) -> Result<Desk<'a>, Fault> {
     let text = read_all(rt.alloc(), &mut StdSource::new(makefile))?;
-    Desk::open(rt, words, text)
+    Desk::open(rt, words, text, false)
 }
 
-// Replies to the lines of standard input, on standard output. The session is not given up: the program
-// ends soon.
-fn talk<'a>(rt: &'a HostRuntime, mut desk: Desk<'a>) -> End<'a> {
+// Opens the makefile, which may be missing if the words say so, and a session over it.
+fn open_desk<'a>(
+    rt: &'a HostRuntime,
+    words: SessionWords<'a>,
+) -> Result<Result<Desk<'a>, Fault>, CannotOpen<'a>> {
+    match open(rt, words.file) {
+        Ok(makefile) => Ok(opened(rt, words, makefile)),
+        Err(
+            CannotOpen(
+                SystemFault {
+                    cause: Cause::System(ErrorKind::NotFound),
+                    ..
+                },
+            ),
+        ) if words.may_be_new => Ok(Desk::open(rt, words, Vec::new(rt.alloc()), true)),
+        Err(cannot) => Err(cannot),
+    }
+}
+
+// Replies to the lines of a source. The session is not given up: the program ends soon.
+fn reply<S: ByteSource, W: ByteSink>(
+    rt: &HostRuntime,
+    at_terminal: bool,
+    mut desk: Desk<'_>,
+    source: &mut S,
+    out: &mut W,
+) -> Result<(), Fault>
+    requires source_works { S.failed source.old ≡ false }
+    requires out_works { W.failed out.old ≡ false }
+{
+    if at_terminal {
+        return converse_at_terminal(desk, source, out);
+    }
+    let talked = converse(rt.alloc(), source, &mut desk, out);
+    mem::forget(desk);
+    talked
+}
+
+// Replies to the lines of standard input, on standard output.
+fn talk<'a>(rt: &'a HostRuntime, by_protocol: bool, desk: Desk<'a>) -> End<'a> {
+    let at_terminal = !by_protocol && rt.stdin().is_terminal();
     let mut source = StdSource::new(rt.stdin());
     let mut device = Noted::new(rt.stdout());
     let mut out = StdSink::new(&mut device);
-    let talked = converse(rt.alloc(), &mut source, &mut desk, &mut out);
-    mem::forget(desk);
+    let talked = reply(rt, at_terminal, desk, &mut source, &mut out);
     End::of(outcome_of(talked)).with_fault(device.fault(STANDARD_OUTPUT))
 }
 
 // Opens the makefile, and replies to the lines of standard input.
 fn over_file<'a>(rt: &'a HostRuntime, words: SessionWords<'a>) -> Result<End<'a>, CannotOpen<'a>> {
-    match opened(rt, words, open(rt, words.file)?) {
-        Ok(desk) => Ok(talk(rt, desk)),
+    match open_desk(rt, words)? {
+        Ok(desk) => Ok(talk(rt, words.by_protocol, desk)),
         Err(fault) => Ok(End::of(Outcome::from(fault))),
     }
 }

@@ -1,22 +1,25 @@
-//! A makefile that is open, and what it answers.
-ghost use Rattle.std.specs.Prelude.{◌≡◌, false, true, ⊤, IfErr, OnOk};
-ghost use Rattle.mk_prompt.specs.Talks.{SaysOut};
-
-use super::not_done::{NotDone, put_fault, shown_name};
-use super::on_disk::{look, put};
+//! A makefile that is open, and what it answers to requests.
+use super::help_text::HELP;
+use super::journal::{EditMade, Journal};
+use super::not_done::{NotDone, shown_name};
+use super::on_disk::{look, look_missing, put, put_or_make};
+use crate::command_texts::command_text;
 use crate::diff::diff_name;
 use crate::explain::{put_out, refusal_of};
 use crate::explanations::explanation;
+use crate::help::put_help;
 use crate::question::put_lines;
+use crate::script_command::command_called;
 use mk_command_line::{Input, Query, SessionWords};
 use mk_diff::diff;
-use mk_lines::sink::write_parts;
-use mk_lines::{ByteSink, Fault};
+use mk_lines::Fault;
+use mk_lookup::get;
 use mk_prompt::{
-    After, Heard, Listener, Request, RequestWord, Reverted, TextSink, answer_line, answer_lines,
-    lines_between, read_request, revert, text_of,
+    After, Obeyed, Request, RequestOf, RequestWord, Reverted, TextSink, lines_between, obey_line,
+    revert, text_of,
 };
-use mk_session::Session;
+use mk_queries::{recipes_for, rules_for, vars_named};
+use mk_session::{Refusal, Session};
 use std::alloc::Global;
 use std::mem;
 use std::str::from_utf8;
@@ -31,12 +34,24 @@ pub struct Desk<'a> {
     opened: Vec<u8>,
     // The text as it was written last, if it was.
     written: Option<Vec<u8>>,
+    // Whether there is no file yet.
+    is_missing: bool,
+    journal: Journal,
     // Whether the last request was a `quit` that was not done.
     is_warned: bool,
 }
 
+/// What came of a request.
+#[derive(Drop)]
+pub struct Asked {
+    /// The text of the answer, or why the request is not done.
+    pub answer: Result<Vec<u8>, NotDone>,
+    /// Whether the session goes on.
+    pub after: After,
+}
+
 impl<'a> Desk<'a> {
-    /// Opens a text, which is that of the makefile.
+    /// Opens a text, which is that of the makefile, or that of a makefile that is missing.
     ///
     /// # Errors
     ///
@@ -45,6 +60,7 @@ impl<'a> Desk<'a> {
         rt: &'a HostRuntime,
         words: SessionWords<'a>,
         text: Vec<u8>,
+        is_missing: bool,
     ) -> Result<Desk<'a>, Fault> {
         let opened = Vec::from_slice(rt.alloc(), text.as_slice())?;
         let session = Session::open_vec(rt.alloc(), text, words.depth)?;
@@ -54,32 +70,44 @@ impl<'a> Desk<'a> {
             session,
             opened,
             written: None,
+            is_missing,
+            journal: Journal::new(rt.alloc(), words.depth as usize),
             is_warned: false,
         })
     }
 
-    // The bytes that the makefile was left with.
-    fn left(&self) -> &[u8] {
+    /// The runtime.
+    pub fn runtime(&self) -> &'a HostRuntime {
+        self.rt
+    }
+
+    /// The name of the makefile, as the command line has it.
+    pub fn name(&self) -> &'a str {
+        self.name
+    }
+
+    /// The bytes that the makefile was left with.
+    pub fn left(&self) -> &[u8] {
         match &self.written {
             Some(text) => text.as_slice(),
             None => self.opened.as_slice(),
         }
     }
 
-    // The text that is shown.
-    fn text(&self) -> Result<Vec<u8>, NotDone> {
+    /// The text that is shown.
+    ///
+    /// # Errors
+    ///
+    /// [`NotDone::NoMemory`].
+    pub fn text(&self) -> Result<Vec<u8>, NotDone> {
         Ok(text_of(self.rt.alloc(), self.session.doc())?)
-    }
-
-    // The lines of an answer.
-    fn quoted(&self, text: &[u8]) -> Result<Vec<u8>, NotDone> {
-        Ok(answer_lines(self.rt.alloc(), text)?)
     }
 
     // The lines of the text from one number to another.
     fn print(&self, from: u64, to: u64) -> Result<Vec<u8>, NotDone> {
         let text = self.text()?;
-        self.quoted(lines_between(text.as_slice(), from, to))
+        let lines = lines_between(text.as_slice(), from, to);
+        Ok(Vec::from_slice(self.rt.alloc(), lines)?)
     }
 
     // What has changed since the text was opened.
@@ -92,7 +120,7 @@ impl<'a> Desk<'a> {
             text.as_slice(),
             name,
         ) {
-            Ok(text) => self.quoted(text.as_slice()),
+            Ok(text) => Ok(text),
             Err(_) => Err(NotDone::NoMemory),
         }
     }
@@ -101,7 +129,7 @@ impl<'a> Desk<'a> {
     fn query(&self, query: Query<'_>) -> Result<Vec<u8>, NotDone> {
         let mut sink = TextSink::new(self.rt.alloc());
         match put_lines(query, self.session.doc(), &mut sink) {
-            Ok(()) => self.quoted(sink.text.as_slice()),
+            Ok(()) => Ok(sink.text),
             Err(_) => Err(NotDone::NoMemory),
         }
     }
@@ -116,7 +144,57 @@ impl<'a> Desk<'a> {
         };
         let mut sink = TextSink::new(self.rt.alloc());
         match put_out(&refusal, explanation(&refusal), &mut sink) {
-            Ok(()) => self.quoted(sink.text.as_slice()),
+            Ok(()) => Ok(sink.text),
+            Err(_) => Err(NotDone::NoMemory),
+        }
+    }
+
+    // What is said of the command that has a word.
+    fn help(&self, word: &[u8]) -> Result<Vec<u8>, NotDone> {
+        let Ok(word) = from_utf8(word) else {
+            return Err(NotDone::NoCommand);
+        };
+        let Some(command) = command_called(word) else {
+            return Err(NotDone::NoCommand);
+        };
+        let mut sink = TextSink::new(self.rt.alloc());
+        match put_help(command, command_text(command), &mut sink) {
+            Ok(()) => Ok(sink.text),
+            Err(_) => Err(NotDone::NoMemory),
+        }
+    }
+
+    // The value of a variable, which `set` would change, and the end of its line.
+    fn get(&self, nth: Option<u32>, name: &[u8]) -> Result<Vec<u8>, NotDone> {
+        match get(self.session.doc(), nth, name) {
+            Ok(value) => {
+                let mut text = Vec::from_slice(self.rt.alloc(), value)?;
+                text.extend_from_slice(b"\n")?;
+                Ok(text)
+            }
+            Err(refusal) => Err(NotDone::Refused(refusal)),
+        }
+    }
+
+    // The value of one of several assignments.
+    fn get_nth(&self, nth: u64, name: &[u8]) -> Result<Vec<u8>, NotDone> {
+        match u32::try_from(nth) {
+            Ok(nth) => self.get(Some(nth), name),
+            Err(_) => Err(NotDone::Refused(Refusal::NoSuch)),
+        }
+    }
+
+    // The answer to a query about one name or target.
+    fn query_of(&self, of: RequestOf, word: &[u8]) -> Result<Vec<u8>, NotDone> {
+        let mut sink = TextSink::new(self.rt.alloc());
+        let doc = self.session.doc();
+        let put = match of {
+            RequestOf::Rules => rules_for(doc, word, &mut sink),
+            RequestOf::Recipes => recipes_for(doc, word, &mut sink),
+            _ => vars_named(doc, word, &mut sink),
+        };
+        match put {
+            Ok(()) => Ok(sink.text),
             Err(_) => Err(NotDone::NoMemory),
         }
     }
@@ -124,20 +202,45 @@ impl<'a> Desk<'a> {
     // Puts the text into the makefile's place.
     fn write_text(&mut self) -> Result<(), NotDone> {
         let text = self.text()?;
-        put(self.rt, self.name, text.as_slice())?;
+        if self.is_missing {
+            put_or_make(self.rt, self.name, text.as_slice())?;
+        } else {
+            put(self.rt, self.name, text.as_slice())?;
+        }
+        self.is_missing = false;
         self.written = Some(text);
         Ok(())
     }
 
     // The same, if the makefile is as it was left.
     fn write_if_left(&mut self) -> Result<(), NotDone> {
-        look(self.rt, self.name, self.left())?;
+        if self.is_missing {
+            look_missing(self.rt, self.name)?;
+        } else {
+            look(self.rt, self.name, self.left())?;
+        }
         self.write_text()
+    }
+
+    // Puts the text into a file of this name. The makefile's own name is `write`.
+    fn write_to(&mut self, file: &[u8]) -> Result<(), NotDone> {
+        let Ok(file) = from_utf8(file) else {
+            return Err(NotDone::CannotWrite);
+        };
+        if file == self.name {
+            return self.write_if_left();
+        }
+        let text = self.text()?;
+        put_or_make(self.rt, file, text.as_slice())
     }
 
     // Undoes all that can be undone.
     fn revert(&mut self) -> Result<(), NotDone> {
-        match revert(self.rt.alloc(), &mut self.session, self.opened.as_slice()) {
+        let reverted = revert(self.rt.alloc(), &mut self.session, self.opened.as_slice());
+        if reverted.is_ok() {
+            self.journal.note_reverted();
+        }
+        match reverted {
             Ok(Reverted::Opened) => Ok(()),
             Ok(Reverted::BeyondDepth) => Err(NotDone::BeyondDepth),
             Ok(Reverted::Unknown) => Err(NotDone::NoMemory),
@@ -156,7 +259,7 @@ impl<'a> Desk<'a> {
         }
     }
 
-    // What is answered to a request of one word; the lines of the answer.
+    // What is answered to a request of one word; the text of the answer.
     fn done_word(&mut self, word: RequestWord) -> Result<Vec<u8>, NotDone> {
         match word {
             RequestWord::Diff => return self.diff(),
@@ -165,6 +268,8 @@ impl<'a> Desk<'a> {
             RequestWord::Recipes => return self.query(Query::Recipes(None)),
             RequestWord::Check => return self.query(Query::Check),
             RequestWord::Caveats => return self.query(Query::Caveats),
+            RequestWord::History => return Ok(self.journal.text()?),
+            RequestWord::Help => return Ok(Vec::from_slice(self.rt.alloc(), HELP.as_bytes())?),
             RequestWord::Write => self.write_if_left()?,
             RequestWord::WriteAnyway => self.write_text()?,
             RequestWord::Revert => self.revert()?,
@@ -174,41 +279,57 @@ impl<'a> Desk<'a> {
         Ok(Vec::new(self.rt.alloc()))
     }
 
+    // What is answered to a request of two words; the text of the answer.
+    fn done_of(&mut self, of: RequestOf, word: &[u8]) -> Result<Vec<u8>, NotDone> {
+        match of {
+            RequestOf::Explain => self.explain(word),
+            RequestOf::Help => self.help(word),
+            RequestOf::Get => self.get(None, word),
+            RequestOf::Vars | RequestOf::Rules | RequestOf::Recipes => self.query_of(of, word),
+            RequestOf::Write => {
+                self.write_to(word)?;
+                Ok(Vec::new(self.rt.alloc()))
+            }
+        }
+    }
+
     // What is answered to a request.
     fn done(&mut self, request: Request<'_>) -> Result<Vec<u8>, NotDone> {
         match request {
             Request::Print(from, to) => self.print(from, to),
-            Request::Explain(word) => self.explain(word),
+            Request::GetNth(nth, name) => self.get_nth(nth, name),
+            Request::Of(of, word) => self.done_of(of, word),
             Request::Word(word) => self.done_word(word),
         }
     }
 
-    // Replies to a request, and says whether it was done.
-    fn reply<W: ByteSink>(&mut self, request: Request<'_>, out: &mut W) -> Result<bool, Fault>
-        requires { W.failed out.old ≡ false }
-        ensures said { OnOk result (SaysOut (W.contents out.old) (W.contents out.new) (λ _. ⊤)) }
-        ensures fault { IfErr result (λ fault. (fault ≡ Fault.Write) × (W.failed out.new ≡ true)) }
-        ensures works { OnOk result (W.failed out.new ≡ false) }
+    /// Obeys the command of a line, if it is one.
+    pub fn obey(&mut self, line: &[u8]) -> Obeyed {
+        let mut made = EditMade(false);
+        let obeyed = obey_line(self.rt.alloc(), &mut self.session, line, &mut made);
+        if obeyed == Obeyed::Done {
+            self.journal.note(line, &made);
+        }
+        if matches!(obeyed, Obeyed::Done | Obeyed::Refused(_)) {
+            self.is_warned = false;
+        }
+        obeyed
+    }
+
+    /// The name by which a reply to a request shows a file: that of the makefile, or of the file that the
+    /// request names.
+    pub fn shown_in<'b>(&self, request: Request<'b>) -> &'b [u8]
+    where
+        'a: 'b,
     {
-        match self.done(request) {
-            Ok(lines) => {
-                write_parts(out, &[lines.as_slice(), b"ok\n"])?;
-                Ok(true)
-            }
-            Err(not_done) => {
-                put_fault(not_done, shown_name(self.name), out)?;
-                Ok(false)
-            }
+        match request {
+            Request::Of(RequestOf::Write, file) => file,
+            _ => shown_name(self.name),
         }
     }
 
-    // Replies to a request. The second `quit` in a row ends the talk.
-    fn answer<W: ByteSink>(&mut self, request: Request<'_>, out: &mut W) -> Result<After, Fault>
-        requires { W.failed out.old ≡ false }
-        ensures said { OnOk result (SaysOut (W.contents out.old) (W.contents out.new) (λ _. ⊤)) }
-        ensures fault { IfErr result (λ fault. (fault ≡ Fault.Write) × (W.failed out.new ≡ true)) }
-        ensures works { OnOk result (W.failed out.new ≡ false) }
-    {
+    /// Answers a request. The second `quit` in a row ends the session.
+    pub fn ask(&mut self, request: Request<'_>) -> Asked {
         let was_warned = mem::replace(&mut self.is_warned, false);
         let request = match request {
             Request::Word(RequestWord::Quit) if was_warned => Request::Word(
@@ -216,54 +337,16 @@ impl<'a> Desk<'a> {
             ),
             request => request,
         };
-        let is_done = self.reply(request, out)?;
+        let answer = self.done(request);
         let is_quit = matches!(
             request,
             Request::Word(RequestWord::Quit | RequestWord::QuitAnyway)
         );
-        Ok(if is_done && is_quit {
+        let after = if answer.is_ok() && is_quit {
             After::Ends
         } else {
             After::GoesOn
-        })
-    }
-
-    // Replies to a line that is no command.
-    fn answer_other<W: ByteSink>(&mut self, line: &[u8], out: &mut W) -> Result<After, Fault>
-        requires { W.failed out.old ≡ false }
-        ensures said { OnOk result (SaysOut (W.contents out.old) (W.contents out.new) (λ _. ⊤)) }
-        ensures fault { IfErr result (λ fault. (fault ≡ Fault.Write) × (W.failed out.new ≡ true)) }
-        ensures works { OnOk result (W.failed out.new ≡ false) }
-    {
-        match read_request(line) {
-            Some(request) => self.answer(request, out),
-            None => {
-                put_fault(NotDone::NotACommand, shown_name(self.name), out)?;
-                Ok(After::GoesOn)
-            }
-        }
-    }
-
-    // Replies to a line.
-    fn answer_to<W: ByteSink>(&mut self, line: &[u8], out: &mut W) -> Result<After, Fault>
-        requires { W.failed out.old ≡ false }
-        ensures said { OnOk result (SaysOut (W.contents out.old) (W.contents out.new) (λ _. ⊤)) }
-        ensures fault { IfErr result (λ fault. (fault ≡ Fault.Write) × (W.failed out.new ≡ true)) }
-        ensures works { OnOk result (W.failed out.new ≡ false) }
-    {
-        match answer_line(self.rt.alloc(), &mut self.session, line, out, &mut ())? {
-            Heard::Command => {
-                self.is_warned = false;
-                Ok(After::GoesOn)
-            }
-            Heard::Nothing => Ok(After::GoesOn),
-            Heard::NoCommand => self.answer_other(line, out),
-        }
-    }
-}
-
-impl Listener for Desk<'_> {
-    fn hear<W: ByteSink>(&mut self, line: &[u8], out: &mut W) -> Result<After, Fault> {
-        self.answer_to(line, out)
+        };
+        Asked { answer, after }
     }
 }

@@ -21,6 +21,8 @@ pub enum NotDone {
     Refused(Refusal),
     /// The word calls no refusal.
     NoRefusal,
+    /// The word is that of no command of a script.
+    NoCommand,
     /// The makefile could not be read again.
     CannotRead,
     /// The makefile could not be written.
@@ -63,6 +65,7 @@ pub fn put_fault<W: ByteSink>(not_done: NotDone, name: &[u8], out: &mut W) -> Re
         NotDone::NotACommand => write_all(out, b"fault not a command\n"),
         NotDone::NoMemory => write_all(out, b"fault no memory\n"),
         NotDone::NoRefusal => write_all(out, b"fault no such refusal\n"),
+        NotDone::NoCommand => write_all(out, b"fault no such command\n"),
         NotDone::CannotRead => write_parts(out, &[b"fault cannot read ", name, b"\n"]),
         NotDone::CannotWrite => write_parts(out, &[b"fault cannot write ", name, b"\n"]),
         NotDone::HasChanged => write_parts(out, &[b"fault ", name, b" has changed\n"]),

@@ -7,6 +7,8 @@ use crate::in_place::{InPlaceFile, same_bytes};
 use mk_lines::sink::write_all;
 use mk_lines::{ByteSink, StdSource};
 use std::fs;
+use std::fs::OpenOptions;
+use std::io::ErrorKind;
 
 // Whether a name is that of a regular file: to open another, such as a pipe, may wait without end.
 fn is_regular(rt: &HostRuntime, name: &str) -> bool {
@@ -60,4 +62,45 @@ pub fn put<'a>(rt: &'a HostRuntime, name: &'a str, text: &[u8]) -> Result<(), No
     } else {
         Err(NotDone::CannotWrite)
     }
+}
+
+/// Looks whether there is no file of this name.
+///
+/// # Errors
+///
+/// [`NotDone::HasChanged`] if there is one, or something else of that name.
+pub fn look_missing(rt: &HostRuntime, name: &str) -> Result<(), NotDone> {
+    match fs::symlink_metadata(rt, name) {
+        Err(error) if error.kind() == ErrorKind::NotFound => Ok(()),
+        _ => Err(NotDone::HasChanged),
+    }
+}
+
+// Makes an empty file of this name, where there is none.
+fn make(rt: &HostRuntime, name: &str) -> Result<(), NotDone> {
+    let mut options = OpenOptions::new();
+    options.write(true);
+    options.create_new(true);
+    match options.open(rt, name) {
+        Ok(_) => Ok(()),
+        Err(_) => Err(NotDone::CannotWrite),
+    }
+}
+
+/// Puts a text into the place of the file of this name, in one step. A file that is missing is made: it
+/// is empty first.
+///
+/// # Errors
+///
+/// [`NotDone::CannotWrite`]. The file is as it was then, and missing if it was missing.
+pub fn put_or_make<'a>(rt: &'a HostRuntime, name: &'a str, text: &[u8]) -> Result<(), NotDone> {
+    if look_missing(rt, name).is_err() {
+        return put(rt, name, text);
+    }
+    make(rt, name)?;
+    let is_put = put(rt, name, text);
+    if is_put.is_err() {
+        let _ = fs::remove_file(rt, name);
+    }
+    is_put
 }

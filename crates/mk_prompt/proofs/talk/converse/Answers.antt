@@ -7,7 +7,7 @@ pub loop-init : goal.loop-init
 loop-init g c = (
   search rules,
   search rules,
-  first-talked g.L.Listener.hears (g.S.ByteSource.remaining c.args.source.now) c.args.listener.now (g.W.ByteSink.contents c.args.out.now)
+  first-talked g.L.Listener.turns_down g.L.Listener.hears g.L.Listener.greets (g.S.ByteSource.remaining c.args.source.now) c.args.listener.now (g.W.ByteSink.contents c.args.out.now)
       (g.W.ByteSink.contents c.greet.new.out) c.in_ok-greet.ensures.greeted,
 )
 
@@ -15,7 +15,7 @@ pub loop-preserved : goal.loop-preserved
 loop-preserved g c = (
   search rules,
   search rules,
-  more-talked g.L.Listener.hears
+  more-talked g.L.Listener.turns_down g.L.Listener.hears g.L.Listener.greets
       (g.S.ByteSource.remaining c.args.source.now) (g.S.ByteSource.remaining c.loop.source) (g.S.ByteSource.remaining c.read_line.new.source)
       c.args.listener.now c.loop.listener c.reply.new.listener (g.W.ByteSink.contents c.args.out.now) (g.W.ByteSink.contents c.loop.out)
       (g.W.ByteSink.contents c.reply.new.out) c.read_line.new.line.items c.as_slice.result.now c.in_ok-read.read c.in_ok-reply.field-0
@@ -24,9 +24,11 @@ loop-preserved g c = (
 
 pub returns-in-Ends : goal.returns-in-Ends
 returns-in-Ends g c = record {
-  talk = all-talked g.L.Listener.hears
+  talk = all-talked g.L.Listener.turns_down g.L.Listener.hears g.L.Listener.greets
       (g.S.ByteSource.remaining c.args.source.now) (g.S.ByteSource.remaining c.loop.source) (g.S.ByteSource.remaining c.read_line.new.source)
       c.args.listener.now c.loop.listener c.reply.new.listener (g.W.ByteSink.contents c.args.out.now) (g.W.ByteSink.contents c.loop.out)
       (g.W.ByteSink.contents c.reply.new.out) c.read_line.new.line.items c.as_slice.result.now c.in_ok-read.read c.in_ok-reply.field-0
       c.loop.invariant.2 c.in_ok-read.ensures.read c.as_slice.ensures.value c.in_ok-reply.ensures.replied c.in-Ends.is;
+  source = search rules;
+  works = search rules;
 }

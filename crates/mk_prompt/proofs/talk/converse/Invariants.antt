@@ -6,5 +6,5 @@ use Rattle.mk_prompt.proofs.talk.converse.Given as goal
 abbrev pub invariant-loop : goal.invariant-loop
 invariant-loop g l =
     (g.S.ByteSource.failed l.source ≡ false) × (g.W.ByteSink.failed l.out ≡ false)
-    × HasTalked g.L.Listener.hears (g.S.ByteSource.remaining l.initial.source) (g.S.ByteSource.remaining l.source) l.initial.listener
+    × HasTalked g.L.Listener.turns_down g.L.Listener.hears g.L.Listener.greets (g.S.ByteSource.remaining l.initial.source) (g.S.ByteSource.remaining l.source) l.initial.listener
     (g.W.ByteSink.contents l.fn.out) (g.W.ByteSink.contents l.out) l.listener

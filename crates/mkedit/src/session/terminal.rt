@@ -1,0 +1,242 @@
+//! A makefile that is open at a terminal: a prompt before each line, and sentences for replies.
+ghost use Rattle.std.specs.Prelude.{◌≡◌, false, true, ⊤, IfErr, OnOk};
+ghost use Rattle.mk_prompt.specs.Talks.{SaysOut};
+
+use super::desk::Desk;
+use super::not_done::{NotDone, shown_name};
+use super::sentences::{
+    AS_IT_WAS, NO_MEMORY, TOO_LONG, changed_lines, mistake_sentence, put_sentence,
+    refusal_sentence,
+};
+use crate::diff::diff_name;
+use mk_command_line::Input;
+use mk_diff::diff;
+use mk_lines::sink::{write_all, write_parts};
+use mk_lines::{ByteSink, ByteSource, Fault};
+use mk_prompt::{
+    After, Listener, Obeyed, Request, RequestOf, RequestWord, TextSink, converse, read_request,
+};
+use mk_session::Refusal;
+use std::mem;
+
+// A makefile that is open at a terminal.
+#[derive(Drop)]
+struct Terminal<'a> {
+    desk: Desk<'a>,
+    // The text as it was shown last.
+    shown: Vec<u8>,
+    // Whether a request has ended the session.
+    is_over: bool,
+}
+
+impl<'a> Terminal<'a> {
+    // The session is at its first line.
+    fn open(desk: Desk<'a>) -> Result<Terminal<'a>, Fault> {
+        let shown = Vec::from_slice(desk.runtime().alloc(), desk.left())?;
+        Ok(Terminal {
+            desk,
+            shown,
+            is_over: false,
+        })
+    }
+
+    // A mark where there are unwritten changes.
+    fn mark(&self) -> &'static [u8] {
+        if self.shown.as_slice() == self.desk.left() {
+            b""
+        } else {
+            b"*"
+        }
+    }
+
+    // Writes a text, and what stands before the next line.
+    fn put_prompt<W: ByteSink>(&self, said: &[u8], out: &mut W) -> Result<(), Fault>
+        requires { W.failed out.old ≡ false }
+        ensures said { OnOk result (SaysOut (W.contents out.old) (W.contents out.new) (λ _. ⊤)) }
+        ensures fault { IfErr result (λ fault. (fault ≡ Fault.Write) × (W.failed out.new ≡ true)) }
+        ensures works { OnOk result (W.failed out.new ≡ false) }
+    {
+        let name = shown_name(self.desk.name());
+        write_parts(out, &[said, name, self.mark(), b"> "])
+    }
+
+    // The sentence on a request that is not done. A file is shown by this name.
+    fn sentence(&self, not_done: NotDone, name: &[u8]) -> Result<Vec<u8>, NotDone> {
+        if let NotDone::Refused(refusal) = not_done {
+            return Ok(refusal_sentence(self.desk.runtime().alloc(), refusal)?);
+        }
+        let mut sink = TextSink::new(self.desk.runtime().alloc());
+        match put_sentence(not_done, name, &mut sink) {
+            Ok(()) => Ok(sink.text),
+            Err(_) => Err(NotDone::NoMemory),
+        }
+    }
+
+    // What has changed since the text was shown last, of which no more is said from now on.
+    fn change(&mut self) -> Result<Vec<u8>, NotDone> {
+        let alloc = self.desk.runtime().alloc();
+        let text = self.desk.text()?;
+        let shown = mem::replace(&mut self.shown, text);
+        let name = diff_name(Input::File(self.desk.name()));
+        match diff(alloc, shown.as_slice(), self.shown.as_slice(), name) {
+            Ok(text) => Ok(changed_lines(alloc, text.as_slice())?),
+            Err(_) => Err(NotDone::NoMemory),
+        }
+    }
+
+    // What a command that was done has changed.
+    fn done(&mut self) -> Result<Vec<u8>, NotDone> {
+        let changed = self.change()?;
+        if changed.is_empty() {
+            return Ok(Vec::from_slice(self.desk.runtime().alloc(), AS_IT_WAS)?);
+        }
+        Ok(changed)
+    }
+
+    // That a file is written.
+    fn written(&self, name: &[u8]) -> Result<Vec<u8>, NotDone> {
+        let mut said = Vec::from_slice(self.desk.runtime().alloc(), name)?;
+        said.extend_from_slice(b" is written.\n")?;
+        Ok(said)
+    }
+
+    // The answer to a request, and a line end behind it where it has none.
+    fn answer(&mut self, request: Request<'_>) -> Result<Vec<u8>, NotDone> {
+        let asked = self.desk.ask(request);
+        self.is_over = asked.after == After::Ends;
+        let mut text = asked.answer?;
+        match request {
+            Request::Word(RequestWord::Write | RequestWord::WriteAnyway)
+            | Request::Of(RequestOf::Write, _) => self.written(self.desk.shown_in(request)),
+            Request::Word(RequestWord::Revert) => self.done(),
+            _ => {
+                if !matches!(text.last(), None | Some(b'\n')) {
+                    text.extend_from_slice(b"\n")?;
+                }
+                Ok(text)
+            }
+        }
+    }
+
+    // What is said of a request. What one has undone that is not done is shown too.
+    fn said_of(&mut self, request: Request<'_>) -> Result<Vec<u8>, NotDone> {
+        match self.answer(request) {
+            Ok(text) => Ok(text),
+            Err(not_done) => {
+                let mut said = self.change()?;
+                let sentence = self.sentence(not_done, self.desk.shown_in(request))?;
+                said.extend_from_slice(sentence.as_slice())?;
+                Ok(said)
+            }
+        }
+    }
+
+    // That a line is neither a command nor a request, and what is wrong with it as a command.
+    fn no_command(&self, line: &[u8]) -> Result<Vec<u8>, NotDone> {
+        let mut said = self.sentence(NotDone::NotACommand, b"")?;
+        let mistake = mistake_sentence(self.desk.runtime().alloc(), line)?;
+        said.extend_from_slice(mistake.as_slice())?;
+        Ok(said)
+    }
+
+    // What is said of a line that is no command.
+    fn said_of_other(&mut self, line: &[u8]) -> Result<Vec<u8>, NotDone> {
+        match read_request(line) {
+            Some(request) => self.said_of(request),
+            None => self.no_command(line),
+        }
+    }
+
+    // What is said of a line.
+    fn said(&mut self, line: &[u8]) -> Result<Vec<u8>, NotDone> {
+        match self.desk.obey(line) {
+            Obeyed::Done => self.done(),
+            Obeyed::Refused(Refusal::NoMemory) => Err(NotDone::NoMemory),
+            Obeyed::Refused(refusal) => self.sentence(NotDone::Refused(refusal), b""),
+            Obeyed::Nothing => Ok(Vec::new(self.desk.runtime().alloc())),
+            Obeyed::NoCommand => self.said_of_other(line),
+        }
+    }
+
+    // Says what is to be said of a line, and the next prompt if the session goes on.
+    fn put_said<W: ByteSink>(
+        &self,
+        said: Result<Vec<u8>, NotDone>,
+        out: &mut W,
+    ) -> Result<After, Fault>
+        requires { W.failed out.old ≡ false }
+        ensures said { OnOk result (SaysOut (W.contents out.old) (W.contents out.new) (λ _. ⊤)) }
+        ensures fault { IfErr result (λ fault. (fault ≡ Fault.Write) × (W.failed out.new ≡ true)) }
+        ensures works { OnOk result (W.failed out.new ≡ false) }
+    {
+        let text = text_said(&said);
+        if self.is_over {
+            write_all(out, text)?;
+            return Ok(After::Ends);
+        }
+        self.put_prompt(text, out)?;
+        Ok(After::GoesOn)
+    }
+
+    // The key that ends the input was pressed, which is `quit`.
+    fn end<W: ByteSink>(&mut self, out: &mut W) -> Result<(), Fault>
+        requires { W.failed out.old ≡ false }
+        ensures works { OnOk result (W.failed out.new ≡ false) }
+    {
+        let said = self.said_of(Request::Word(RequestWord::Quit));
+        write_parts(out, &[b"\n", text_said(&said)])?;
+        out.flush()
+    }
+}
+
+// What is to be said, or that there is no memory for it.
+fn text_said(said: &Result<Vec<u8>, NotDone>) -> &[u8] {
+    match said {
+        Ok(text) => text.as_slice(),
+        Err(_) => NO_MEMORY,
+    }
+}
+
+impl Listener for Terminal<'_> {
+    fn greet<W: ByteSink>(&self, out: &mut W) -> Result<(), Fault> {
+        self.put_prompt(b"", out)
+    }
+
+    fn turn_down<W: ByteSink>(&self, out: &mut W) -> Result<(), Fault> {
+        self.put_prompt(TOO_LONG, out)
+    }
+
+    fn hear<W: ByteSink>(&mut self, line: &[u8], out: &mut W) -> Result<After, Fault> {
+        let said = self.said(line);
+        self.put_said(said, out)
+    }
+}
+
+/// Replies at a terminal to the lines of a source, also behind an end of it that is a `quit` which is
+/// not done. The session is not given up: the program ends soon.
+///
+/// # Errors
+///
+/// Those of [`converse`], and [`Fault::NoMemory`] if there is none for the text that is shown.
+pub fn converse_at_terminal<S: ByteSource, W: ByteSink>(
+    desk: Desk<'_>,
+    source: &mut S,
+    out: &mut W,
+) -> Result<(), Fault>
+    requires source_works { S.failed source.old ≡ false }
+    requires out_works { W.failed out.old ≡ false }
+{
+    let alloc = desk.runtime().alloc();
+    let mut terminal = Terminal::open(desk)?;
+    for _ in 0..u64::MAX {
+        converse(alloc, source, &mut terminal, out)?;
+        if !terminal.is_over {
+            terminal.end(out)?;
+        }
+        if terminal.is_over {
+            mem::forget(terminal);
+            return Ok(());
+        }
+    }
+    Err(Fault::TooLong)
+}
