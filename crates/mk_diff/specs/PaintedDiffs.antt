@@ -5,7 +5,7 @@ use Rattle.std.specs.List.{flat_map}
 use Rattle.mk_lines.specs.PhysicalLines.{line_end, line_end_bytes, physical_lines, without_line_end}
 
 -- the sequence of this number
-abbrev pub escape : (number : List ℕ) → List ℕ
+abbrev escape : (number : List ℕ) → List ℕ
 escape number = 27 ∷ 91 ∷ (number ++ codes "m")
 
 -- a line in a colour, which ends before the line end
@@ -24,7 +24,7 @@ color_of (b ∷ t) =
     None
 
 -- a line in its colour, if it has one
-abbrev pub colored : Option (List ℕ) → (line : List ℕ) → List ℕ
+abbrev colored : Option (List ℕ) → (line : List ℕ) → List ℕ
 colored None line = line
 colored (Some color) line = painted_by color line
 

@@ -5,8 +5,7 @@ ghost use Rattle.mk_prompt.specs.Talks.{SaysOut};
 use super::desk::Desk;
 use super::not_done::{NotDone, shown_name};
 use super::sentences::{
-    AS_IT_WAS, NO_MEMORY, TOO_LONG, changed_lines, mistake_sentence, put_sentence,
-    refusal_sentence,
+    AS_IT_WAS, NO_MEMORY, TOO_LONG, changed_lines, mistake_sentence, put_sentence, refusal_sentence,
 };
 use crate::diff::diff_name;
 use mk_command_line::Input;
