@@ -45,6 +45,15 @@ class Terminals(RoomCase):
                 shown = os.read(user, 1_000)
         self.assertEqual(shown, EDITED.stdout)
 
+    def test_a_terminal_is_told_notes_without_being_asked(self):
+        for words in (["edit", "-e", "set CX clang", "Makefile"], ["edit", "bad", "Makefile"], ["vars", "absent"]):
+            wanted = self.room.run(words[0], "--notes", *words[1:])
+            self.assertIn(b": note: ", wanted.stderr)
+            with terminal(lines=False) as (user, program):
+                got = self.room.run(*words, stderr=program)
+                self.assertEqual(got, wanted._replace(stderr=b""))
+                self.assertEqual(os.read(user, 10_000), wanted.stderr)
+
     def test_a_terminal_that_hung_up_is_a_write_fault(self):
         with terminal() as (user, program):
             os.close(user)

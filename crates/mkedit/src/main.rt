@@ -21,6 +21,8 @@
 //! - `session`: a makefile that is edited step by step, by [`mk_prompt`].
 #![tactic(auto)]
 
+ghost use Rattle.std.specs.Prelude.{◌≡◌, true};
+
 mod color;
 mod command_texts;
 mod destination;
@@ -50,7 +52,7 @@ use explain::CalledRefusal;
 use mk_command_line::{Request, read_request};
 use mk_run::Outcome;
 use question::Question;
-use std::io::ErrorKind;
+use std::io::{ErrorKind, IsTerminal};
 use std::process::ExitCode;
 
 // The words of the command line. They have to be UTF-8.
@@ -72,20 +74,32 @@ fn words(rt: &HostRuntime) -> Result<Vec<String>, ExitCode> {
     }
 }
 
+// Whether messages have notes: where they are asked for, and at a terminal.
+fn has_notes(rt: &HostRuntime, asked: bool) -> bool
+    ensures { asked ≡ true → result ≡ true }
+{
+    asked || rt.stderr().is_terminal()
+}
+
 // Does what the command line asks for.
 fn done(rt: &HostRuntime, words: &[String]) -> ExitCode {
     if let Some(command) = help::asked_command(words) {
         return ended(rt, &End::of(help::help(rt, command)), false);
     }
     match read_request(rt.alloc(), words) {
-        Ok(Request::Edit(words)) => edit::edit(rt, &words),
+        Ok(Request::Edit(mut words)) => {
+            words.notes = has_notes(rt, words.notes);
+            edit::edit(rt, &words)
+        }
         Ok(Request::Query(words)) => {
             let question = Question::Lines(words.query);
-            query::ask(rt, question, words.files.as_slice(), words.notes)
+            let notes = has_notes(rt, words.notes);
+            query::ask(rt, question, words.files.as_slice(), notes)
         }
         Ok(Request::Get(words)) => {
             let question = Question::Value(words.nth, words.name);
-            query::ask(rt, question, words.files.as_slice(), words.notes)
+            let notes = has_notes(rt, words.notes);
+            query::ask(rt, question, words.files.as_slice(), notes)
         }
         Ok(Request::Explain(CalledRefusal(refusal))) => {
             ended(rt, &End::of(explain::explain(rt, &refusal)), false)

@@ -110,5 +110,5 @@ fn over_file<'a>(rt: &'a HostRuntime, words: SessionWords<'a>) -> Result<End<'a>
 
 /// Opens the makefile, replies to the lines of standard input, and answers the status.
 pub fn session<'a>(rt: &'a HostRuntime, words: SessionWords<'a>) -> ExitCode {
-    finished(rt, over_file(rt, words), false)
+    finished(rt, over_file(rt, words), rt.stderr().is_terminal())
 }
