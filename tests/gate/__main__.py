@@ -10,7 +10,7 @@
   rows      the stored files of rows are what their scripts make
   gate      the tests of the gate itself
   crates    proves every crate that the program stands on, and those of rows, from nothing, and has the
-            prover refuse one in twelve wrong bodies, which the commit's checksum chooses (share.py)
+            prover refuse one in eighteen wrong bodies, which the commit's checksum chooses (share.py)
   tries     beside it: the tests of all crates, and the programs of crates, with run-time checks
   program   tests the program that was proved and built there
 

@@ -1,9 +1,9 @@
 """Which wrong bodies a run tries: all, or the share that a commit's checksum chooses.
 
-All wrong bodies take hours of processor time. So a landing tries one in twelve, and another landing
+All wrong bodies take hours of processor time. So a landing tries one in eighteen, and another landing
 others. `make check-all` tries all.
 
-A share has every third wrong body of a quarter of the crates. The first check of a crate's wrong bodies
+A share has every third wrong body of a sixth of the crates. The first check of a crate's wrong bodies
 proves what their functions call too, and takes most of a minute before it comes to the first of them. A
 share of every crate would have that for each crate.
 """
@@ -15,9 +15,9 @@ from typing import NamedTuple
 
 from .wrong_bodies import wrong_bodies
 
-SHARES = 12
+SHARES = 18
 # The crates stand in so many groups, and a share is of one of them.
-GROUPS = 4
+GROUPS = 6
 
 
 class Body(NamedTuple):
