@@ -2,11 +2,13 @@
 //!
 //! - `lines`: tests of `mk_lines`.
 //! - `class`: tests of `mk_class`.
-//! - `tree`: tests of `mk_tree`.
+//! - `tree`, `as_list`: tests of `mk_tree`.
 //! - `views`: tests of `mk_views`.
 //! - `listing`: tests of `mk_listing`.
 #![tactic(auto)]
 
+#[cfg(test)]
+mod as_list;
 #[cfg(test)]
 mod class;
 #[cfg(test)]

@@ -9,7 +9,8 @@ use crate::walk::NumberedLines;
 use mk_tree::{Doc, Line};
 use std::alloc::Allocator;
 
-/// The line of a document at an index, from 0; none if there are not so many lines.
+/// The line of a document at an index, from 0; none if there are not so many lines. It is that of
+/// [`Doc::get`].
 pub fn line_at<A: Allocator>(doc: &Doc<A>, index: usize) -> Option<&Line<A>>
     ensures { option_map (λ line. line_view line.now) result ≡ slice_get doc.now index }
 {

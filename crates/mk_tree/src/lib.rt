@@ -9,6 +9,7 @@
 //! - `contexts`: the context of a document's lines.
 //! - [`part`]: parts of a line's text, by their offsets.
 //! - [`iter`]: the lines of a document in order.
+//! - `as_list`: a document as the lists of Rust are: `get`, and a `for` over `&doc`.
 //! - [`walk`]: the lines of a document in order, each with its context.
 //! - [`tree`]: the balanced tree that the lines stand in, and a line by itself.
 //! - `content`: what a document stores of a line.
@@ -16,10 +17,12 @@
 //! - [`line_bytes`]: the bytes of a line, a part of the text that it was parsed from.
 //! - `origin`: the text that a document was read from, and the lines that stand in it still.
 //! - `print`: the text of a document.
+//! - `shown`: documents and lines as `{:?}` shows them.
 //! - [`gathering`]: texts on their way to a sink, gathered into few writes.
 //! - [`laws`]: theorems on the definitions of documents.
 #![tactic(auto)]
 
+mod as_list;
 mod content;
 mod contexts;
 pub mod document;
@@ -35,6 +38,7 @@ mod plain;
 mod print;
 mod read;
 mod short_class;
+mod shown;
 pub mod tree;
 mod unread;
 pub mod walk;
