@@ -1,6 +1,8 @@
 //! The edits, the changes of values, the places of new lines, and the separators of new rules.
 //!
-//! An edit owns its texts. Contracts see it as a value of the definitions (`edit_of`).
+//! An edit owns its texts. Contracts see it as a value of the definitions (`edit_of`). `==` compares
+//! edits, places and changes of values, and `clone` copies their texts: it answers
+//! [`AllocError`](std::alloc::AllocError) if there is no memory for one.
 //!
 //! `nth` is the number of a line among the lines of the same name or target, from 1, in the order
 //! of the file; without it, an edit means the only such line. `number` is the number of a recipe
@@ -23,6 +25,8 @@ pub enum RuleSeparator {
 
 /// Where a new line goes.
 #[derive(Drop)]
+#[derive_where(Clone; A)]
+#[derive_where(Debug, PartialEq, Eq)]
 pub enum Place<A: Allocator = Global> {
     /// The end of the file.
     Bottom,
@@ -51,6 +55,8 @@ pub enum Place<A: Allocator = Global> {
 
 /// What an edit does to each value of a name.
 #[derive(Drop)]
+#[derive_where(Clone; A)]
+#[derive_where(Debug, PartialEq, Eq)]
 pub enum ValueChange<A: Allocator = Global> {
     /// Gives each assignment this value, which may be empty, as [`Edit::SetValue`] does with one.
     Set(Vec<u8, A>),
@@ -64,6 +70,8 @@ pub enum ValueChange<A: Allocator = Global> {
 
 /// An edit of a makefile.
 #[derive(Drop)]
+#[derive_where(Clone; A)]
+#[derive_where(Debug, PartialEq, Eq)]
 pub enum Edit<A: Allocator = Global> {
     /// Gives a variable another value. The blanks and the comment after the value stay. If the new
     /// value is empty, the blanks after the old value go too.

@@ -2,7 +2,8 @@
 //!
 //! - [`command`]: the calls of a session as values, which `mk_command` has, done.
 //! - [`laws`]: what holds for a session over any list of calls.
-//! - [`session`]: the session; its module `group` has the call that makes edits as one.
+//! - [`session`]: the session; its module `group` has the call that makes edits as one, and `shown` what
+//!   `{:?}` shows of it.
 //!
 //! `mk_history` has the machine of a session over anything that is changed, `mk_edit` has the edits
 //! of makefiles. This crate puts them together; it is the only crate that knows both.
@@ -15,5 +16,8 @@ pub mod session;
 pub use command::Command;
 pub use mk_class::Flavor;
 pub use mk_edit::{Detail, Edit, Field, Place, Refusal, RuleSeparator, ValueChange};
-pub use mk_edits::{MakeEdit, MakePlace, number_edit, number_place};
+pub use mk_edits::{
+    MakeEdit, MakePlace, clone_edit, clone_place, is_same_edit, is_same_place, number_edit,
+    number_place,
+};
 pub use session::Session;

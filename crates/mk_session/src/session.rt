@@ -12,6 +12,7 @@ ghost use Rattle.mk_history.specs.Machine as machine;
 ghost use Rattle.mk_session.specs.Sessions.{IsBadDepth, IsBeginRefusal, IsEditRefusal, IsOpeningFault, IsRefusedBy, answer, seen_opened};
 
 mod group;
+mod shown;
 
 use mk_class::Meter;
 use mk_edit::{Edit, Refusal, plan_with};

@@ -5,6 +5,7 @@
 //! - `numbers`, `texts`: numbers that look random; the text of a document, and the document that a
 //!   text has.
 //! - `made_edits`: the edits that a call each makes.
+//! - `copied_edits`: copies of edits and places, which are the same, and how they are shown.
 //! - `steps`, `rows`: calls of a session as constants, each with its answer; worked rows of them.
 //! - `refused_rows`: the rows where a growth is refused.
 //! - `any_command`, `text_machine`, `many_calls`: commands drawn at random; the session machine by
@@ -16,10 +17,13 @@
 //!   each edit by an index, beside the same edit by a walk over all lines.
 //! - `told_steps`: what a session tells of its steps.
 //! - `whole_groups`: groups of edits that are one call.
+//! - `shown`: how sessions are shown.
 #![tactic(auto)]
 
 #[cfg(test)]
 mod any_command;
+#[cfg(test)]
+mod copied_edits;
 #[cfg(test)]
 mod counted_growths;
 #[cfg(test)]
@@ -40,6 +44,8 @@ mod refused_growths;
 mod refused_rows;
 #[cfg(test)]
 mod rows;
+#[cfg(test)]
+mod shown;
 #[cfg(test)]
 mod steps;
 #[cfg(test)]
