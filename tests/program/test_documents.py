@@ -8,7 +8,7 @@ In an example `⏎` is a line feed, `⇥` a tab, `␌` a form feed and `␀` a N
 
 In the last chapter of docs/LANGUAGE.md each section with an example also names, as `5: opaque`, what
 `mkedit check` prints of the section's first makefile, and as "`caveats` names line 6" of which line
-`mkedit caveats` tells. docs/LIBRARY.md shows lines of two files.
+`mkedit caveats` tells. docs/LIBRARY.md shows lines of three files.
 """
 
 import re
@@ -19,7 +19,11 @@ from tests.lib.documents import DOCS, edits
 from tests.lib.rooms import RoomCase
 
 EDITS, LANGUAGE, LIBRARY = (DOCS / f"{it}.md" for it in ("EDITS", "LANGUAGE", "LIBRARY"))
-QUOTED = ("crates/session_example/src/main.rt", "crates/mk_session/src/session.rt")
+QUOTED = (
+    "crates/session_example/src/main.rt",
+    "crates/caller_example/src/main.rt",
+    "crates/mk_session/src/session.rt",
+)
 LAST_CHAPTER = "## 8. Where make reads otherwise\n"
 COMMANDS = (
     "nth all set append add drop unset assign rule unrule depend depend-order undepend recipe recipe-set recipe-del "
@@ -104,4 +108,4 @@ class Documents(RoomCase):
         self.assert_examples(LANGUAGE, check_unread, last_chapter(), 36)
 
     def test_the_code_of_the_page_on_the_library(self):
-        self.assert_examples(LIBRARY, check_code, LIBRARY.read_text(encoding="utf-8"), 3)
+        self.assert_examples(LIBRARY, check_code, LIBRARY.read_text(encoding="utf-8"), 6)

@@ -11,6 +11,7 @@ ghost use Rattle.mk_history.specs.Machine.{Apply, Undo, Redo, Begin, End, Cancel
 ghost use Rattle.mk_history.specs.Machine as machine;
 ghost use Rattle.mk_session.specs.Sessions.{IsBadDepth, IsBeginRefusal, IsEditRefusal, IsOpeningFault, IsRefusedBy, answer, seen_opened};
 
+mod dry_run;
 mod group;
 mod shown;
 

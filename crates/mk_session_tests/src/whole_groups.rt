@@ -1,4 +1,4 @@
-//! Groups of edits that are one call: all of them are made, or none.
+//! Groups of edits that are one call: all of them are made, or none; and their dry runs.
 use crate::growths::Heap;
 use crate::steps::opened;
 use crate::texts::is_as_parsed;
@@ -112,6 +112,56 @@ fn no_group_is_made_while_one_is_open(rt: HostRuntime) -> Result<(), Fail> {
     assert_eq!(rt; session.group(&[]), Err((0, Refusal::GroupOpen)));
     assert_eq!(rt; session.end(), Ok(false));
     assert!(rt; has_redo(&rt, session)?);
+    Ok(())
+}
+
+#[test]
+fn a_dry_run_tells_what_a_group_would_and_changes_nothing(rt: HostRuntime) -> Result<(), Fail> {
+    let session = with_redo(&rt, rt.alloc())?;
+    let edits = two_edits(rt.alloc(), b"CFLAGS")?;
+    assert_eq!(rt; session.dry_run(&edits), Ok(()));
+    assert_eq!(rt; session.rereads(), 3);
+    assert!(rt; has_redo(&rt, session)?);
+    let refused = two_edits(rt.alloc(), b"NONE")?;
+    assert_eq!(rt; session.dry_run(&refused), Err((1, Refusal::NoSuch)));
+    assert_eq!(rt; session.dry_run(&[]), Ok(()));
+    assert!(rt; has_redo(&rt, session)?);
+    session.begin()?;
+    assert_eq!(rt; session.dry_run(&[]), Err((0, Refusal::GroupOpen)));
+    assert_eq!(rt; session.end(), Ok(false));
+    assert_eq!(rt; session.group(&edits), Ok(()));
+    assert!(rt; is_as_parsed(&rt, session.doc(), EDITED)?);
+    Ok(())
+}
+
+// Refuses a growth of a dry run, and says whether it has so many. Nothing has changed then.
+fn is_dry_run_refused<'a>(
+    rt: &HostRuntime,
+    heap: &'a Heap,
+    edits: &[Edit<&'a Heap>],
+    admitted: u64,
+) -> Result<bool, Fail> {
+    let session = with_redo(rt, heap)?;
+    heap.refuse_one_after(admitted);
+    let answer = session.dry_run(edits);
+    let refused = heap.has_refused();
+    heap.refuse_none();
+    let is_told = matches!(answer, Err((_, Refusal::NoMemory))) == refused;
+    if is_told && answer.is_err() == refused && has_redo(rt, session)? {
+        return Ok(refused);
+    }
+    Err(Fail::from("a dry run is not answered as it should be"))
+}
+
+#[test]
+fn each_refused_growth_of_a_dry_run_changes_nothing(rt: HostRuntime) -> Result<(), Fail> {
+    let heap = Watched::new(rt.alloc());
+    let edits = two_edits(&heap, b"CFLAGS")?;
+    let mut admitted = 0;
+    while admitted < MANY && is_dry_run_refused(&rt, &heap, &edits, admitted)? {
+        admitted += 1;
+    }
+    assert!(rt; admitted > 4 && admitted < MANY);
     Ok(())
 }
 

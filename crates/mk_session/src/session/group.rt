@@ -65,7 +65,7 @@ impl<A: Allocator + Copy> Session<A> {
 
 // Makes edits of a document in turn, and gives what takes them all back. If one is refused, those
 // before it are taken back, and its index is told.
-fn make_all<A: Allocator + Copy>(
+pub(super) fn make_all<A: Allocator + Copy>(
     alloc: A,
     doc: &mut IndexedDoc<A>,
     edits: &[Edit<A>],
@@ -119,7 +119,10 @@ fn refusal_without_room<A: Allocator + Copy>(
 }
 
 // Takes edits of a document back.
-fn take_back<A: Allocator + Copy>(back: Sequence<IndexedPatch<A>, A>, doc: &mut IndexedDoc<A>)
+pub(super) fn take_back<A: Allocator + Copy>(
+    back: Sequence<IndexedPatch<A>, A>,
+    doc: &mut IndexedDoc<A>,
+)
     requires { FitInTurn FitMoves after_moves back doc.old }
     ensures { doc.new ≡ after_patches back doc.old }
 {

@@ -1,0 +1,95 @@
+//! An example: a makefile is looked through and edited, by functions with promises of their own.
+#![tactic(auto)]
+
+ghost use Rattle.std.specs.Prelude.{◌≡◌, true, None, IfOk, OnOk};
+
+use anyhow::{Context, Result};
+use mk_lines::source::read_all;
+use mk_lines::{StdSink, StdSource};
+use mk_listing::{assignments, assignments_of, rules_for};
+use mk_session::laws::{groups_are_taken_back, undo_takes_back_an_edit};
+use mk_session::{Edit, MakeEdit, Refusal, Session};
+use mk_views::text_of;
+use std::env;
+use std::fs::File;
+
+/// Makes an edit and takes it back.
+fn try_edit(session: &mut Session, edit: &Edit) -> Result<(), Refusal>
+    requires no_group { session.old.shown.begun ≡ None }
+    ensures same_text { OnOk result (session.new.shown.text ≡ session.old.shown.text) }
+{
+    undo_takes_back_an_edit();
+    session.apply(edit)?;
+    session.undo()
+}
+
+/// Makes two edits as one and takes them back.
+fn try_both(session: &mut Session, both: &[Edit; 2]) -> Result<(), Refusal>
+    ensures same_text { OnOk result (session.new.shown.text ≡ session.old.shown.text) }
+{
+    groups_are_taken_back();
+    session.group(both).map_err(|(_, refusal)| refusal)?;
+    session.undo()
+}
+
+/// Tells whether edits can be made as one, and leaves the text as it was.
+fn try_all(session: &mut Session, edits: &[Edit]) -> Result<(), (usize, Refusal)>
+    ensures same_text { session.new.shown.text ≡ session.old.shown.text }
+{
+    session.dry_run(edits)
+}
+
+/// Whether a try of some edits leaves the bytes as they were: it always does.
+fn is_kept(rt: &HostRuntime, session: &mut Session, edits: &[Edit]) -> Result<bool>
+    ensures { IfOk result (λ kept. kept ≡ true) }
+{
+    let before = text_of(rt.alloc(), session.doc())?;
+    let _ = try_all(session, edits);
+    let after = text_of(rt.alloc(), session.doc())?;
+    Ok(before.as_slice() == after.as_slice())
+}
+
+// Makes an edit, or tells why it is refused.
+fn make(rt: &HostRuntime, session: &mut Session, what: &str, edit: &Edit) -> Result<()> {
+    if let Err(refusal) = session.apply(edit) {
+        println!(rt; "{what}: refused {} {}", refusal.number(), refusal.name())?;
+    }
+    Ok(())
+}
+
+fn show(rt: &HostRuntime, step: &str, session: &Session) -> Result<()> {
+    println!(rt; "== {step}")?;
+    Ok(session.doc().write_to(&mut StdSink::new(rt.stdout()))?)
+}
+
+fn main(rt: HostRuntime) -> Result<()> {
+    let path = env::args(&rt)?.nth(1).context("usage: MAKEFILE")?;
+    let file = File::open(&rt, path.as_str())?;
+    let text = read_all(rt.alloc(), &mut StdSource::new(file))?;
+    let mut session = Session::open_vec(rt.alloc(), text, 100)?;
+
+    // each variable that is assigned more than once, with the numbers of its lines
+    for found in assignments(session.doc()) {
+        let name = found.assignment.name();
+        let same = assignments_of(session.doc(), name);
+        let lines: Vec<usize> = same.map(|it| it.position.number).collect(rt.alloc())?;
+        if lines.len() > 1 && lines[0] == found.position.number {
+            println!(rt; "{}: {lines:?}", String::from_utf8_lossy(rt.alloc(), name)?)?;
+        }
+    }
+    let last = rules_for(session.doc(), b"clean").last();
+    for nth in 1..=last.map_or(0, |rule| rule.nth) {
+        let clean = Edit::recipe(rt.alloc(), b"clean", b"rm -rf build")?.nth(nth);
+        make(&rt, &mut session, "clean", &clean)?;
+    }
+    show(&rt, "cleaned", &session)?;
+    session.begin()?;
+    let set = Edit::set(rt.alloc(), b"CC", b"clang")?;
+    make(&rt, &mut session, "set", &set)?;
+    let append = Edit::append(rt.alloc(), b"CFLAGS", b"-g")?;
+    make(&rt, &mut session, "append", &append)?;
+    session.end()?;
+    show(&rt, "edited", &session)?;
+    session.undo()?;
+    show(&rt, "undone", &session)
+}

@@ -1,0 +1,51 @@
+use Rattle.std.proofs.Common.{◌∙◌, refl, ap, sym, subst, [], ◌∷◌, map, take, arith}
+use Rattle.std.specs.Prelude.{is_ok}
+use Rattle.std.proofs.lemmas.List.{length-map}
+use Rattle.mk_edit_language.specs.EditViews.{edit_of}
+use Rattle.mk_session.specs.Groups.{costs_in_turn}
+use Rattle.mk_session.specs.StoredSessions.{IsStored, shown_stored}
+use Rattle.mk_session.proofs.on_sessions.StepLemmas.{text-shown}
+use Rattle.mk_session.proofs.on_sessions.StoredLemmas.{some-if-counted}
+use Rattle.mk_session.proofs.on_sessions.GroupLemmas.{group-step, group-refused}
+use Rattle.mk_session.proofs.session.Session.dry_run.Goals as goal
+
+pub returns-in-Err-clause-refused : goal.returns-in-Err-clause-refused
+returns-in-Err-clause-refused g c =
+    group-refused (map edit_of c.args.edits.now) c.self.inside.history c.self.inside.group c.self.inside.doc c.args.self.now.shown c.in-Err.refused.0 c.in-Err.refused.1
+    (ap (λ s. s.shown) c.self.view_is) (sym c.if-has_open_group.ensures) c.in-Err.ensures.refused
+
+pub returns-in-Err-clause-few_read : goal.returns-in-Err-clause-few_read
+returns-in-Err-clause-few_read g c =
+    let text = text-shown c.self.inside.history c.self.inside.group c.self.inside.doc c.args.self.now.shown (ap (λ s. s.shown) c.self.view_is) in
+    omega (arith, c.make_all.ensures.few_read, ap (λ s. s.rereads) c.self.view_is, ap (costs_in_turn (map edit_of c.args.edits.now)) text, c.self.invariant.1)
+
+pub take_back-requires : goal.take_back-requires
+take_back-requires g c = c.in-Ok.ensures.made.fits_back
+
+pub invariant_of-self-2 : goal.invariant_of-self-2
+invariant_of-self-2 g c = (
+  subst (IsStored c.self.inside.history c.self.inside.group) (sym (c.take_back.ensures ∙ c.in-Ok.ensures.made.leads_back)) c.self.invariant.0,
+  omega (arith, c.self.invariant.1, c.make_all.ensures.forward),
+  c.self.invariant.2,
+)
+
+pub returns-clause-same : goal.returns-clause-same
+returns-clause-same g c =
+    ap (shown_stored c.self.inside.history c.self.inside.group) (c.take_back.ensures ∙ c.in-Ok.ensures.made.leads_back) ∙ ap (λ s. s.shown) c.self.view_is
+
+pub returns-clause-granted : goal.returns-clause-granted
+returns-clause-granted g c =
+    let h = c.self.inside.history in
+    ap is_ok
+    (group-step (map edit_of c.args.edits.now) h (record h { done = take h.depth (c.in-Ok.back ∷ h.done); undone = [] }) c.self.inside.group c.in-Ok.back c.self.inside.doc c.make_all.new.doc c.args.self.now.shown
+    (ap (λ s. s.shown) c.self.view_is) (sym c.if-has_open_group.ensures) (omega (arith, length-map c.args.edits.now edit_of, some-if-counted c.args.edits.now c.if-is_empty.ensures)) c.in-Ok.ensures.made refl)
+
+pub returns-clause-counted : goal.returns-clause-counted
+returns-clause-counted g c =
+    let text = text-shown c.self.inside.history c.self.inside.group c.self.inside.doc c.args.self.now.shown (ap (λ s. s.shown) c.self.view_is) in
+    λ few. omega (arith, few, c.in-Ok.ensures.counted, ap (λ s. s.rereads) c.self.view_is, ap (costs_in_turn (map edit_of c.args.edits.now)) text, c.self.invariant.1, c.self.invariant.2)
+
+pub returns-clause-few_read : goal.returns-clause-few_read
+returns-clause-few_read g c =
+    let text = text-shown c.self.inside.history c.self.inside.group c.self.inside.doc c.args.self.now.shown (ap (λ s. s.shown) c.self.view_is) in
+    omega (arith, c.make_all.ensures.few_read, ap (λ s. s.rereads) c.self.view_is, ap (costs_in_turn (map edit_of c.args.edits.now)) text, c.self.invariant.1)
