@@ -1,0 +1,2 @@
+-- Lemmas by subject
+mod ValueLemmas
