@@ -1,2 +1,5 @@
 -- Lemmas by subject
 mod ValueLemmas
+mod ConditionalLemmas
+mod WritingLemmas
+mod PartLemmas

@@ -7,5 +7,6 @@ pub mod OpenConditionals
 pub mod LineMembers
 pub mod JsonLines
 -- # Vocabulary of private contracts
--- JSON that is being written
+-- Parts of lines, and JSON that is being written
+pub mod PartMembers
 pub mod Writing

@@ -1,6 +1,6 @@
 -- The conditionals that are open at a line, the outermost first.
 -- Told in docs/LIBRARY.md, "Lines of JSON".
-use Rattle.std.specs.Prelude.{List, [], ◌∷◌, ◌++◌, Option, Some, None}
+use Rattle.std.specs.Prelude.{◌-◌, List, [], ◌∷◌, ◌++◌, length, take, Option, Some, None}
 use Rattle.mk_views.specs.declared.line.Conditional.{Conditional}
 use Rattle.mk_views.specs.declared.line.Conditional.TheVariants.{If, Else, Endif}
 use Rattle.mk_listing.specs.declared.position.Position.{Position}
@@ -14,9 +14,7 @@ in_branch p (o ∷ i ∷ os) = o ∷ in_branch p (i ∷ os)
 
 -- some open conditionals without the innermost
 abbrev pub without_innermost : List OpenConditional → List OpenConditional
-without_innermost [] = []
-without_innermost (o ∷ []) = []
-without_innermost (o ∷ i ∷ os) = o ∷ without_innermost (i ∷ os)
+without_innermost os = take (length os - 1) os
 
 -- the conditionals that are open below a line, which stands here
 abbrev pub open_below : List OpenConditional → Position → Option Conditional

@@ -11,7 +11,11 @@ abbrev pub PutsTokens : {E : Type 0} → Result Unit E → (old new : Written) �
 PutsTokens result old new ts =
     OnOk result ((new.before ≡ old.before) × (new.tokens ≡ old.tokens ++ ts))
 
+-- the tokens of a member
+abbrev pub member_tokens : Member → List Token
+member_tokens m = key m.0 ∷ json_tokens m.1
+
 -- the tokens of some members
 abbrev pub tokens_of : List Member → List Token
 tokens_of [] = []
-tokens_of (m ∷ ms) = key m.0 ∷ (json_tokens m.1 ++ tokens_of ms)
+tokens_of (m ∷ ms) = member_tokens m ++ tokens_of ms

@@ -1,6 +1,6 @@
 //! The conditionals that are open at a line.
-ghost use Rattle.std.specs.Prelude.{◌≡◌, OnOk};
-ghost use Rattle.mk_json.specs.OpenConditionals.{open_below};
+ghost use Rattle.std.specs.Prelude.{◌≡◌, ◌∷◌, ◌++◌, [], OnOk};
+ghost use Rattle.mk_json.specs.OpenConditionals.{in_branch, open_below};
 
 use mk_listing::Position;
 use mk_views::Conditional;
@@ -30,10 +30,7 @@ pub(crate) fn pass<A: Allocator>(
 {
     match line {
         Some(Conditional::If) => begin_branch(open, position, position),
-        Some(Conditional::Else) => match open.pop() {
-            Some(innermost) => begin_branch(open, innermost.first, position),
-            None => Ok(()),
-        },
+        Some(Conditional::Else) => begin_other_branch(open, position),
         Some(Conditional::Endif) => {
             open.pop();
             Ok(())
@@ -53,4 +50,17 @@ fn begin_branch<A: Allocator>(
 {
     open.push(OpenConditional { first, branch })?;
     Ok(())
+}
+
+// Begins another branch of the innermost conditional that is open.
+fn begin_other_branch<A: Allocator>(
+    open: &mut Vec<OpenConditional, A>,
+    branch: Position,
+) -> Result<(), AllocError>
+    ensures { OnOk result (open.new.items ≡ in_branch branch open.old.items) }
+{
+    match open.pop() {
+        Some(innermost) => begin_branch(open, innermost.first, branch),
+        None => Ok(()),
+    }
 }

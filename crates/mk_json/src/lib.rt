@@ -11,6 +11,7 @@
 //!
 //! - [`conditional`]: the conditionals that are open at a line.
 //! - `value`: texts and numbers as JSON values.
+//! - `member`: members of objects, each with its name.
 //! - `place`: where a line stands.
 //! - `parts`: the parts of lines.
 //! - `object`: the object on a line.
@@ -18,6 +19,7 @@
 #![tactic(auto)]
 
 pub mod conditional;
+mod member;
 mod object;
 mod parts;
 mod place;

@@ -1,51 +1,64 @@
 //! The object on a line.
-ghost use Rattle.std.specs.Prelude.{◌≡◌, ◌∷◌, ◌++◌, [], IfOk, codes};
-ghost use Rattle.json.specs.Print.{print};
-ghost use Rattle.json.specs.Token.{begin_object, end_object};
+ghost use Rattle.std.specs.Prelude.{◌≡◌, ◌++◌, IfOk, option_map};
+ghost use Rattle.json.specs.Json.{object};
+ghost use Rattle.json.specs.Tree.{json_tokens};
+ghost use Rattle.mk_json.specs.JsonLines.{said_there};
 ghost use Rattle.mk_json.specs.LineMembers.{place_members};
-ghost use Rattle.mk_json.specs.Writing.{tokens_of};
+ghost use Rattle.mk_json.specs.Members.{members_of};
+ghost use Rattle.mk_json.specs.PartMembers.{part_members};
+ghost use Rattle.mk_json.specs.Writing.{PutsTokens};
 
 use crate::conditional::OpenConditional;
+use crate::parts::{Parts, put_parts};
 use crate::place::put_place;
 use json::Writer;
 use mk_listing::Position;
 use mk_tree::Doc;
 use std::alloc::{AllocError, Allocator};
 
-/// Begins an object behind a text, with where a line stands.
+/// Puts the line of JSON on a line of a document behind a text: where the line stands, and its
+/// parts. Puts nothing if no parts are told.
 ///
 /// # Errors
 ///
 /// [`AllocError`] if a growth was refused.
-pub(crate) fn begin_object<A: Allocator, B: Allocator + Copy>(
+pub(crate) fn put_object<A: Allocator, B: Allocator + Copy>(
     text: Vec<u8, B>,
     alloc: B,
     file: &[u8],
     doc: &Doc<A>,
     open: &[OpenConditional],
     position: Position,
-) -> Result<Writer<B>, AllocError>
-    ensures before { IfOk result (λ writer. writer.before ≡ text.entry.items) }
-    ensures tokens { IfOk result (λ writer. writer.tokens
-        ≡ begin_object ∷ tokens_of (place_members file.now doc.now open.now position)) }
+    parts: Option<Parts<'_>>,
+) -> Result<Vec<u8, B>, AllocError>
+    ensures { IfOk result (λ longer. longer.items ≡ text.items
+        ++ said_there file.now doc.now open.now position (option_map part_members parts.entry)) }
 {
+    let Some(parts) = parts else {
+        return Ok(text);
+    };
     let mut writer = Writer::new(text);
-    writer.begin_object()?;
-    put_place(&mut writer, alloc, file, doc, open, position)?;
-    Ok(writer)
+    put_members(&mut writer, alloc, file, doc, open, position, &parts)?;
+    let mut longer = writer.into_inner();
+    longer.push(b'\n')?;
+    Ok(longer)
 }
 
-/// Ends an object, and its line of text.
-///
-/// # Errors
-///
-/// [`AllocError`] if a growth was refused.
-pub(crate) fn end_object<A: Allocator>(mut writer: Writer<A>) -> Result<Vec<u8, A>, AllocError>
-    ensures { IfOk result (λ text. text.items ≡ writer.entry.before
-        ++ (print (writer.entry.tokens ++ end_object ∷ []) ++ codes "\n")) }
+// Puts an object that says where a line stands, and what its parts are.
+fn put_members<A: Allocator, B: Allocator + Copy>(
+    writer: &mut Writer<B>,
+    alloc: B,
+    file: &[u8],
+    doc: &Doc<A>,
+    open: &[OpenConditional],
+    position: Position,
+    parts: &Parts<'_>,
+) -> Result<(), AllocError>
+    ensures { PutsTokens result writer.old writer.new (json_tokens (object (members_of
+        (place_members file.now doc.now open.now position ++ part_members parts.now)))) }
 {
-    writer.end_object()?;
-    let mut text = writer.into_inner();
-    text.push(b'\n')?;
-    Ok(text)
+    writer.begin_object()?;
+    put_place(writer, alloc, file, doc, open, position)?;
+    put_parts(writer, alloc, parts)?;
+    writer.end_object()
 }

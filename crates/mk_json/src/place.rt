@@ -1,13 +1,13 @@
 //! Where a line stands, as members of its object.
-ghost use Rattle.std.specs.Prelude.{◌≡◌};
+ghost use Rattle.std.specs.Prelude.{◌≡◌, codes};
 ghost use Rattle.json.specs.Json.{array, object};
-ghost use Rattle.json.specs.Tree.{json_tokens};
+ghost use Rattle.json.specs.Tree.{items_tokens, json_tokens};
 ghost use Rattle.mk_json.specs.LineMembers.{condition_items, condition_members, line_members, place_members, text_there};
 ghost use Rattle.mk_json.specs.Members.{members_of};
-ghost use Rattle.mk_json.specs.Writing.{PutsTokens, tokens_of};
+ghost use Rattle.mk_json.specs.Writing.{PutsTokens, member_tokens, tokens_of};
 
 use crate::conditional::OpenConditional;
-use crate::value::{put_number, put_text};
+use crate::member::{put_number_member, put_text_member};
 use json::Writer;
 use mk_listing::{Position, line_at};
 use mk_tree::Doc;
@@ -31,12 +31,22 @@ pub(crate) fn put_place<A: Allocator, B: Allocator + Copy>(
     ensures { PutsTokens result writer.old writer.new
         (tokens_of (place_members file.now doc.now open.now position)) }
 {
-    writer.key("file")?;
-    put_text(writer, alloc, file)?;
-    writer.key("line")?;
-    put_number(writer, position.number)?;
-    writer.key("depth")?;
-    put_number(writer, usize::from(position.conditionals))?;
+    put_text_member(writer, alloc, "file", file)?;
+    put_number_member(writer, "line", position.number)?;
+    put_number_member(writer, "depth", usize::from(position.conditionals))?;
+    put_conditions_member(writer, alloc, doc, open)
+}
+
+// Puts the member of the open conditionals.
+fn put_conditions_member<A: Allocator, B: Allocator + Copy>(
+    writer: &mut Writer<B>,
+    alloc: B,
+    doc: &Doc<A>,
+    open: &[OpenConditional],
+) -> Result<(), AllocError>
+    ensures { PutsTokens result writer.old writer.new
+        (member_tokens (codes "conditions", array (condition_items doc.now open.now))) }
+{
     writer.key("conditions")?;
     put_conditions(writer, alloc, doc, open)
 }
@@ -52,6 +62,19 @@ fn put_conditions<A: Allocator, B: Allocator + Copy>(
         (json_tokens (array (condition_items doc.now open.now))) }
 {
     writer.begin_array()?;
+    put_items(writer, alloc, doc, open)
+}
+
+// Puts open conditionals, and the end of the array.
+fn put_items<A: Allocator, B: Allocator + Copy>(
+    writer: &mut Writer<B>,
+    alloc: B,
+    doc: &Doc<A>,
+    open: &[OpenConditional],
+) -> Result<(), AllocError>
+    ensures { PutsTokens result writer.old writer.new
+        (items_tokens (condition_items doc.now open.now)) }
+{
     'conditions: for conditional in open {
         put_condition(writer, alloc, doc, *conditional)?;
     }
@@ -87,10 +110,8 @@ fn put_line<A: Allocator, B: Allocator + Copy>(
         (json_tokens (object (members_of (line_members doc.now position)))) }
 {
     writer.begin_object()?;
-    writer.key("line")?;
-    put_number(writer, position.number)?;
-    writer.key("text")?;
-    put_text(writer, alloc, text_there(doc, position))?;
+    put_number_member(writer, "line", position.number)?;
+    put_text_member(writer, alloc, "text", text_there(doc, position))?;
     writer.end_object()
 }
 

@@ -1,8 +1,8 @@
 //! Texts and numbers as JSON values.
 ghost use Rattle.std.specs.Prelude.{◌≡◌};
 ghost use Rattle.json.specs.Json.{string};
-ghost use Rattle.json.specs.Tree.{json_tokens};
-ghost use Rattle.mk_json.specs.JsonValues.{base64_value, number_value, text_value, texts_value};
+ghost use Rattle.json.specs.Tree.{items_tokens, json_tokens};
+ghost use Rattle.mk_json.specs.JsonValues.{base64_value, number_value, text_items, text_value, texts_value};
 ghost use Rattle.mk_json.specs.Writing.{PutsTokens};
 
 use base64::engine::general_purpose::STANDARD;
@@ -70,6 +70,17 @@ pub(crate) fn put_texts<A: Allocator + Copy>(
     ensures { PutsTokens result writer.old writer.new (json_tokens (texts_value words.entry)) }
 {
     writer.begin_array()?;
+    put_items(writer, alloc, words)
+}
+
+// Puts some words, and the end of the array.
+fn put_items<A: Allocator + Copy>(
+    writer: &mut Writer<A>,
+    alloc: A,
+    words: WordTexts<'_>,
+) -> Result<(), AllocError>
+    ensures { PutsTokens result writer.old writer.new (items_tokens (text_items words.entry)) }
+{
     'words: for word in words {
         put_text(writer, alloc, word)?;
     }

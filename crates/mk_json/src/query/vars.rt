@@ -1,14 +1,15 @@
 //! The query `vars`: the assignments.
-ghost use Rattle.std.specs.Prelude.{◌≡◌, ◌++◌, IfOk, option_map};
+ghost use Rattle.std.specs.Prelude.{◌≡◌, IfOk, option_map};
 ghost use Rattle.mk_tree.specs.Trees.{line_view};
 ghost use Rattle.mk_listing.specs.Listings.{is_of};
-ghost use Rattle.mk_json.specs.JsonLines.{said_there, vars_lines};
+ghost use Rattle.mk_json.specs.JsonLines.{vars_lines};
 ghost use Rattle.mk_json.specs.LineMembers.{variable_members};
+ghost use Rattle.mk_json.specs.PartMembers.{part_members};
 
-use crate::conditional::{OpenConditional, pass};
-use crate::object::{begin_object, end_object};
-use crate::parts::{put_assignment, put_target_assignment};
-use mk_listing::{Position, numbered};
+use crate::conditional::pass;
+use crate::object::put_object;
+use crate::parts::Parts;
+use mk_listing::numbered;
 use mk_tree::{Doc, Line};
 use mk_views::{AssignmentRef, LineViews};
 use std::alloc::{AllocError, Allocator};
@@ -41,44 +42,31 @@ pub fn vars<A: Allocator, B: Allocator + Copy>(
     let mut text = Vec::new(alloc);
     let mut open = Vec::new(alloc);
     'lines: for (position, line) in numbered(doc) {
-        text = put_variable(text, alloc, file, doc, &open, position, name, line)?;
+        let parts = variable_parts(name, line);
+        text = put_object(text, alloc, file, doc, &open, position, parts)?;
         pass(&mut open, position, line.conditional())?;
     }
     Ok(text)
 }
 
-// Puts the line of JSON on a line behind a text, if the line is an assignment that is asked for.
-fn put_variable<A: Allocator, B: Allocator + Copy>(
-    text: Vec<u8, B>,
-    alloc: B,
-    file: &[u8],
-    doc: &Doc<A>,
-    open: &[OpenConditional],
-    position: Position,
-    name: Option<&[u8]>,
-    line: &Line<A>,
-) -> Result<Vec<u8, B>, AllocError>
-    ensures { IfOk result (λ longer. longer.items ≡ text.entry.items
-        ++ said_there file.now doc.now open.now position
-        (variable_members (option_map (λ word. word.now) name.entry) (line_view line.now))) }
+// The parts of a line, if it is an assignment that is asked for.
+fn variable_parts<'a, A: Allocator>(name: Option<&[u8]>, line: &'a Line<A>) -> Option<Parts<'a>>
+    ensures { option_map part_members result
+        ≡ variable_members (option_map (λ word. word.now) name.entry) (line_view line.now) }
 {
     if let Some(assignment) = line.assignment() {
-        if !is_of(&assignment, name) {
-            return Ok(text);
-        }
-        let mut writer = begin_object(text, alloc, file, doc, open, position)?;
-        put_assignment(&mut writer, alloc, &assignment)?;
-        return end_object(writer);
+        return if is_of(&assignment, name) {
+            Some(Parts::Assignment(assignment))
+        } else {
+            None
+        };
     }
-    let Some(assignment) = line.target_assignment() else {
-        return Ok(text);
-    };
-    if !is_of(&assignment.assignment(), name) {
-        return Ok(text);
+    let assignment = line.target_assignment()?;
+    if is_of(&assignment.assignment(), name) {
+        Some(Parts::TargetAssignment(assignment))
+    } else {
+        None
     }
-    let mut writer = begin_object(text, alloc, file, doc, open, position)?;
-    put_target_assignment(&mut writer, alloc, &assignment)?;
-    end_object(writer)
 }
 
 // Whether an assignment is one of a name, if one is asked for.
