@@ -11,6 +11,7 @@ A row of the table has a name, the query, the one name or target that it is aske
 empty, the name of the file, and the makefile. row_tables.py says how a table is written.
 """
 
+import re
 import sys
 from pathlib import Path
 
@@ -19,6 +20,11 @@ sys.path.insert(0, str(Path(__file__).resolve().parents[2]))
 from reading_rows import antt_text
 from row_tables import rows_of_table, unescape
 from tests.lib.json_lines import json_text
+
+
+def drawn_text(text):
+    """A text as a term, which draws no control character beyond ASCII either."""
+    return re.sub(r"[\x80-\xa0\xad]", lambda found: f"\\u{{{ord(found.group()):x}}}", antt_text(text))
 
 
 def rows(table):
@@ -35,12 +41,12 @@ def print_equations(table):
     print("use Rattle.std.specs.Prelude.{Some, None, codes}")
     print("use Rattle.mk_tree.specs.Documents.{document_lines}")
     print("use Rattle.mk_json.specs.JsonLines.{vars_lines}")
-    print("use Rattle.mk_json.proofs.OnLiterals.{json_on_literals}")
+    print("use Rattle.mk_json.proofs.OnLiterals.{lines_on_literals}")
     for name, query, word, file, makefile, text in rows(table):
         row = "row_" + name.replace("-", "_")
-        asked = "None" if word is None else f"(Some {antt_text(word)})"
-        question = f"{query}_lines {antt_text(file)} {asked} (document_lines {antt_text(makefile)})"
-        print(f"\n{row} : {question} ≡ {antt_text(text)}\nunfolding json_on_literals\n{row} = refl")
+        asked = "None" if word is None else f"(Some {drawn_text(word)})"
+        question = f"{query}_lines {drawn_text(file)} {asked} (document_lines {drawn_text(makefile)})"
+        print(f"\n{row} : {question} ≡ {drawn_text(text)}\nunfolding lines_on_literals\n{row} = refl")
 
 
 def rust_text(text):

@@ -3,3 +3,6 @@ mod ValueLemmas
 mod ConditionalLemmas
 mod WritingLemmas
 mod PartLemmas
+-- Definitions computed
+mod OnLiterals
+mod WorkedRows

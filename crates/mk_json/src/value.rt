@@ -33,10 +33,7 @@ pub(crate) fn put_text<A: Allocator + Copy>(
 /// # Errors
 ///
 /// [`AllocError`] if the JSON could not grow.
-pub(crate) fn put_string<A: Allocator>(
-    writer: &mut Writer<A>,
-    text: &str,
-) -> Result<(), AllocError>
+pub(crate) fn put_string<A: Allocator>(writer: &mut Writer<A>, text: &str) -> Result<(), AllocError>
     ensures { PutsTokens result writer.old writer.new (json_tokens (string text.now)) }
 {
     writer.string(text)
