@@ -1,5 +1,5 @@
 -- The innermost open conditional stands last.
-use Rattle.std.proofs.Common.{◌≡◌, refl, sym, ap, ◌∙◌, List, [], ◌∷◌, ◌++◌, append-nil, Option, option_to_list, None}
+use Rattle.std.proofs.Common.{◌≡◌, refl, ap, List, [], ◌∷◌, ◌++◌}
 use Rattle.mk_listing.specs.declared.position.Position.{Position}
 use Rattle.mk_json.specs.declared.conditional.OpenConditional.{OpenConditional}
 use Rattle.mk_json.specs.OpenConditionals.{in_branch}

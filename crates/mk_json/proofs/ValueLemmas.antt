@@ -2,7 +2,7 @@
 use Rattle.std.proofs.Common.{◌≡◌, List, ℕ, true, false, if◌then◌else◌, Bool, ap, refl}
 use Rattle.std.specs.Prelude.{IsUtf8}
 use Rattle.std.specs.Str.{is_utf8}
-use Rattle.json.specs.Json.{Json, string}
+use Rattle.json.specs.Json.{string}
 use Rattle.std.proofs.lemmas.Str.{is_utf8-from_IsUtf8, IsUtf8-from_is_utf8}
 use Rattle.mk_json.specs.JsonValues.{base64_value, text_value}
 

@@ -1,7 +1,7 @@
 -- The members of the objects that tell of lines.
 -- Told in docs/LIBRARY.md, "Lines of JSON".
 use Rattle.std.specs.Prelude.{ℕ, if◌then◌else◌, List, [], ◌∷◌, ◌++◌, slice_get, Option, Some, None, codes}
-use Rattle.json.specs.Json.{Json, string, array, object, Items, no_items, item}
+use Rattle.json.specs.Json.{string, array, object, Items, no_items, item}
 use Rattle.mk_class.specs.OperatorTexts.{operator_text, separator_text}
 use Rattle.mk_class.specs.declared.rule.Separator.{Separator}
 use Rattle.mk_tree.specs.LocatedLines.{LocatedLine, text_of_line}
@@ -68,7 +68,7 @@ target_assignment_members t =
     target_members t.targets t.separator ++ assignment_members t.assignment
 
 -- `vars`, of a line, of one name if one is asked for: an assignment, for targets or not
-abbrev pub variable_in : (name : Option (List ℕ)) → Option AssignmentView
+abbrev variable_in : (name : Option (List ℕ)) → Option AssignmentView
     → Option TargetAssignmentView → Option (List Member)
 variable_in n (Some a) t = if is_of n a then Some (assignment_members a) else None
 variable_in n None (Some t) =

@@ -13,7 +13,7 @@ in_branch p (o ∷ []) = record { first = o.first; branch = p } ∷ []
 in_branch p (o ∷ i ∷ os) = o ∷ in_branch p (i ∷ os)
 
 -- some open conditionals without the innermost
-abbrev pub without_innermost : List OpenConditional → List OpenConditional
+abbrev without_innermost : List OpenConditional → List OpenConditional
 without_innermost os = take (length os - 1) os
 
 -- the conditionals that are open below a line, which stands here
