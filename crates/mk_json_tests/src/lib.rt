@@ -1,9 +1,8 @@
-//! Tests of lines of JSON: rows with the text that Python gives for them, and growths that are
-//! refused.
+//! Tests of lines of JSON: rows with the text that Python gives for them.
 //!
 //! - `query`: the queries by name.
 //! - `rows`: makefiles, and their lines of JSON.
-//! - `tests`: the rows, in memory that is enough and in memory that ends.
+//! - `tests`: the rows.
 #![tactic(auto)]
 
 #[cfg(test)]
