@@ -1,0 +1,8 @@
+-- Lemmas by subject
+mod ValueLemmas
+mod ConditionalLemmas
+mod WritingLemmas
+mod PartLemmas
+-- Definitions computed
+mod OnLiterals
+mod WorkedRows

@@ -1,0 +1,78 @@
+-- Lines of JSON. Made by `tests/definitions/json_rows.py tests/cases/json.tsv`.
+use Rattle.std.proofs.Common.{◌≡◌, refl, []}
+use Rattle.std.specs.Prelude.{Some, None, codes}
+use Rattle.mk_tree.specs.Documents.{document_lines}
+use Rattle.mk_json.specs.JsonLines.{vars_lines}
+use Rattle.mk_json.proofs.OnLiterals.{lines_on_literals}
+
+row_an_empty_makefile : vars_lines (codes "Makefile") None (document_lines []) ≡ []
+unfolding lines_on_literals
+row_an_empty_makefile = refl
+
+row_the_parts_of_an_assignment : vars_lines (codes "config.mk") None (document_lines (codes "# tools\nexport override CC ?= gcc -m64 # the compiler\n")) ≡ (codes "{\"file\":\"config.mk\",\"line\":2,\"depth\":0,\"conditions\":[],\"modifiers\":[\"export\",\"override\"],\"name\":\"CC\",\"operator\":\"?=\",\"value\":\"gcc -m64\"}\n")
+unfolding lines_on_literals
+row_the_parts_of_an_assignment = refl
+
+row_each_operator : vars_lines (codes "a") None (document_lines (codes "A = 1\nB := 2\nC ::= 3\nD :::= 4\nE ?= 5\nF += 6\nG != 7\n")) ≡ (codes "{\"file\":\"a\",\"line\":1,\"depth\":0,\"conditions\":[],\"modifiers\":[],\"name\":\"A\",\"operator\":\"=\",\"value\":\"1\"}\n{\"file\":\"a\",\"line\":2,\"depth\":0,\"conditions\":[],\"modifiers\":[],\"name\":\"B\",\"operator\":\":=\",\"value\":\"2\"}\n{\"file\":\"a\",\"line\":3,\"depth\":0,\"conditions\":[],\"modifiers\":[],\"name\":\"C\",\"operator\":\"::=\",\"value\":\"3\"}\n{\"file\":\"a\",\"line\":4,\"depth\":0,\"conditions\":[],\"modifiers\":[],\"name\":\"D\",\"operator\":\":::=\",\"value\":\"4\"}\n{\"file\":\"a\",\"line\":5,\"depth\":0,\"conditions\":[],\"modifiers\":[],\"name\":\"E\",\"operator\":\"?=\",\"value\":\"5\"}\n{\"file\":\"a\",\"line\":6,\"depth\":0,\"conditions\":[],\"modifiers\":[],\"name\":\"F\",\"operator\":\"+=\",\"value\":\"6\"}\n{\"file\":\"a\",\"line\":7,\"depth\":0,\"conditions\":[],\"modifiers\":[],\"name\":\"G\",\"operator\":\"!=\",\"value\":\"7\"}\n")
+unfolding lines_on_literals
+row_each_operator = refl
+
+row_an_empty_value : vars_lines (codes "a") None (document_lines (codes "A =\n")) ≡ (codes "{\"file\":\"a\",\"line\":1,\"depth\":0,\"conditions\":[],\"modifiers\":[],\"name\":\"A\",\"operator\":\"=\",\"value\":\"\"}\n")
+unfolding lines_on_literals
+row_an_empty_value = refl
+
+row_a_folded_value : vars_lines (codes "a") None (document_lines (codes "A = 1 \\\n  2\nB = 3\n")) ≡ (codes "{\"file\":\"a\",\"line\":1,\"depth\":0,\"conditions\":[],\"modifiers\":[],\"name\":\"A\",\"operator\":\"=\",\"value\":\"1 2\"}\n{\"file\":\"a\",\"line\":3,\"depth\":0,\"conditions\":[],\"modifiers\":[],\"name\":\"B\",\"operator\":\"=\",\"value\":\"3\"}\n")
+unfolding lines_on_literals
+row_a_folded_value = refl
+
+row_assignments_for_targets : vars_lines (codes "a") None (document_lines (codes "main a.o: CFLAGS += -g\nb:: private X := 1\n")) ≡ (codes "{\"file\":\"a\",\"line\":1,\"depth\":0,\"conditions\":[],\"targets\":[\"main\",\"a.o\"],\"separator\":\":\",\"modifiers\":[],\"name\":\"CFLAGS\",\"operator\":\"+=\",\"value\":\"-g\"}\n{\"file\":\"a\",\"line\":2,\"depth\":0,\"conditions\":[],\"targets\":[\"b\"],\"separator\":\"::\",\"modifiers\":[\"private\"],\"name\":\"X\",\"operator\":\":=\",\"value\":\"1\"}\n")
+unfolding lines_on_literals
+row_assignments_for_targets = refl
+
+row_what_is_no_assignment : vars_lines (codes "a") None (document_lines (codes "all: main\n\techo A = 1\nifdef X\n# A = 1\nendif\n$(foo)\n")) ≡ []
+unfolding lines_on_literals
+row_what_is_no_assignment = refl
+
+row_two_branches : vars_lines (codes "a") None (document_lines (codes "ifdef X\nA = 1\nelse\nA = 2\nendif\nA = 3\n")) ≡ (codes "{\"file\":\"a\",\"line\":2,\"depth\":1,\"conditions\":[{\"branch\":{\"line\":1,\"text\":\"ifdef X\"},\"first\":{\"line\":1,\"text\":\"ifdef X\"}}],\"modifiers\":[],\"name\":\"A\",\"operator\":\"=\",\"value\":\"1\"}\n{\"file\":\"a\",\"line\":4,\"depth\":1,\"conditions\":[{\"branch\":{\"line\":3,\"text\":\"else\"},\"first\":{\"line\":1,\"text\":\"ifdef X\"}}],\"modifiers\":[],\"name\":\"A\",\"operator\":\"=\",\"value\":\"2\"}\n{\"file\":\"a\",\"line\":6,\"depth\":0,\"conditions\":[],\"modifiers\":[],\"name\":\"A\",\"operator\":\"=\",\"value\":\"3\"}\n")
+unfolding lines_on_literals
+row_two_branches = refl
+
+row_conditionals_inside_each_other : vars_lines (codes "a") None (document_lines (codes "ifdef X # x\nB = 1\nifeq (a,b)\nelse ifneq (c,d)\nB = 2\nelse\n  ifndef Y\nB = 3\n endif\nendif\nB = 4\nendif\nB = 5\n")) ≡ (codes "{\"file\":\"a\",\"line\":2,\"depth\":1,\"conditions\":[{\"branch\":{\"line\":1,\"text\":\"ifdef X # x\"},\"first\":{\"line\":1,\"text\":\"ifdef X # x\"}}],\"modifiers\":[],\"name\":\"B\",\"operator\":\"=\",\"value\":\"1\"}\n{\"file\":\"a\",\"line\":5,\"depth\":2,\"conditions\":[{\"branch\":{\"line\":1,\"text\":\"ifdef X # x\"},\"first\":{\"line\":1,\"text\":\"ifdef X # x\"}},{\"branch\":{\"line\":4,\"text\":\"else ifneq (c,d)\"},\"first\":{\"line\":3,\"text\":\"ifeq (a,b)\"}}],\"modifiers\":[],\"name\":\"B\",\"operator\":\"=\",\"value\":\"2\"}\n{\"file\":\"a\",\"line\":8,\"depth\":3,\"conditions\":[{\"branch\":{\"line\":1,\"text\":\"ifdef X # x\"},\"first\":{\"line\":1,\"text\":\"ifdef X # x\"}},{\"branch\":{\"line\":6,\"text\":\"else\"},\"first\":{\"line\":3,\"text\":\"ifeq (a,b)\"}},{\"branch\":{\"line\":7,\"text\":\"  ifndef Y\"},\"first\":{\"line\":7,\"text\":\"  ifndef Y\"}}],\"modifiers\":[],\"name\":\"B\",\"operator\":\"=\",\"value\":\"3\"}\n{\"file\":\"a\",\"line\":11,\"depth\":1,\"conditions\":[{\"branch\":{\"line\":1,\"text\":\"ifdef X # x\"},\"first\":{\"line\":1,\"text\":\"ifdef X # x\"}}],\"modifiers\":[],\"name\":\"B\",\"operator\":\"=\",\"value\":\"4\"}\n{\"file\":\"a\",\"line\":13,\"depth\":0,\"conditions\":[],\"modifiers\":[],\"name\":\"B\",\"operator\":\"=\",\"value\":\"5\"}\n")
+unfolding lines_on_literals
+row_conditionals_inside_each_other = refl
+
+row_a_folded_condition : vars_lines (codes "a") None (document_lines (codes "ifeq ($(A), \\\n  b)\nC = 1\nendif\n")) ≡ (codes "{\"file\":\"a\",\"line\":3,\"depth\":1,\"conditions\":[{\"branch\":{\"line\":1,\"text\":\"ifeq ($(A), b)\"},\"first\":{\"line\":1,\"text\":\"ifeq ($(A), b)\"}}],\"modifiers\":[],\"name\":\"C\",\"operator\":\"=\",\"value\":\"1\"}\n")
+unfolding lines_on_literals
+row_a_folded_condition = refl
+
+row_a_stray_endif_and_a_stray_else : vars_lines (codes "a") None (document_lines (codes "endif\nelse\nA = 1\nifdef B\nA = 2\n")) ≡ (codes "{\"file\":\"a\",\"line\":3,\"depth\":0,\"conditions\":[],\"modifiers\":[],\"name\":\"A\",\"operator\":\"=\",\"value\":\"1\"}\n{\"file\":\"a\",\"line\":5,\"depth\":1,\"conditions\":[{\"branch\":{\"line\":4,\"text\":\"ifdef B\"},\"first\":{\"line\":4,\"text\":\"ifdef B\"}}],\"modifiers\":[],\"name\":\"A\",\"operator\":\"=\",\"value\":\"2\"}\n")
+unfolding lines_on_literals
+row_a_stray_endif_and_a_stray_else = refl
+
+row_one_name : vars_lines (codes "a") (Some (codes "A")) (document_lines (codes "A = 1\nB = 2\nifdef X\nx: A = 3\ny: B = 4\nendif\nA += 5\n")) ≡ (codes "{\"file\":\"a\",\"line\":1,\"depth\":0,\"conditions\":[],\"modifiers\":[],\"name\":\"A\",\"operator\":\"=\",\"value\":\"1\"}\n{\"file\":\"a\",\"line\":4,\"depth\":1,\"conditions\":[{\"branch\":{\"line\":3,\"text\":\"ifdef X\"},\"first\":{\"line\":3,\"text\":\"ifdef X\"}}],\"targets\":[\"x\"],\"separator\":\":\",\"modifiers\":[],\"name\":\"A\",\"operator\":\"=\",\"value\":\"3\"}\n{\"file\":\"a\",\"line\":7,\"depth\":0,\"conditions\":[],\"modifiers\":[],\"name\":\"A\",\"operator\":\"+=\",\"value\":\"5\"}\n")
+unfolding lines_on_literals
+row_one_name = refl
+
+row_a_name_that_no_line_has : vars_lines (codes "a") (Some (codes "C")) (document_lines (codes "A = 1\nB = C\nC: A = 1\n")) ≡ []
+unfolding lines_on_literals
+row_a_name_that_no_line_has = refl
+
+row_quotes_and_backslashes : vars_lines (codes "a\"b\\c") None (document_lines (codes "A = \"x\" \\\\d\\ne \\\"\n")) ≡ (codes "{\"file\":\"a\\\"b\\\\c\",\"line\":1,\"depth\":0,\"conditions\":[],\"modifiers\":[],\"name\":\"A\",\"operator\":\"=\",\"value\":\"\\\"x\\\" \\\\\\\\d\\\\ne \\\\\\\"\"}\n")
+unfolding lines_on_literals
+row_quotes_and_backslashes = refl
+
+row_control_characters : vars_lines (codes "a\tb\n") None (document_lines (codes "A\u{1}\u{8}\u{b}\u{c}\u{1f} = a\tb\u{7f}\u{1b}\n")) ≡ (codes "{\"file\":\"a\\tb\\n\",\"line\":1,\"depth\":0,\"conditions\":[],\"modifiers\":[],\"name\":\"A\\u0001\\b\\u000b\\f\\u001f\",\"operator\":\"=\",\"value\":\"a\\tb\u{7f}\\u001b\"}\n")
+unfolding lines_on_literals
+row_control_characters = refl
+
+row_characters_beyond_ascii : vars_lines (codes "Ã©") None (document_lines (codes "MÃ¤â\u{82}¬ = ð\u{9f}\u{90}§\n")) ≡ (codes "{\"file\":\"Ã©\",\"line\":1,\"depth\":0,\"conditions\":[],\"modifiers\":[],\"name\":\"MÃ¤â\u{82}¬\",\"operator\":\"=\",\"value\":\"ð\u{9f}\u{90}§\"}\n")
+unfolding lines_on_literals
+row_characters_beyond_ascii = refl
+
+row_texts_that_are_not_utf_8 : vars_lines (codes "ÿ") None (document_lines (codes "ifdef é\n\u{80}a Ã: été = í\u{a0}\u{80} À¯\nendif\n")) ≡ (codes "{\"file\":{\"base64\":\"/w==\"},\"line\":2,\"depth\":1,\"conditions\":[{\"branch\":{\"line\":1,\"text\":{\"base64\":\"aWZkZWYg6Q==\"}},\"first\":{\"line\":1,\"text\":{\"base64\":\"aWZkZWYg6Q==\"}}}],\"targets\":[{\"base64\":\"gGE=\"},{\"base64\":\"ww==\"}],\"separator\":\":\",\"modifiers\":[],\"name\":{\"base64\":\"6XTp\"},\"operator\":\"=\",\"value\":{\"base64\":\"7aCAIMCv\"}}\n")
+unfolding lines_on_literals
+row_texts_that_are_not_utf_8 = refl
+
+row_line_ends_of_two_bytes : vars_lines (codes "a") None (document_lines (codes "ifdef X\r\nA = 1\r\nendif\r\n")) ≡ (codes "{\"file\":\"a\",\"line\":2,\"depth\":1,\"conditions\":[{\"branch\":{\"line\":1,\"text\":\"ifdef X\"},\"first\":{\"line\":1,\"text\":\"ifdef X\"}}],\"modifiers\":[],\"name\":\"A\",\"operator\":\"=\",\"value\":\"1\"}\n")
+unfolding lines_on_literals
+row_line_ends_of_two_bytes = refl

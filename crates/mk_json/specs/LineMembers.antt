@@ -1,0 +1,79 @@
+-- The members of the objects that tell of lines.
+-- Told in docs/LIBRARY.md, "Lines of JSON".
+use Rattle.std.specs.Prelude.{ℕ, if◌then◌else◌, List, [], ◌∷◌, ◌++◌, slice_get, Option, Some, None, codes}
+use Rattle.json.specs.Json.{string, array, object, Items, no_items, item}
+use Rattle.mk_class.specs.OperatorTexts.{operator_text, separator_text}
+use Rattle.mk_class.specs.declared.rule.Separator.{Separator}
+use Rattle.mk_tree.specs.LocatedLines.{LocatedLine, text_of_line}
+use Rattle.mk_views.specs.Views.{AssignmentView, TargetAssignmentView, assignment_of, target_assignment_of}
+use Rattle.mk_listing.specs.Listings.{is_of}
+use Rattle.mk_listing.specs.declared.position.Position.{Position}
+use Rattle.mk_json.specs.declared.conditional.OpenConditional.{OpenConditional}
+use Rattle.mk_json.specs.JsonValues.{number_value, text_value, texts_value}
+use Rattle.mk_json.specs.Members.{Member, members_of}
+
+-- ---- where a line stands
+
+-- the text of a line with a space for each fold, if there is such a line
+abbrev text_of_found : Option LocatedLine → List ℕ
+text_of_found None = []
+text_of_found (Some l) = text_of_line l
+
+-- the text of the line of a document that stands here
+abbrev pub text_there : (document : List LocatedLine) → Position → List ℕ
+text_there ls p = text_of_found (slice_get ls p.index)
+
+-- a line of a document: its number and its text
+abbrev pub line_members : (document : List LocatedLine) → Position → List Member
+line_members ls p =
+    (codes "line", number_value p.number) ∷ (codes "text", text_value (text_there ls p)) ∷ []
+
+-- an open conditional of a document: the line that begins the branch, and the first line
+abbrev pub condition_members : (document : List LocatedLine) → OpenConditional → List Member
+condition_members ls o =
+    (codes "branch", object (members_of (line_members ls o.branch)))
+    ∷ (codes "first", object (members_of (line_members ls o.first))) ∷ []
+
+-- open conditionals, each as an object
+abbrev pub condition_items : (document : List LocatedLine) → List OpenConditional → Items
+condition_items ls [] = no_items
+condition_items ls (o ∷ os) =
+    item (object (members_of (condition_members ls o))) (condition_items ls os)
+
+-- where a line of a document of this file stands, below which these conditionals are open
+abbrev pub place_members : (file : List ℕ) → (document : List LocatedLine)
+    → List OpenConditional → Position → List Member
+place_members f ls os p =
+    (codes "file", text_value f) ∷ (codes "line", number_value p.number)
+    ∷ (codes "depth", number_value p.conditionals)
+    ∷ (codes "conditions", array (condition_items ls os)) ∷ []
+
+-- ---- the parts of a line
+
+-- targets, and what stands after them
+abbrev pub target_members : (targets : List (List ℕ)) → Separator → List Member
+target_members ts s =
+    (codes "targets", texts_value ts) ∷ (codes "separator", string (separator_text s)) ∷ []
+
+-- an assignment
+abbrev pub assignment_members : AssignmentView → List Member
+assignment_members a =
+    (codes "modifiers", texts_value a.modifiers) ∷ (codes "name", text_value a.name)
+    ∷ (codes "operator", string (operator_text a.flavor)) ∷ (codes "value", text_value a.value)
+    ∷ []
+
+-- an assignment for targets
+abbrev pub target_assignment_members : TargetAssignmentView → List Member
+target_assignment_members t =
+    target_members t.targets t.separator ++ assignment_members t.assignment
+
+-- `vars`, of a line, of one name if one is asked for: an assignment, for targets or not
+abbrev variable_in : (name : Option (List ℕ)) → Option AssignmentView
+    → Option TargetAssignmentView → Option (List Member)
+variable_in n (Some a) t = if is_of n a then Some (assignment_members a) else None
+variable_in n None (Some t) =
+    if is_of n t.assignment then Some (target_assignment_members t) else None
+variable_in n None None = None
+
+abbrev pub variable_members : (name : Option (List ℕ)) → LocatedLine → Option (List Member)
+variable_members n l = variable_in n (assignment_of l) (target_assignment_of l)

@@ -1,0 +1,29 @@
+//! What a makefile has, as lines of JSON, for programs.
+//!
+//! - [`vars`]: an object on each assignment, of one name if one is asked for.
+//!
+//! Each line of text is an object (JSON Lines). It says in which file and where the line of the
+//! makefile stands, in which branches of which conditionals, and what its parts are. Objects and
+//! their members are this project's profile; JSON is that of RFC 8259, written by the library
+//! `json`.
+//!
+//! The modules, lowest first:
+//!
+//! - [`conditional`]: the conditionals that are open at a line.
+//! - `value`: texts and numbers as JSON values.
+//! - `member`: members of objects, each with its name.
+//! - `place`: where a line stands.
+//! - `parts`: the parts of lines.
+//! - `object`: the object on a line.
+//! - `query`: the queries, each in the module of its name.
+#![tactic(auto)]
+
+pub mod conditional;
+mod member;
+mod object;
+mod parts;
+mod place;
+mod query;
+mod value;
+
+pub use query::vars::vars;

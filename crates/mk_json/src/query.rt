@@ -1,0 +1,3 @@
+//! The queries, each in the module of its name.
+
+pub(crate) mod vars;

@@ -1,0 +1,25 @@
+//! The queries by name.
+use mk_json::vars;
+use mk_tree::Doc;
+use std::alloc::{AllocError, Allocator};
+
+/// A query.
+#[derive(Clone, Copy)]
+pub enum Query {
+    Vars,
+}
+
+impl Query {
+    /// Asks it of a document, for one name or target if there is one.
+    pub fn ask<A: Allocator, B: Allocator + Copy>(
+        self,
+        alloc: B,
+        file: &[u8],
+        doc: &Doc<A>,
+        word: Option<&[u8]>,
+    ) -> Result<Vec<u8, B>, AllocError> {
+        match self {
+            Query::Vars => vars(alloc, file, doc, word),
+        }
+    }
+}

@@ -1,0 +1,158 @@
+//! Makefiles, and their lines of JSON. Made by `tests/definitions/json_rows.py --rust tests/cases/json.tsv`.
+use crate::query::Query;
+
+/// A makefile with the name of its file, and the lines of JSON of a query.
+pub struct Row {
+    pub query: Query,
+    pub word: Option<&'static [u8]>,
+    pub file: &'static [u8],
+    pub makefile: &'static [u8],
+    pub text: &'static [u8],
+}
+
+pub static ROWS: [Row; 18] = [
+    // an empty makefile
+    Row {
+        query: Query::Vars,
+        word: None,
+        file: b"Makefile",
+        makefile: b"",
+        text: b"",
+    },
+    // the parts of an assignment
+    Row {
+        query: Query::Vars,
+        word: None,
+        file: b"config.mk",
+        makefile: b"# tools\nexport override CC ?= gcc -m64 # the compiler\n",
+        text: b"{\"file\":\"config.mk\",\"line\":2,\"depth\":0,\"conditions\":[],\"modifiers\":[\"export\",\"override\"],\"name\":\"CC\",\"operator\":\"?=\",\"value\":\"gcc -m64\"}\n",
+    },
+    // each operator
+    Row {
+        query: Query::Vars,
+        word: None,
+        file: b"a",
+        makefile: b"A = 1\nB := 2\nC ::= 3\nD :::= 4\nE ?= 5\nF += 6\nG != 7\n",
+        text: b"{\"file\":\"a\",\"line\":1,\"depth\":0,\"conditions\":[],\"modifiers\":[],\"name\":\"A\",\"operator\":\"=\",\"value\":\"1\"}\n{\"file\":\"a\",\"line\":2,\"depth\":0,\"conditions\":[],\"modifiers\":[],\"name\":\"B\",\"operator\":\":=\",\"value\":\"2\"}\n{\"file\":\"a\",\"line\":3,\"depth\":0,\"conditions\":[],\"modifiers\":[],\"name\":\"C\",\"operator\":\"::=\",\"value\":\"3\"}\n{\"file\":\"a\",\"line\":4,\"depth\":0,\"conditions\":[],\"modifiers\":[],\"name\":\"D\",\"operator\":\":::=\",\"value\":\"4\"}\n{\"file\":\"a\",\"line\":5,\"depth\":0,\"conditions\":[],\"modifiers\":[],\"name\":\"E\",\"operator\":\"?=\",\"value\":\"5\"}\n{\"file\":\"a\",\"line\":6,\"depth\":0,\"conditions\":[],\"modifiers\":[],\"name\":\"F\",\"operator\":\"+=\",\"value\":\"6\"}\n{\"file\":\"a\",\"line\":7,\"depth\":0,\"conditions\":[],\"modifiers\":[],\"name\":\"G\",\"operator\":\"!=\",\"value\":\"7\"}\n",
+    },
+    // an empty value
+    Row {
+        query: Query::Vars,
+        word: None,
+        file: b"a",
+        makefile: b"A =\n",
+        text: b"{\"file\":\"a\",\"line\":1,\"depth\":0,\"conditions\":[],\"modifiers\":[],\"name\":\"A\",\"operator\":\"=\",\"value\":\"\"}\n",
+    },
+    // a folded value
+    Row {
+        query: Query::Vars,
+        word: None,
+        file: b"a",
+        makefile: b"A = 1 \\\n  2\nB = 3\n",
+        text: b"{\"file\":\"a\",\"line\":1,\"depth\":0,\"conditions\":[],\"modifiers\":[],\"name\":\"A\",\"operator\":\"=\",\"value\":\"1 2\"}\n{\"file\":\"a\",\"line\":3,\"depth\":0,\"conditions\":[],\"modifiers\":[],\"name\":\"B\",\"operator\":\"=\",\"value\":\"3\"}\n",
+    },
+    // assignments for targets
+    Row {
+        query: Query::Vars,
+        word: None,
+        file: b"a",
+        makefile: b"main a.o: CFLAGS += -g\nb:: private X := 1\n",
+        text: b"{\"file\":\"a\",\"line\":1,\"depth\":0,\"conditions\":[],\"targets\":[\"main\",\"a.o\"],\"separator\":\":\",\"modifiers\":[],\"name\":\"CFLAGS\",\"operator\":\"+=\",\"value\":\"-g\"}\n{\"file\":\"a\",\"line\":2,\"depth\":0,\"conditions\":[],\"targets\":[\"b\"],\"separator\":\"::\",\"modifiers\":[\"private\"],\"name\":\"X\",\"operator\":\":=\",\"value\":\"1\"}\n",
+    },
+    // what is no assignment
+    Row {
+        query: Query::Vars,
+        word: None,
+        file: b"a",
+        makefile: b"all: main\n\techo A = 1\nifdef X\n# A = 1\nendif\n$(foo)\n",
+        text: b"",
+    },
+    // two branches
+    Row {
+        query: Query::Vars,
+        word: None,
+        file: b"a",
+        makefile: b"ifdef X\nA = 1\nelse\nA = 2\nendif\nA = 3\n",
+        text: b"{\"file\":\"a\",\"line\":2,\"depth\":1,\"conditions\":[{\"branch\":{\"line\":1,\"text\":\"ifdef X\"},\"first\":{\"line\":1,\"text\":\"ifdef X\"}}],\"modifiers\":[],\"name\":\"A\",\"operator\":\"=\",\"value\":\"1\"}\n{\"file\":\"a\",\"line\":4,\"depth\":1,\"conditions\":[{\"branch\":{\"line\":3,\"text\":\"else\"},\"first\":{\"line\":1,\"text\":\"ifdef X\"}}],\"modifiers\":[],\"name\":\"A\",\"operator\":\"=\",\"value\":\"2\"}\n{\"file\":\"a\",\"line\":6,\"depth\":0,\"conditions\":[],\"modifiers\":[],\"name\":\"A\",\"operator\":\"=\",\"value\":\"3\"}\n",
+    },
+    // conditionals inside each other
+    Row {
+        query: Query::Vars,
+        word: None,
+        file: b"a",
+        makefile: b"ifdef X # x\nB = 1\nifeq (a,b)\nelse ifneq (c,d)\nB = 2\nelse\n  ifndef Y\nB = 3\n endif\nendif\nB = 4\nendif\nB = 5\n",
+        text: b"{\"file\":\"a\",\"line\":2,\"depth\":1,\"conditions\":[{\"branch\":{\"line\":1,\"text\":\"ifdef X # x\"},\"first\":{\"line\":1,\"text\":\"ifdef X # x\"}}],\"modifiers\":[],\"name\":\"B\",\"operator\":\"=\",\"value\":\"1\"}\n{\"file\":\"a\",\"line\":5,\"depth\":2,\"conditions\":[{\"branch\":{\"line\":1,\"text\":\"ifdef X # x\"},\"first\":{\"line\":1,\"text\":\"ifdef X # x\"}},{\"branch\":{\"line\":4,\"text\":\"else ifneq (c,d)\"},\"first\":{\"line\":3,\"text\":\"ifeq (a,b)\"}}],\"modifiers\":[],\"name\":\"B\",\"operator\":\"=\",\"value\":\"2\"}\n{\"file\":\"a\",\"line\":8,\"depth\":3,\"conditions\":[{\"branch\":{\"line\":1,\"text\":\"ifdef X # x\"},\"first\":{\"line\":1,\"text\":\"ifdef X # x\"}},{\"branch\":{\"line\":6,\"text\":\"else\"},\"first\":{\"line\":3,\"text\":\"ifeq (a,b)\"}},{\"branch\":{\"line\":7,\"text\":\"  ifndef Y\"},\"first\":{\"line\":7,\"text\":\"  ifndef Y\"}}],\"modifiers\":[],\"name\":\"B\",\"operator\":\"=\",\"value\":\"3\"}\n{\"file\":\"a\",\"line\":11,\"depth\":1,\"conditions\":[{\"branch\":{\"line\":1,\"text\":\"ifdef X # x\"},\"first\":{\"line\":1,\"text\":\"ifdef X # x\"}}],\"modifiers\":[],\"name\":\"B\",\"operator\":\"=\",\"value\":\"4\"}\n{\"file\":\"a\",\"line\":13,\"depth\":0,\"conditions\":[],\"modifiers\":[],\"name\":\"B\",\"operator\":\"=\",\"value\":\"5\"}\n",
+    },
+    // a folded condition
+    Row {
+        query: Query::Vars,
+        word: None,
+        file: b"a",
+        makefile: b"ifeq ($(A), \\\n  b)\nC = 1\nendif\n",
+        text: b"{\"file\":\"a\",\"line\":3,\"depth\":1,\"conditions\":[{\"branch\":{\"line\":1,\"text\":\"ifeq ($(A), b)\"},\"first\":{\"line\":1,\"text\":\"ifeq ($(A), b)\"}}],\"modifiers\":[],\"name\":\"C\",\"operator\":\"=\",\"value\":\"1\"}\n",
+    },
+    // a stray endif and a stray else
+    Row {
+        query: Query::Vars,
+        word: None,
+        file: b"a",
+        makefile: b"endif\nelse\nA = 1\nifdef B\nA = 2\n",
+        text: b"{\"file\":\"a\",\"line\":3,\"depth\":0,\"conditions\":[],\"modifiers\":[],\"name\":\"A\",\"operator\":\"=\",\"value\":\"1\"}\n{\"file\":\"a\",\"line\":5,\"depth\":1,\"conditions\":[{\"branch\":{\"line\":4,\"text\":\"ifdef B\"},\"first\":{\"line\":4,\"text\":\"ifdef B\"}}],\"modifiers\":[],\"name\":\"A\",\"operator\":\"=\",\"value\":\"2\"}\n",
+    },
+    // one name
+    Row {
+        query: Query::Vars,
+        word: Some(b"A"),
+        file: b"a",
+        makefile: b"A = 1\nB = 2\nifdef X\nx: A = 3\ny: B = 4\nendif\nA += 5\n",
+        text: b"{\"file\":\"a\",\"line\":1,\"depth\":0,\"conditions\":[],\"modifiers\":[],\"name\":\"A\",\"operator\":\"=\",\"value\":\"1\"}\n{\"file\":\"a\",\"line\":4,\"depth\":1,\"conditions\":[{\"branch\":{\"line\":3,\"text\":\"ifdef X\"},\"first\":{\"line\":3,\"text\":\"ifdef X\"}}],\"targets\":[\"x\"],\"separator\":\":\",\"modifiers\":[],\"name\":\"A\",\"operator\":\"=\",\"value\":\"3\"}\n{\"file\":\"a\",\"line\":7,\"depth\":0,\"conditions\":[],\"modifiers\":[],\"name\":\"A\",\"operator\":\"+=\",\"value\":\"5\"}\n",
+    },
+    // a name that no line has
+    Row {
+        query: Query::Vars,
+        word: Some(b"C"),
+        file: b"a",
+        makefile: b"A = 1\nB = C\nC: A = 1\n",
+        text: b"",
+    },
+    // quotes and backslashes
+    Row {
+        query: Query::Vars,
+        word: None,
+        file: b"a\"b\\c",
+        makefile: b"A = \"x\" \\\\d\\ne \\\"\n",
+        text: b"{\"file\":\"a\\\"b\\\\c\",\"line\":1,\"depth\":0,\"conditions\":[],\"modifiers\":[],\"name\":\"A\",\"operator\":\"=\",\"value\":\"\\\"x\\\" \\\\\\\\d\\\\ne \\\\\\\"\"}\n",
+    },
+    // control characters
+    Row {
+        query: Query::Vars,
+        word: None,
+        file: b"a\tb\n",
+        makefile: b"A\x01\x08\x0b\x0c\x1f = a\tb\x7f\x1b\n",
+        text: b"{\"file\":\"a\\tb\\n\",\"line\":1,\"depth\":0,\"conditions\":[],\"modifiers\":[],\"name\":\"A\\u0001\\b\\u000b\\f\\u001f\",\"operator\":\"=\",\"value\":\"a\\tb\x7f\\u001b\"}\n",
+    },
+    // characters beyond ascii
+    Row {
+        query: Query::Vars,
+        word: None,
+        file: b"\xc3\xa9",
+        makefile: b"M\xc3\xa4\xe2\x82\xac = \xf0\x9f\x90\xa7\n",
+        text: b"{\"file\":\"\xc3\xa9\",\"line\":1,\"depth\":0,\"conditions\":[],\"modifiers\":[],\"name\":\"M\xc3\xa4\xe2\x82\xac\",\"operator\":\"=\",\"value\":\"\xf0\x9f\x90\xa7\"}\n",
+    },
+    // texts that are not utf 8
+    Row {
+        query: Query::Vars,
+        word: None,
+        file: b"\xff",
+        makefile: b"ifdef \xe9\n\x80a \xc3: \xe9t\xe9 = \xed\xa0\x80 \xc0\xaf\nendif\n",
+        text: b"{\"file\":{\"base64\":\"/w==\"},\"line\":2,\"depth\":1,\"conditions\":[{\"branch\":{\"line\":1,\"text\":{\"base64\":\"aWZkZWYg6Q==\"}},\"first\":{\"line\":1,\"text\":{\"base64\":\"aWZkZWYg6Q==\"}}}],\"targets\":[{\"base64\":\"gGE=\"},{\"base64\":\"ww==\"}],\"separator\":\":\",\"modifiers\":[],\"name\":{\"base64\":\"6XTp\"},\"operator\":\"=\",\"value\":{\"base64\":\"7aCAIMCv\"}}\n",
+    },
+    // line ends of two bytes
+    Row {
+        query: Query::Vars,
+        word: None,
+        file: b"a",
+        makefile: b"ifdef X\r\nA = 1\r\nendif\r\n",
+        text: b"{\"file\":\"a\",\"line\":2,\"depth\":1,\"conditions\":[{\"branch\":{\"line\":1,\"text\":\"ifdef X\"},\"first\":{\"line\":1,\"text\":\"ifdef X\"}}],\"modifiers\":[],\"name\":\"A\",\"operator\":\"=\",\"value\":\"1\"}\n",
+    },
+];

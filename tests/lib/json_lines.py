@@ -1,0 +1,75 @@
+"""The lines of JSON of a makefile, by the reading of it in Python and by Python's `json`.
+
+Told in docs/LIBRARY.md, "Lines of JSON". It shares no line with the program.
+"""
+
+import base64
+import json
+
+from .reading import joined, read
+
+
+def text_value(text):
+    """A text as a value of JSON: a string, or an object that has its bytes in base64."""
+    try:
+        return text.decode("utf-8")
+    except UnicodeDecodeError:
+        return {"base64": base64.b64encode(text).decode("ascii")}
+
+
+def texts_value(texts):
+    return [text_value(text) for text in texts]
+
+
+def line_value(line):
+    """A line as a value: its number, and its text with a space for each fold."""
+    return {"line": line.number, "text": text_value(joined(line.raw)[0])}
+
+
+def standing(file, text):
+    """Each line of a makefile with the members that say where it stands."""
+    is_open = []
+    for line in read(text)[0]:
+        conditions = [{"branch": line_value(branch), "first": line_value(first)} for first, branch in is_open]
+        depth = line.context.conditionals
+        yield line, {"file": text_value(file), "line": line.number, "depth": depth, "conditions": conditions}
+        if line.kind == "If":
+            is_open.append((line, line))
+        elif line.kind == "Else":
+            is_open[-1] = (is_open[-1][0], line)
+        elif line.kind == "Endif":
+            is_open.pop()
+
+
+def target_members(targets, separator):
+    return {"targets": texts_value(targets), "separator": separator.decode()}
+
+
+def vars_objects(file, text, only=None):
+    """The objects on the assignments, or on those of one name."""
+    for line, place in standing(file, text):
+        if line.kind not in ("Assign", "TargetAssign"):
+            continue
+        *of_rule, modifiers, name, operator, value = line.parts
+        if only not in (None, name):
+            continue
+        parts = target_members(*of_rule) if of_rule else {}
+        parts["modifiers"] = texts_value(modifiers)
+        parts["name"] = text_value(name)
+        parts["operator"] = operator.decode()
+        parts["value"] = text_value(value)
+        yield {**place, **parts}
+
+
+OBJECTS = {"vars": vars_objects}
+
+
+def lines_of(objects):
+    """Objects as lines of text: JSON without blanks, and no character beyond ASCII as an escape."""
+    lines = (json.dumps(it, ensure_ascii=False, separators=(",", ":")) + "\n" for it in objects)
+    return "".join(lines).encode("utf-8")
+
+
+def json_text(query, file, text, only=None):
+    """The lines of JSON of a query."""
+    return lines_of(OBJECTS[query](file, text, only) if only is not None else OBJECTS[query](file, text))
