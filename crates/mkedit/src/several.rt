@@ -116,25 +116,16 @@ where
     put_notes(fault, out)
 }
 
-// What is said of a makefile, in memory: the report, and the notes below its lines where there are notes.
-#[derive(Drop)]
-struct Said<'a> {
-    report: Vec<u8>,
-    witness: Option<NotesKept<'a, Global>>,
-}
-
-impl<'a> Said<'a> {
-    // Nothing yet. There are notes if the words ask for them.
-    fn new(rt: &HostRuntime, words: &EditWords<'a>, file: Input<'a>) -> Said<'a> {
-        let witness = if words.notes {
-            Some(NotesKept::new(rt.alloc(), Names::of(words, file)))
-        } else {
-            None
-        };
-        Said {
-            report: Vec::new(rt.alloc()),
-            witness,
-        }
+// The witness that keeps the notes below the lines of a report, if there are notes.
+fn notes_kept<'a>(
+    rt: &HostRuntime,
+    words: &EditWords<'a>,
+    file: Input<'a>,
+) -> Option<NotesKept<'a, Global>> {
+    if words.notes {
+        Some(NotesKept::new(rt.alloc(), Names::of(words, file)))
+    } else {
+        None
     }
 }
 
@@ -153,14 +144,14 @@ fn run_kept<R: ByteSource, W: ByteSink>(
     steps: &[Step<Global>],
     makefile: &mut R,
     out: &mut W,
-    said: &mut Said<'_>,
+    report: &mut Vec<u8>,
+    witness: &mut Option<NotesKept<'_, Global>>,
 ) -> Outcome
     requires makefile_works { R.failed makefile.old ≡ false }
     requires out_works { W.failed out.old ≡ false }
     requires depth { IsBadDepth words.now.depth → ⊥ }
 {
-    let mut lines = StdSink::new(&mut said.report);
-    let witness = &mut said.witness;
+    let mut lines = StdSink::new(report);
     let outcome = run_steps_to(alloc, words, steps, makefile, out, &mut lines, witness);
     kept_outcome(outcome, lines.failed())
 }
@@ -179,20 +170,22 @@ fn run_over<'a, R: ByteSource>(
     steps: &[Step<Global>],
     file: Input<'a>,
     makefile: &mut R,
-    said: &mut Said<'a>,
+    report: &mut Vec<u8>,
+    witness: &mut Option<NotesKept<'a, Global>>,
 ) -> End<'a>
     requires makefile_works { R.failed makefile.old ≡ false }
     requires depth { IsBadDepth words.now.depth → ⊥ }
 {
+    let alloc = rt.alloc();
     match destination_of(words.output, file) {
         Destination::File(name) => {
             let mut out = OutFile::new(rt, name);
-            let outcome = run_kept(rt.alloc(), words, steps, makefile, &mut out, said);
+            let outcome = run_kept(alloc, words, steps, makefile, &mut out, report, witness);
             End::of(outcome).with_fault(out.fault())
         }
         Destination::InPlace(name, backup) => {
             let mut out = InPlaceFile::new(rt, name, backup);
-            let outcome = run_kept(rt.alloc(), words, steps, makefile, &mut out, said);
+            let outcome = run_kept(alloc, words, steps, makefile, &mut out, report, witness);
             let end = End::of(outcome).with_fault(out.fault());
             out.close();
             end
@@ -200,7 +193,7 @@ fn run_over<'a, R: ByteSource>(
         Destination::Standard => {
             let mut device = Noted::new(rt.stdout());
             let mut out = StdSink::new(&mut device);
-            let outcome = run_kept(rt.alloc(), words, steps, makefile, &mut out, said);
+            let outcome = run_kept(alloc, words, steps, makefile, &mut out, report, witness);
             End::of(outcome).with_fault(device.fault(STANDARD_OUTPUT))
         }
     }
@@ -214,7 +207,8 @@ fn run_noted<'a, R: Read + Drop>(
     file: Input<'a>,
     name: &'a str,
     makefile: R,
-    said: &mut Said<'a>,
+    report: &mut Vec<u8>,
+    witness: &mut Option<NotesKept<'a, Global>>,
 ) -> End<'a>
     requires { IsBadDepth words.now.depth → ⊥ }
 {
@@ -225,7 +219,8 @@ fn run_noted<'a, R: Read + Drop>(
         steps,
         file,
         &mut StdSource::new(&mut makefile),
-        said,
+        report,
+        witness,
     );
     end.with_fault(makefile.fault(name))
 }
@@ -236,18 +231,20 @@ fn run_by<'a>(
     words: &EditWords<'a>,
     steps: &[Step<Global>],
     file: Input<'a>,
-    said: &mut Said<'a>,
+    report: &mut Vec<u8>,
+    witness: &mut Option<NotesKept<'a, Global>>,
 ) -> Result<End<'a>, CannotOpen<'a>>
     requires { IsBadDepth words.now.depth → ⊥ }
 {
     match file {
         Input::File(name) => {
             let makefile = open(rt, name)?;
-            Ok(run_noted(rt, words, steps, file, name, makefile, said))
+            Ok(run_noted(rt, words, steps, file, name, makefile, report, witness))
         }
         Input::Standard => {
             let name = STANDARD_INPUT;
-            Ok(run_noted(rt, words, steps, file, name, rt.stdin(), said))
+            let makefile = rt.stdin();
+            Ok(run_noted(rt, words, steps, file, name, makefile, report, witness))
         }
     }
 }
@@ -288,11 +285,12 @@ fn edit_one<'a>(
 ) -> u8
     requires { IsBadDepth words.now.depth → ⊥ }
 {
-    let mut said = Said::new(rt, words, file);
-    match run_by(rt, words, steps, file, &mut said) {
+    let mut report = Vec::new(rt.alloc());
+    let mut witness = notes_kept(rt, words, file);
+    match run_by(rt, words, steps, file, &mut report, &mut witness) {
         Ok(end) => {
-            let below = kept_notes(&said.witness);
-            tell_named(rt, file, &mut said.report, below, &end, words.notes)
+            let below = kept_notes(&witness);
+            tell_named(rt, file, &mut report, below, &end, words.notes)
         }
         Err(file) => {
             tell_not_opened(rt, &file, words.notes);

@@ -9,4 +9,4 @@ lines-preserved g c =
     let line : c.split_at.result.0.now ≡ take n rest = search rules in
     let after : c.split_at.result.1.now ≡ drop n rest = search rules in
     named-step _ c.lines.named.items c.push_named.new.named.items c.push_below.new.named.items c.args.name.now rest c.split_at.result.0.now c.split_at.result.1.now (map (λ below. below.items) c.lines.below.now) _ n
-    c.line_length.ensures.line c.lines.invariant line after c.in_ok-push_named.ensures c.in_ok-push_below.ensures.text c.in_ok-push_below.ensures.others
+    c.line_length.ensures.line c.lines.invariant line after c.in_ok-push_named.ensures c.in_ok-below.ensures.text c.in_ok-below.ensures.others
