@@ -64,14 +64,14 @@ _mkedit_edit() {
         '(-i --in-place)--diff[prints what would change, as a diff that patch takes, in place of the text]' \
         '--color=[whether a diff has colours]:when:(auto always never)' \
         '*'{-e+,--expression=}'[a line of a script, in place of the script]:command: ' \
-        '--notes[say below a message why a file could not be opened, read or written]' \
+        '--notes[say below a message or a refusal what its cause is]' \
         '(-h --help)'{-h,--help}'[print help]' \
         $files
 }
 
 _mkedit_query() {
     _arguments -s "$@" \
-        '--notes[say below a message why a file could not be opened, read or written]' \
+        '--notes[say below a message or a refusal what its cause is]' \
         '(-h --help)'{-h,--help}'[print help]' \
         '*:makefile:_files'
 }
@@ -89,7 +89,7 @@ _mkedit_rules() {
 _mkedit_get() {
     _arguments -s \
         '--nth=[take the N-th of several assignments of the name, from 1]:number: ' \
-        '--notes[say below a message why a file could not be opened, read or written]' \
+        '--notes[say below a message or a refusal what its cause is]' \
         '(-h --help)'{-h,--help}'[print help]' \
         '1:name:_mkedit_names' \
         '*:makefile:_files'

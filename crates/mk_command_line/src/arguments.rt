@@ -173,7 +173,7 @@ pub(crate) fn notes<'a>(alloc: Global) -> Arg<'a>
     Arg::new(alloc, NOTES)
         .long("notes")
         .action(ArgAction::SetTrue)
-        .help("Says below a message why a file could not be opened, read or written")
+        .help("Says below a message or a refusal what its cause is")
 }
 
 /// The one name whose assignments are asked for.
