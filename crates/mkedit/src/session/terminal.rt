@@ -1,12 +1,12 @@
 //! A makefile that is open at a terminal: a prompt before each line, and sentences for replies.
-ghost use Rattle.std.specs.Prelude.{◌≡◌, false, true, ⊤, IfErr, OnOk};
+ghost use Rattle.std.specs.Prelude.{◌≡◌, ◌++◌, codes, false, true, ⊤, IfErr, OnOk};
+ghost use Rattle.mk_lines.specs.Device.{Writes};
 ghost use Rattle.mk_prompt.specs.Talks.{SaysOut};
 
 use super::desk::Desk;
 use super::not_done::{NotDone, shown_name};
 use super::sentences::{
-    AS_IT_WAS, NO_MEMORY, TOO_LONG, changed_lines, mistake_sentence, put_sentence,
-    refusal_sentence,
+    AS_IT_WAS, NO_MEMORY, TOO_LONG, changed_lines, mistake_sentence, put_sentence, refusal_sentence,
 };
 use crate::diff::diff_name;
 use mk_command_line::Input;
@@ -18,6 +18,20 @@ use mk_prompt::{
 };
 use mk_session::Refusal;
 use std::mem;
+
+// Writes a text, and a prompt with this name and this mark behind it.
+fn write_prompt<'b, W: ByteSink>(
+    said: &'b [u8],
+    name: &'b [u8],
+    mark: &'b [u8],
+    out: &mut W,
+) -> Result<(), Fault>
+    requires { W.failed out.old ≡ false }
+    ensures { Writes W.contents W.failed W.flushes out.old out.new result
+        (said.now ++ (name.now ++ (mark.now ++ codes "> "))) }
+{
+    write_parts(out, &[said, name, mark, b"> "])
+}
 
 // A makefile that is open at a terminal.
 #[derive(Drop)]
@@ -56,8 +70,7 @@ impl<'a> Terminal<'a> {
         ensures fault { IfErr result (λ fault. (fault ≡ Fault.Write) × (W.failed out.new ≡ true)) }
         ensures works { OnOk result (W.failed out.new ≡ false) }
     {
-        let name = shown_name(self.desk.name());
-        write_parts(out, &[said, name, self.mark(), b"> "])
+        write_prompt(said, shown_name(self.desk.name()), self.mark(), out)
     }
 
     // The sentence on a request that is not done. A file is shown by this name.

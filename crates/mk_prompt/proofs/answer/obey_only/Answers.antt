@@ -15,8 +15,7 @@ returns-in-empty g c =
 pub returns-in-len1 : goal.returns-in-len1
 returns-in-len1 g c =
     subst (λ steps. AreObeyed steps c.args.session.now.shown c.obey_step.new.session.shown c.came_of.result)
-    (sym (one step_of c.args.steps.now c.step-item.result c.in-len1.len_at_least c.in-len1.len_below))
-    (
+    (sym (one step_of c.args.steps.now c.step-item.result c.in-len1.len_at_least c.in-len1.len_below)) (
       c.obey_step.result,
       subst (λ step. IsObeyed (step_of step) c.obey_step.result c.args.session.now.shown c.obey_step.new.session.shown)
           c.step-item.is c.obey_step.ensures.obeyed,
