@@ -225,6 +225,25 @@ impl Listener for Terminal<'_> {
     }
 }
 
+// Replies to the lines of a source up to its end, which is a `quit`, or up to another one.
+fn converse_once<S: ByteSource, W: ByteSink>(
+    terminal: &mut Terminal<'_>,
+    source: &mut S,
+    out: &mut W,
+) -> Result<(), Fault>
+    requires source_works { S.failed source.old ≡ false }
+    requires out_works { W.failed out.old ≡ false }
+    ensures source { OnOk result (S.failed source.new ≡ false) }
+    ensures works { OnOk result (W.failed out.new ≡ false) }
+{
+    converse(terminal.desk.runtime().alloc(), source, terminal, out)?;
+    if terminal.is_over {
+        return Ok(());
+    }
+    terminal.end(out)?;
+    Ok(())
+}
+
 /// Replies at a terminal to the lines of a source, also behind an end of it that is a `quit` which is
 /// not done. The session is not given up: the program ends soon.
 ///
@@ -239,13 +258,9 @@ pub fn converse_at_terminal<S: ByteSource, W: ByteSink>(
     requires source_works { S.failed source.old ≡ false }
     requires out_works { W.failed out.old ≡ false }
 {
-    let alloc = desk.runtime().alloc();
     let mut terminal = Terminal::open(desk)?;
     for _ in 0..u64::MAX {
-        converse(alloc, source, &mut terminal, out)?;
-        if !terminal.is_over {
-            terminal.end(out)?;
-        }
+        converse_once(&mut terminal, source, out)?;
         if terminal.is_over {
             mem::forget(terminal);
             return Ok(());
