@@ -28,7 +28,7 @@ from .part import copy_part
 from .crates import load
 from .proving import Said
 from .rounds import found_in_rounds, linked, take_rounds
-from .share import GROUPS, SHARES, Body, bodies_of, share_of
+from .share import GROUPS, SHARES, Body, bodies_of, groups_of, share_of
 from .texts import problems as old_texts
 from .tries import program_of, tests_of
 
@@ -70,9 +70,11 @@ class Share(unittest.TestCase):
 
     def test_a_share_has_bodies_of_the_crates_of_a_group(self):
         bodies = bodies_of(listed(TOP).values())
-        groups = {frozenset(it.crate for it in share_of(bodies, number)) for number in range(SHARES)}
+        groups = [{it.crate for it in group} for group in groups_of(bodies)]
         self.assertEqual(len(groups), GROUPS)
         self.assertEqual(sum(map(len, groups)), len({it.crate for it in bodies}))
+        for number in range(SHARES):
+            self.assertLessEqual({it.crate for it in share_of(bodies, number)}, groups[number % GROUPS])
 
 
 class Part(InRoom):
