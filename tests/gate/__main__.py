@@ -9,9 +9,9 @@
   house     what the crates say twice or say in vain, and texts that are not those of their source
   rows      the stored files of rows are what their scripts make
   gate      the tests of the gate itself
-  crates    proves every crate that the program and the examples stand on, and those of rows, from nothing,
+  crates    proves every crate that the program stands on, those of rows, and caller_example, from nothing,
             and has the prover refuse one in eighteen wrong bodies, which the commit's checksum chooses
-            (share.py); runs the examples
+            (share.py); runs the programs among them
   tries     beside it: the tests of all crates, and the programs of crates, with run-time checks
   program   tests the program that was proved and built there
 
@@ -79,12 +79,12 @@ def quick_counts():
 
 
 def proved_crates(crates, bodies):
-    """The crates that `make check` proves: the program, the examples, those of rows, those that have wrong bodies.
+    """The crates that `make check` proves: the program, those of rows, those that have wrong bodies.
 
-    Those that they stand on are proved too.
+    Those that they stand on are proved too. The example `caller_example` has wrong bodies.
     """
-    named = [it.name for it in crates.values() if it.holds_rows or it.is_example]
-    return with_below(crates, ["mkedit", *named, *(it.crate for it in bodies)])
+    rows = [it.name for it in crates.values() if it.holds_rows]
+    return with_below(crates, ["mkedit", *rows, *(it.crate for it in bodies)])
 
 
 def checked(room):

@@ -29,11 +29,6 @@ class Listed(NamedTuple):
         """Whether the crate holds nothing but equations that the prover computes."""
         return self.name.endswith("_rows") and not self.is_program
 
-    @property
-    def is_example(self):
-        """Whether the crate is a program that shows how the library is called."""
-        return self.name.endswith("_example") and self.is_program
-
     def stream(self, name):
         """The bytes of a file beside src/, such as stdin; None where there is none."""
         path = self.folder / name
