@@ -1,10 +1,13 @@
 //! `mkedit edit --diff`: the diff of a makefile and of the text that a script makes of it, in place
 //! of that text.
-ghost use Rattle.std.specs.Prelude.{◌≡◌, ◌≢◌, ◌||◌, ◌≤◌, Some, false, true, is_err, length, IfOk, IfErr, OnOk};
+ghost use Rattle.std.specs.Prelude.{◌≡◌, ◌≢◌, ◌||◌, ◌≤◌, List, Some, false, true, is_err, length, IfOk, IfErr, OnOk};
 ghost use Rattle.std.specs.Io.KnownBytes.{Appends, Keeps};
 ghost use Rattle.mk_lines.specs.Device.{AppendsPrefix};
 ghost use Rattle.mk_run.specs.Outcome.{is_printed};
 ghost use Rattle.mk_run.specs.RunEnds.{written};
+ghost use Rattle.mk_lines.specs.PhysicalLines.{physical_lines};
+ghost use Rattle.mk_diff.specs.HunkTexts.{diff_text};
+ghost use Rattle.mk_diff.specs.Hunks.{Hunk, IsDiff};
 ghost use Rattle.mkedit.specs.DiffRuns.{IsDiffRun, shown_diff};
 
 use crate::edit::run_to;
@@ -113,7 +116,7 @@ fn shown_diff<A: Allocator + Copy>(
 ) -> Result<Vec<u8, A>, Fault>
     ensures { IfOk result (λ shown. (hunks : List Hunk)
         × IsDiff (physical_lines old.now) (physical_lines text.now) hunks
-        × (shown.items ≡ shown_diff form.has_color (diff_text form.name.now hunks))) }
+        × (shown.items ≡ shown_diff form.entry.has_color (diff_text form.entry.name.now hunks))) }
 {
     let diff = diff(alloc, old, text, form.name)?;
     shown(alloc, diff, form.has_color)
@@ -182,7 +185,7 @@ where
     requires out_works { W.failed out.old ≡ false }
     ensures law { is_printed result words.now.keep_going ≡ true
         → IsDiffRun (R.remaining makefile.old) (S.remaining script.old) words.now.depth
-        words.now.keep_going form.name.now form.has_color result (P.failed report.new)
+        words.now.keep_going form.entry.name.now form.entry.has_color result (P.failed report.new)
         (written (P.contents report.old) (P.contents report.new))
         (written (W.contents out.old) (W.contents out.new)) }
     ensures unprinted { is_printed result words.now.keep_going ≡ false → result ≢ Outcome.Write
