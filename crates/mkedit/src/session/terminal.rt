@@ -1,5 +1,6 @@
 //! A makefile that is open at a terminal: a prompt before each line, and sentences for replies.
-ghost use Rattle.std.specs.Prelude.{◌≡◌, false, true, ⊤, IfErr, OnOk};
+ghost use Rattle.std.specs.Prelude.{◌≡◌, ◌++◌, codes, false, true, ⊤, IfErr, OnOk};
+ghost use Rattle.mk_lines.specs.Device.{Writes};
 ghost use Rattle.mk_prompt.specs.Talks.{SaysOut};
 
 use super::desk::Desk;
@@ -17,6 +18,20 @@ use mk_prompt::{
 };
 use mk_session::Refusal;
 use std::mem;
+
+// Writes a text, and a prompt with this name and this mark behind it.
+fn write_prompt<'b, W: ByteSink>(
+    said: &'b [u8],
+    name: &'b [u8],
+    mark: &'b [u8],
+    out: &mut W,
+) -> Result<(), Fault>
+    requires { W.failed out.old ≡ false }
+    ensures { Writes W.contents W.failed W.flushes out.old out.new result
+        (said.now ++ (name.now ++ (mark.now ++ codes "> "))) }
+{
+    write_parts(out, &[said, name, mark, b"> "])
+}
 
 // A makefile that is open at a terminal.
 #[derive(Drop)]
@@ -55,8 +70,7 @@ impl<'a> Terminal<'a> {
         ensures fault { IfErr result (λ fault. (fault ≡ Fault.Write) × (W.failed out.new ≡ true)) }
         ensures works { OnOk result (W.failed out.new ≡ false) }
     {
-        let name = shown_name(self.desk.name());
-        write_parts(out, &[said, name, self.mark(), b"> "])
+        write_prompt(said, shown_name(self.desk.name()), self.mark(), out)
     }
 
     // The sentence on a request that is not done. A file is shown by this name.
@@ -211,6 +225,25 @@ impl Listener for Terminal<'_> {
     }
 }
 
+// Replies to the lines of a source up to its end, which is a `quit`, or up to another one.
+fn converse_once<S: ByteSource, W: ByteSink>(
+    terminal: &mut Terminal<'_>,
+    source: &mut S,
+    out: &mut W,
+) -> Result<(), Fault>
+    requires source_works { S.failed source.old ≡ false }
+    requires out_works { W.failed out.old ≡ false }
+    ensures source { OnOk result (S.failed source.new ≡ false) }
+    ensures works { OnOk result (W.failed out.new ≡ false) }
+{
+    converse(terminal.desk.runtime().alloc(), source, terminal, out)?;
+    if terminal.is_over {
+        return Ok(());
+    }
+    terminal.end(out)?;
+    Ok(())
+}
+
 /// Replies at a terminal to the lines of a source, also behind an end of it that is a `quit` which is
 /// not done. The session is not given up: the program ends soon.
 ///
@@ -225,13 +258,9 @@ pub fn converse_at_terminal<S: ByteSource, W: ByteSink>(
     requires source_works { S.failed source.old ≡ false }
     requires out_works { W.failed out.old ≡ false }
 {
-    let alloc = desk.runtime().alloc();
     let mut terminal = Terminal::open(desk)?;
     for _ in 0..u64::MAX {
-        converse(alloc, source, &mut terminal, out)?;
-        if !terminal.is_over {
-            terminal.end(out)?;
-        }
+        converse_once(&mut terminal, source, out)?;
         if terminal.is_over {
             mem::forget(terminal);
             return Ok(());
