@@ -2,9 +2,11 @@
 ghost use Rattle.std.specs.Prelude.{◌≡◌, IfOk, IsSomeAnd, OnErr, OnOk, is_ok};
 ghost use Rattle.mk_prompt.specs.AnswerLines.{lines_between};
 ghost use Rattle.mk_prompt.specs.Replies.{IsLineObeyed};
-ghost use Rattle.mk_prompt.specs.Requests.{Word, asked_of};
+ghost use Rattle.mk_prompt.specs.Requests.{Of, Word, asked_of};
+ghost use Rattle.mk_queries.specs.Queries.{recipes_for_text, rules_for_text, vars_named_text};
 ghost use Rattle.mk_session.specs.Sessions.{seen_opened};
-ghost use Rattle.mkedit.specs.SessionReplies.{IsReverted, IsShownAfter, after_request, answer_text, is_quit};
+ghost use Rattle.mkedit.specs.QueryTexts.{query_text};
+ghost use Rattle.mkedit.specs.SessionReplies.{HasAnswer, IsRequestDone, IsReverted, after_request, answer_in, answer_text, is_quit};
 
 use super::help_text::HELP;
 use super::journal::{EditMade, Journal};
@@ -161,7 +163,9 @@ impl<'a> Desk<'a> {
     }
 
     // The answer to a query.
-    fn query(&self, query: Query<'_>) -> Result<Vec<u8>, NotDone> {
+    fn query(&self, query: Query<'_>) -> Result<Vec<u8>, NotDone>
+        ensures { IfOk result (λ text. text.items ≡ query_text query.entry self.now.session.shown.text) }
+    {
         let mut sink = TextSink::new(self.rt.alloc());
         match put_lines(query, self.session.doc(), &mut sink) {
             Ok(()) => Ok(sink.text),
@@ -219,16 +223,34 @@ impl<'a> Desk<'a> {
         }
     }
 
-    // The answer to a query about one name or target.
-    fn query_of(&self, of: RequestOf, word: &[u8]) -> Result<Vec<u8>, NotDone> {
+    // The assignments of a name.
+    fn vars_named(&self, name: &[u8]) -> Result<Vec<u8>, NotDone>
+        ensures { IfOk result (λ text. text.items ≡ vars_named_text name.now self.now.session.shown.text) }
+    {
         let mut sink = TextSink::new(self.rt.alloc());
-        let doc = self.session.doc();
-        let put = match of {
-            RequestOf::Rules => rules_for(doc, word, &mut sink),
-            RequestOf::Recipes => recipes_for(doc, word, &mut sink),
-            _ => vars_named(doc, word, &mut sink),
-        };
-        match put {
+        match vars_named(self.session.doc(), name, &mut sink) {
+            Ok(()) => Ok(sink.text),
+            Err(_) => Err(NotDone::NoMemory),
+        }
+    }
+
+    // The rules for a target.
+    fn rules_for(&self, target: &[u8]) -> Result<Vec<u8>, NotDone>
+        ensures { IfOk result (λ text. text.items ≡ rules_for_text target.now self.now.session.shown.text) }
+    {
+        let mut sink = TextSink::new(self.rt.alloc());
+        match rules_for(self.session.doc(), target, &mut sink) {
+            Ok(()) => Ok(sink.text),
+            Err(_) => Err(NotDone::NoMemory),
+        }
+    }
+
+    // The recipe lines of the rules for a target.
+    fn recipes_for(&self, target: &[u8]) -> Result<Vec<u8>, NotDone>
+        ensures { IfOk result (λ text. text.items ≡ recipes_for_text target.now self.now.session.shown.text) }
+    {
+        let mut sink = TextSink::new(self.rt.alloc());
+        match recipes_for(self.session.doc(), target, &mut sink) {
             Ok(()) => Ok(sink.text),
             Err(_) => Err(NotDone::NoMemory),
         }
@@ -316,7 +338,7 @@ impl<'a> Desk<'a> {
 
     // What is answered to a request of one word; the text of the answer.
     fn done_word(&mut self, word: RequestWord) -> Result<Vec<u8>, NotDone>
-        ensures shown { IsShownAfter (Word word) self.old.opened.items self.old.session.shown
+        ensures done { IsRequestDone (Word word) self.old.opened.items self.old.session.shown
             self.new.session.shown (answer_text result) }
         ensures opened { self.new.opened ≡ self.old.opened }
     {
@@ -340,6 +362,8 @@ impl<'a> Desk<'a> {
 
     // What is answered to a request of two words; the text of the answer.
     fn done_of(&mut self, of: RequestOf, word: &[u8]) -> Result<Vec<u8>, NotDone>
+        ensures answer { HasAnswer (answer_in self.old.session.shown.text (Of of word.now))
+            (answer_text result) }
         ensures session { self.new.session ≡ self.old.session }
         ensures opened { self.new.opened ≡ self.old.opened }
     {
@@ -347,7 +371,9 @@ impl<'a> Desk<'a> {
             RequestOf::Explain => self.explain(word),
             RequestOf::Help => self.help(word),
             RequestOf::Get => self.get(None, word),
-            RequestOf::Vars | RequestOf::Rules | RequestOf::Recipes => self.query_of(of, word),
+            RequestOf::Vars => self.vars_named(word),
+            RequestOf::Rules => self.rules_for(word),
+            RequestOf::Recipes => self.recipes_for(word),
             RequestOf::Write => {
                 self.write_to(word)?;
                 Ok(Vec::new(self.rt.alloc()))
@@ -357,7 +383,7 @@ impl<'a> Desk<'a> {
 
     // What is answered to a request.
     fn done(&mut self, request: Request<'_>) -> Result<Vec<u8>, NotDone>
-        ensures shown { IsShownAfter (asked_of request.entry) self.old.opened.items self.old.session.shown
+        ensures done { IsRequestDone (asked_of request.entry) self.old.opened.items self.old.session.shown
             self.new.session.shown (answer_text result) }
         ensures opened { self.new.opened ≡ self.old.opened }
     {
@@ -401,7 +427,7 @@ impl<'a> Desk<'a> {
 
     /// Answers a request. The second `quit` in a row ends the session.
     pub fn ask(&mut self, request: Request<'_>) -> Asked
-        ensures shown { IsShownAfter (asked_of request.entry) self.old.opened.items self.old.session.shown
+        ensures done { IsRequestDone (asked_of request.entry) self.old.opened.items self.old.session.shown
             self.new.session.shown (answer_text result.answer) }
         ensures opened { self.new.opened ≡ self.old.opened }
         ensures after { result.after ≡ after_request (asked_of request.entry) (is_ok result.answer) }
