@@ -12,3 +12,4 @@ pub mod Settled
 pub mod DiffRuns
 pub mod SessionFaults
 pub mod SessionSentences
+pub mod SessionReplies

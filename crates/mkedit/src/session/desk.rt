@@ -1,4 +1,13 @@
 //! A makefile that is open, and what it answers to requests.
+ghost use Rattle.std.specs.Prelude.{◌≡◌, IfOk, IsSomeAnd, OnErr, OnOk, is_ok};
+ghost use Rattle.mk_prompt.specs.AnswerLines.{lines_between};
+ghost use Rattle.mk_prompt.specs.Replies.{IsLineObeyed};
+ghost use Rattle.mk_prompt.specs.Requests.{Of, Word, asked_of};
+ghost use Rattle.mk_queries.specs.Queries.{recipes_for_text, rules_for_text, vars_named_text};
+ghost use Rattle.mk_session.specs.Sessions.{seen_opened};
+ghost use Rattle.mkedit.specs.QueryTexts.{query_text};
+ghost use Rattle.mkedit.specs.SessionReplies.{HasAnswer, IsRequestDone, IsReverted, after_request, answer_in, answer_text, is_quit};
+
 use super::help_text::HELP;
 use super::journal::{EditMade, Journal};
 use super::not_done::{NotDone, shown_name};
@@ -21,7 +30,6 @@ use mk_prompt::{
 use mk_queries::{recipes_for, rules_for, vars_named};
 use mk_session::{Refusal, Session};
 use std::alloc::Global;
-use std::mem;
 use std::str::from_utf8;
 
 /// A makefile that is open.
@@ -50,6 +58,27 @@ pub struct Asked {
     pub after: After,
 }
 
+// Whether a request asks that the session ends.
+fn is_quit(request: Request<'_>) -> bool
+    ensures { result ≡ is_quit (asked_of request.entry) }
+{
+    match request {
+        Request::Word(RequestWord::Quit | RequestWord::QuitAnyway) => true,
+        _ => false,
+    }
+}
+
+// Whether the session goes on after a request that was done or not.
+fn after_request(request: Request<'_>, is_done: bool) -> After
+    ensures { result ≡ after_request (asked_of request.entry) is_done }
+{
+    if is_quit(request) && is_done {
+        After::Ends
+    } else {
+        After::GoesOn
+    }
+}
+
 impl<'a> Desk<'a> {
     /// Opens a text, which is that of the makefile, or that of a makefile that is missing.
     ///
@@ -61,7 +90,11 @@ impl<'a> Desk<'a> {
         words: SessionWords<'a>,
         text: Vec<u8>,
         is_missing: bool,
-    ) -> Result<Desk<'a>, Fault> {
+    ) -> Result<Desk<'a>, Fault>
+        ensures session { IfOk result (λ desk. desk.session ≡ seen_opened words.entry.depth text.items) }
+        ensures opened { IfOk result (λ desk. desk.opened.items ≡ text.items) }
+        ensures name { IfOk result (λ desk. desk.name ≡ words.entry.file) }
+    {
         let opened = Vec::from_slice(rt.alloc(), text.as_slice())?;
         let session = Session::open_vec(rt.alloc(), text, words.depth)?;
         Ok(Desk {
@@ -99,12 +132,16 @@ impl<'a> Desk<'a> {
     /// # Errors
     ///
     /// [`NotDone::NoMemory`].
-    pub fn text(&self) -> Result<Vec<u8>, NotDone> {
+    pub fn text(&self) -> Result<Vec<u8>, NotDone>
+        ensures { IfOk result (λ text. text.items ≡ self.now.session.shown.text) }
+    {
         Ok(text_of(self.rt.alloc(), self.session.doc())?)
     }
 
     // The lines of the text from one number to another.
-    fn print(&self, from: u64, to: u64) -> Result<Vec<u8>, NotDone> {
+    fn print(&self, from: u64, to: u64) -> Result<Vec<u8>, NotDone>
+        ensures { IfOk result (λ lines. lines.items ≡ lines_between from to self.now.session.shown.text) }
+    {
         let text = self.text()?;
         let lines = lines_between(text.as_slice(), from, to);
         Ok(Vec::from_slice(self.rt.alloc(), lines)?)
@@ -126,7 +163,9 @@ impl<'a> Desk<'a> {
     }
 
     // The answer to a query.
-    fn query(&self, query: Query<'_>) -> Result<Vec<u8>, NotDone> {
+    fn query(&self, query: Query<'_>) -> Result<Vec<u8>, NotDone>
+        ensures { IfOk result (λ text. text.items ≡ query_text query.entry self.now.session.shown.text) }
+    {
         let mut sink = TextSink::new(self.rt.alloc());
         match put_lines(query, self.session.doc(), &mut sink) {
             Ok(()) => Ok(sink.text),
@@ -184,23 +223,47 @@ impl<'a> Desk<'a> {
         }
     }
 
-    // The answer to a query about one name or target.
-    fn query_of(&self, of: RequestOf, word: &[u8]) -> Result<Vec<u8>, NotDone> {
+    // The assignments of a name.
+    fn vars_named(&self, name: &[u8]) -> Result<Vec<u8>, NotDone>
+        ensures { IfOk result (λ text. text.items ≡ vars_named_text name.now self.now.session.shown.text) }
+    {
         let mut sink = TextSink::new(self.rt.alloc());
-        let doc = self.session.doc();
-        let put = match of {
-            RequestOf::Rules => rules_for(doc, word, &mut sink),
-            RequestOf::Recipes => recipes_for(doc, word, &mut sink),
-            _ => vars_named(doc, word, &mut sink),
-        };
-        match put {
+        match vars_named(self.session.doc(), name, &mut sink) {
+            Ok(()) => Ok(sink.text),
+            Err(_) => Err(NotDone::NoMemory),
+        }
+    }
+
+    // The rules for a target.
+    fn rules_for(&self, target: &[u8]) -> Result<Vec<u8>, NotDone>
+        ensures { IfOk result (λ text. text.items ≡ rules_for_text target.now self.now.session.shown.text) }
+    {
+        let mut sink = TextSink::new(self.rt.alloc());
+        match rules_for(self.session.doc(), target, &mut sink) {
+            Ok(()) => Ok(sink.text),
+            Err(_) => Err(NotDone::NoMemory),
+        }
+    }
+
+    // The recipe lines of the rules for a target.
+    fn recipes_for(&self, target: &[u8]) -> Result<Vec<u8>, NotDone>
+        ensures { IfOk result (λ text. text.items ≡ recipes_for_text target.now self.now.session.shown.text) }
+    {
+        let mut sink = TextSink::new(self.rt.alloc());
+        match recipes_for(self.session.doc(), target, &mut sink) {
             Ok(()) => Ok(sink.text),
             Err(_) => Err(NotDone::NoMemory),
         }
     }
 
     // Puts the text into the makefile's place.
-    fn write_text(&mut self) -> Result<(), NotDone> {
+    fn write_text(&mut self) -> Result<(), NotDone>
+        ensures session { self.new.session ≡ self.old.session }
+        ensures opened { self.new.opened ≡ self.old.opened }
+        ensures written { OnOk result (IsSomeAnd self.new.written
+            (λ text. text.items ≡ self.old.session.shown.text)) }
+        ensures unwritten { OnErr result (self.new.written ≡ self.old.written) }
+    {
         let text = self.text()?;
         if self.is_missing {
             put_or_make(self.rt, self.name, text.as_slice())?;
@@ -213,7 +276,13 @@ impl<'a> Desk<'a> {
     }
 
     // The same, if the makefile is as it was left.
-    fn write_if_left(&mut self) -> Result<(), NotDone> {
+    fn write_if_left(&mut self) -> Result<(), NotDone>
+        ensures session { self.new.session ≡ self.old.session }
+        ensures opened { self.new.opened ≡ self.old.opened }
+        ensures written { OnOk result (IsSomeAnd self.new.written
+            (λ text. text.items ≡ self.old.session.shown.text)) }
+        ensures unwritten { OnErr result (self.new.written ≡ self.old.written) }
+    {
         if self.is_missing {
             look_missing(self.rt, self.name)?;
         } else {
@@ -223,7 +292,10 @@ impl<'a> Desk<'a> {
     }
 
     // Puts the text into a file of this name. The makefile's own name is `write`.
-    fn write_to(&mut self, file: &[u8]) -> Result<(), NotDone> {
+    fn write_to(&mut self, file: &[u8]) -> Result<(), NotDone>
+        ensures session { self.new.session ≡ self.old.session }
+        ensures opened { self.new.opened ≡ self.old.opened }
+    {
         let Ok(file) = from_utf8(file) else {
             return Err(NotDone::CannotWrite);
         };
@@ -235,7 +307,10 @@ impl<'a> Desk<'a> {
     }
 
     // Undoes all that can be undone.
-    fn revert(&mut self) -> Result<(), NotDone> {
+    fn revert(&mut self) -> Result<(), NotDone>
+        ensures reverted { IsReverted self.old.opened.items self.old.session.shown self.new.session.shown result }
+        ensures opened { self.new.opened ≡ self.old.opened }
+    {
         let reverted = revert(self.rt.alloc(), &mut self.session, self.opened.as_slice());
         if reverted.is_ok() {
             self.journal.note_reverted();
@@ -248,9 +323,11 @@ impl<'a> Desk<'a> {
         }
     }
 
-    // Whether all changes are in the makefile.
-    fn quit(&mut self) -> Result<(), NotDone> {
-        self.is_warned = true;
+    // Whether all changes are in the makefile, or the request before was a `quit` that was not done.
+    fn quit(&self) -> Result<(), NotDone> {
+        if self.is_warned {
+            return Ok(());
+        }
         let text = self.text()?;
         if text.as_slice() == self.left() {
             Ok(())
@@ -260,7 +337,11 @@ impl<'a> Desk<'a> {
     }
 
     // What is answered to a request of one word; the text of the answer.
-    fn done_word(&mut self, word: RequestWord) -> Result<Vec<u8>, NotDone> {
+    fn done_word(&mut self, word: RequestWord) -> Result<Vec<u8>, NotDone>
+        ensures done { IsRequestDone (Word word) self.old.opened.items self.old.session.shown
+            self.new.session.shown (answer_text result) }
+        ensures opened { self.new.opened ≡ self.old.opened }
+    {
         match word {
             RequestWord::Diff => return self.diff(),
             RequestWord::Vars => return self.query(Query::Vars(None)),
@@ -280,12 +361,19 @@ impl<'a> Desk<'a> {
     }
 
     // What is answered to a request of two words; the text of the answer.
-    fn done_of(&mut self, of: RequestOf, word: &[u8]) -> Result<Vec<u8>, NotDone> {
+    fn done_of(&mut self, of: RequestOf, word: &[u8]) -> Result<Vec<u8>, NotDone>
+        ensures answer { HasAnswer (answer_in self.old.session.shown.text (Of of word.now))
+            (answer_text result) }
+        ensures session { self.new.session ≡ self.old.session }
+        ensures opened { self.new.opened ≡ self.old.opened }
+    {
         match of {
             RequestOf::Explain => self.explain(word),
             RequestOf::Help => self.help(word),
             RequestOf::Get => self.get(None, word),
-            RequestOf::Vars | RequestOf::Rules | RequestOf::Recipes => self.query_of(of, word),
+            RequestOf::Vars => self.vars_named(word),
+            RequestOf::Rules => self.rules_for(word),
+            RequestOf::Recipes => self.recipes_for(word),
             RequestOf::Write => {
                 self.write_to(word)?;
                 Ok(Vec::new(self.rt.alloc()))
@@ -294,7 +382,11 @@ impl<'a> Desk<'a> {
     }
 
     // What is answered to a request.
-    fn done(&mut self, request: Request<'_>) -> Result<Vec<u8>, NotDone> {
+    fn done(&mut self, request: Request<'_>) -> Result<Vec<u8>, NotDone>
+        ensures done { IsRequestDone (asked_of request.entry) self.old.opened.items self.old.session.shown
+            self.new.session.shown (answer_text result) }
+        ensures opened { self.new.opened ≡ self.old.opened }
+    {
         match request {
             Request::Print(from, to) => self.print(from, to),
             Request::GetNth(nth, name) => self.get_nth(nth, name),
@@ -304,7 +396,12 @@ impl<'a> Desk<'a> {
     }
 
     /// Obeys the command of a line, if it is one.
-    pub fn obey(&mut self, line: &[u8]) -> Obeyed {
+    pub fn obey(&mut self, line: &[u8]) -> Obeyed
+        ensures obeyed { IsLineObeyed line.now self.old.session.shown self.new.session.shown result }
+        ensures opened { self.new.opened ≡ self.old.opened }
+        ensures written { self.new.written ≡ self.old.written }
+        ensures name { self.new.name ≡ self.old.name }
+    {
         let mut made = EditMade(false);
         let obeyed = obey_line(self.rt.alloc(), &mut self.session, line, &mut made);
         if obeyed == Obeyed::Done {
@@ -329,24 +426,15 @@ impl<'a> Desk<'a> {
     }
 
     /// Answers a request. The second `quit` in a row ends the session.
-    pub fn ask(&mut self, request: Request<'_>) -> Asked {
-        let was_warned = mem::replace(&mut self.is_warned, false);
-        let request = match request {
-            Request::Word(RequestWord::Quit) if was_warned => Request::Word(
-                RequestWord::QuitAnyway,
-            ),
-            request => request,
-        };
+    pub fn ask(&mut self, request: Request<'_>) -> Asked
+        ensures done { IsRequestDone (asked_of request.entry) self.old.opened.items self.old.session.shown
+            self.new.session.shown (answer_text result.answer) }
+        ensures opened { self.new.opened ≡ self.old.opened }
+        ensures after { result.after ≡ after_request (asked_of request.entry) (is_ok result.answer) }
+    {
         let answer = self.done(request);
-        let is_quit = matches!(
-            request,
-            Request::Word(RequestWord::Quit | RequestWord::QuitAnyway)
-        );
-        let after = if answer.is_ok() && is_quit {
-            After::Ends
-        } else {
-            After::GoesOn
-        };
+        self.is_warned = matches!(request, Request::Word(RequestWord::Quit));
+        let after = after_request(request, answer.is_ok());
         Asked { answer, after }
     }
 }

@@ -1,6 +1,9 @@
 //! The replies of a makefile that is open, by the protocol.
-ghost use Rattle.std.specs.Prelude.{◌≡◌, false, true, ⊤, IfErr, OnOk};
+ghost use Rattle.std.specs.Prelude.{◌≡◌, ◌⊎◌, false, true, Err, IfErr, IfOk, IsOkAnd, OnOk, is_ok};
+ghost use Rattle.mk_prompt.specs.AnswerLines.{answer_lines};
+ghost use Rattle.mk_prompt.specs.Requests.{request_in};
 ghost use Rattle.mk_prompt.specs.Talks.{SaysOut, greeting, too_long};
+ghost use Rattle.mkedit.specs.SessionReplies.{IsHeard, IsOtherAnswered, IsReplyTo, answer_text};
 
 use super::desk::Desk;
 use super::not_done::{NotDone, put_fault, shown_name};
@@ -13,9 +16,17 @@ use mk_prompt::{
 
 impl Desk<'_> {
     // The lines of an answer, if there is one.
-    fn quoted(&self, answer: Result<Vec<u8>, NotDone>) -> Result<Vec<u8>, NotDone> {
+    fn quoted(&self, answer: Result<Vec<u8>, NotDone>) -> Result<Vec<u8>, NotDone>
+        ensures lines { IfOk result (λ lines. IsOkAnd answer
+            (λ text. lines.items ≡ answer_lines text.items)) }
+        ensures fault { IfErr result (λ why. (answer ≡ Err why)
+            ⊎ ((is_ok answer ≡ true) × (why ≡ NotDone.NoMemory))) }
+    {
         match answer {
-            Ok(text) => Ok(answer_lines(self.runtime().alloc(), text.as_slice())?),
+            Ok(text) => match answer_lines(self.runtime().alloc(), text.as_slice()) {
+                Ok(lines) => Ok(lines),
+                Err(_) => Err(NotDone::NoMemory),
+            },
             Err(not_done) => Err(not_done),
         }
     }
@@ -28,7 +39,8 @@ impl Desk<'_> {
         out: &mut W,
     ) -> Result<(), Fault>
         requires { W.failed out.old ≡ false }
-        ensures said { OnOk result (SaysOut (W.contents out.old) (W.contents out.new) (λ _. ⊤)) }
+        ensures said { OnOk result (SaysOut (W.contents out.old) (W.contents out.new)
+            (IsReplyTo name.now (answer_text answer))) }
         ensures fault { IfErr result (λ fault. (fault ≡ Fault.Write) × (W.failed out.new ≡ true)) }
         ensures works { OnOk result (W.failed out.new ≡ false) }
     {
@@ -41,7 +53,10 @@ impl Desk<'_> {
     // Replies to a line that is no command.
     fn answer_other<W: ByteSink>(&mut self, line: &[u8], out: &mut W) -> Result<After, Fault>
         requires { W.failed out.old ≡ false }
-        ensures said { OnOk result (SaysOut (W.contents out.old) (W.contents out.new) (λ _. ⊤)) }
+        ensures said { IfOk result (λ after. SaysOut (W.contents out.old) (W.contents out.new) (λ reply.
+            IsOtherAnswered (request_in line.now) self.old.opened.items self.old.session.shown reply after
+            self.new.session.shown)) }
+        ensures opened { self.new.opened ≡ self.old.opened }
         ensures fault { IfErr result (λ fault. (fault ≡ Fault.Write) × (W.failed out.new ≡ true)) }
         ensures works { OnOk result (W.failed out.new ≡ false) }
     {
@@ -57,7 +72,10 @@ impl Desk<'_> {
     // Replies to a line.
     fn answer_to<W: ByteSink>(&mut self, line: &[u8], out: &mut W) -> Result<After, Fault>
         requires { W.failed out.old ≡ false }
-        ensures said { OnOk result (SaysOut (W.contents out.old) (W.contents out.new) (λ _. ⊤)) }
+        ensures said { IfOk result (λ after. SaysOut (W.contents out.old) (W.contents out.new) (λ reply.
+            IsHeard line.now self.old.opened.items self.old.session.shown reply after
+            self.new.session.shown
+            × (self.new.opened ≡ self.old.opened))) }
         ensures fault { IfErr result (λ fault. (fault ≡ Fault.Write) × (W.failed out.new ≡ true)) }
         ensures works { OnOk result (W.failed out.new ≡ false) }
     {
@@ -74,6 +92,10 @@ impl Listener for Desk<'_> {
     ghost greets = { λ _ text. text ≡ greeting };
 
     ghost turns_down = { λ _ reply. reply ≡ too_long };
+
+    ghost hears = { λ old line reply after new.
+        IsHeard line old.opened.items old.session.shown reply after new.session.shown
+        × (new.opened ≡ old.opened) };
 
     fn greet<W: ByteSink>(&self, out: &mut W) -> Result<(), Fault> {
         write_greeting(out)
