@@ -90,7 +90,7 @@ class EditNotes(RoomCase):
         for words, told in (((), ()), (("--notes",), notes)):
             with self.subTest(command, words=words):
                 self.room.write("config.mk", makefile)
-                words = ("edit", "-i", *words, "-e", command, "config.mk")
+                words = ("edit", "-o", "out", *words, "-e", command, "config.mk")
                 self.assert_run(Outcome(b"", said(*told), 0), *words)
 
     def test_each_edit(self):

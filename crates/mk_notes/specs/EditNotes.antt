@@ -24,7 +24,7 @@ assigned_name (AddAssign p n f v) = Some n
 assigned_name e = None
 
 -- the first of some lines
-abbrev pub first_spot : List (Spot LocatedLine) → Option (Spot LocatedLine)
+abbrev first_spot : List (Spot LocatedLine) → Option (Spot LocatedLine)
 first_spot [] = None
 first_spot (s ∷ ss) = Some s
 
@@ -50,7 +50,7 @@ abbrev past_first : (above ahead : List LocatedLine) → Walk
 past_first above [] = record { above = above; ahead = [] }
 past_first above (l ∷ ls) = record { above = above ++ l ∷ []; ahead = ls }
 
-abbrev pub past_next : (is_next : Bool) → Walk → Walk
+abbrev past_next : (is_next : Bool) → Walk → Walk
 past_next is_next w = if is_next then past_first w.above w.ahead else w
 
 -- the lines below the line of an address, or below the one that follows it
@@ -78,7 +78,7 @@ abbrev pub is_default : LocatedLine → Bool
 is_default l = shows (λ a. is_default_flavor a.flavor) (assignment_of l)
 
 -- what is said of such a line, and the note on it
-abbrev pub some_default_notes : Told → List LocatedLine → (name : List ℕ) → Spot LocatedLine → List ℕ
+abbrev some_default_notes : Told → List LocatedLine → (name : List ℕ) → Spot LocatedLine → List ℕ
 some_default_notes t ls n s =
     name_note t (codes "make takes this value only where ") n (codes " has none")
     ++ spot_note t.makefile ls s
@@ -90,7 +90,7 @@ default_notes t ls n (Some s) = if is_default s.shown then some_default_notes t 
 -- ---- a variable that is assigned again below
 
 -- the lines of a walk that are sought; none, if there is no walk
-abbrev pub sought_below : Sought → Option Walk → List (Spot LocatedLine)
+abbrev sought_below : Sought → Option Walk → List (Spot LocatedLine)
 sought_below s None = []
 sought_below s (Some w) = sought_ahead s w
 
@@ -112,7 +112,7 @@ abbrev pub assigned_notes : Told → List LocatedLine → Edit → (name : List 
 assigned_notes t ls e n =
     default_notes t ls n (changed_line e ls) ++ again_notes t ls n (again_of e n ls)
 
-abbrev pub notes_on_named : Told → List LocatedLine → Edit → (name : Option (List ℕ)) → List ℕ
+abbrev notes_on_named : Told → List LocatedLine → Edit → (name : Option (List ℕ)) → List ℕ
 notes_on_named t ls e None = []
 notes_on_named t ls e (Some n) = assigned_notes t ls e n
 
