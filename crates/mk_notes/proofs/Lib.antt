@@ -1,4 +1,5 @@
 mod BranchLemmas
+mod EditLemmas
 mod NoteLemmas
 mod RefusalLemmas
 mod TextLemmas

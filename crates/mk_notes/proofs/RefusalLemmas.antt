@@ -17,7 +17,7 @@ ambiguous-is t ls all a s n nth several holds test number count lines =
     ∙ (ap (λ z. candidate_notes t ls all (length (sought_in (candidates_of a) ls)) z) lines
     ∙ sym (ap (λ b. if b then candidate_notes t ls all (length (sought_in (candidates_of a) ls)) (candidates_of a) else meant_notes t ls a) test'))
 
-not-zero : (n : ℕ) → n ≢ 0 → (n == 0) ≡ false
+pub not-zero : (n : ℕ) → n ≢ 0 → (n == 0) ≡ false
 not-zero n h = grind (arith, nat_tests)
 
 -- there are lines of the name, but fewer than the number asks for

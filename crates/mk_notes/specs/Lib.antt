@@ -6,6 +6,7 @@ pub mod Sought
 -- The texts of notes
 pub mod LineNotes
 pub mod RefusalNotes
+pub mod EditNotes
 -- What contracts see of what is sought, of lines that were found, and of names
 pub mod NoteViews
 -- # Vocabulary of private contracts

@@ -5,11 +5,13 @@ use Rattle.std.specs.List.{list_any}
 use Rattle.std.specs.Str.{bytes_eq}
 use Rattle.mk_lines.specs.Lists.{after_leading}
 use Rattle.mk_class.specs.Texts.{is_one_of}
+use Rattle.mk_class.specs.declared.assignment.Flavor.{Flavor}
+use Rattle.mk_class.specs.declared.assignment.Flavor.TheVariants.{Conditional, Append}
 use Rattle.mk_class.specs.declared.class.Class.{Class}
 use Rattle.mk_class.specs.declared.class.Class.TheVariants.{Body, Recipe, Opaque, DefineHead, Rough}
 use Rattle.mk_script.specs.Spelling.{are_alike}
 use Rattle.mk_tree.specs.LocatedLines.{LocatedLine, text_of_line}
-use Rattle.mk_views.specs.Views.{TargetAssignmentView, assignment_of, define_of, rule_of, target_assignment_of}
+use Rattle.mk_views.specs.Views.{AssignmentView, TargetAssignmentView, assignment_of, define_of, rule_of, target_assignment_of}
 use Rattle.mk_listing.specs.Listings.{Spot, Walk, is_for, is_of, seen, standing, whole}
 use Rattle.mk_notes.specs.Excerpts.{is_blank}
 
@@ -25,6 +27,8 @@ pub data Sought : Type 0 where
   AlikeVariable : (name : List ℕ) → Sought
   -- the lines of the rules for another target that is spelled alike
   AlikeRule : (target : List ℕ) → Sought
+  -- the lines that give a variable another value
+  NewValue : (name : List ℕ) → Sought
   -- where the name of a variable stands and no edit looks
   HiddenVariable : (name : List ℕ) → Sought
   -- where a target stands and no edit looks
@@ -43,6 +47,18 @@ shows passes v = unwrap_or (option_map passes v) false
 -- whether a name is another one that is spelled alike
 abbrev pub is_near : (name other : List ℕ) → Bool
 is_near n other = are_alike n other && not (bytes_eq n other)
+
+-- ---- lines that give a variable another value
+
+-- whether an operator gives a variable another value, whatever value it has
+abbrev pub is_new_value : Flavor → Bool
+is_new_value Conditional = false
+is_new_value Append = false
+is_new_value f = true
+
+-- whether an assignment gives the variable of this name another value
+abbrev pub gives_value : (name : List ℕ) → AssignmentView → Bool
+gives_value n a = bytes_eq a.name n && is_new_value a.flavor
 
 -- ---- lines that no edit looks at
 
@@ -105,6 +121,8 @@ is_sought (Target t) l =
     shows (is_for (Some t)) (rule_of l) || shows (λ a. is_one_of t a.targets) (target_assignment_of l)
 is_sought (AlikeVariable n) l = shows (λ a. is_near n a.name) (assignment_of l)
 is_sought (AlikeRule t) l = shows (λ r. list_any (is_near t) r.targets) (rule_of l)
+is_sought (NewValue n) l =
+    shows (gives_value n) (assignment_of l) || shows (λ name. bytes_eq name n) (define_of l)
 is_sought (HiddenVariable n) l =
     shows (λ name. bytes_eq name n) (define_of l)
     || shows (assigns_for_targets n) (target_assignment_of l) || is_hidden n l

@@ -1,5 +1,5 @@
 //! The lines of a document that are sought.
-ghost use Rattle.std.specs.Prelude.{◌≡◌, drop, length};
+ghost use Rattle.std.specs.Prelude.{◌≡◌, ◌≤◌, drop, length};
 ghost use Rattle.mk_notes.specs.Finding.{FindsSought};
 ghost use Rattle.mk_notes.specs.NoteViews.{sought_seen};
 ghost use Rattle.mk_notes.specs.Sought.{sought_ahead, sought_in};
@@ -24,17 +24,29 @@ pub(crate) fn next_sought<'a, A: Allocator>(
     None
 }
 
-/// How many lines of a document are sought.
-pub(crate) fn count_sought<A: Allocator>(doc: &Doc<A>, sought: Sought<'_>) -> usize
-    ensures { result ≡ length (sought_in (sought_seen sought.entry) doc.now) }
+/// How many lines that a walk over a document has ahead are sought.
+pub(crate) fn count_ahead<A: Allocator>(
+    doc: &Doc<A>,
+    ahead: NumberedLines<'_, A>,
+    sought: Sought<'_>,
+) -> usize
+    requires { length ahead.ahead ≤ length doc.now }
+    ensures { result ≡ length (sought_ahead (sought_seen sought.entry) ahead.entry) }
 {
     let _size = doc.len(); // its contract bounds the count
-    let mut walk = numbered(doc);
+    let mut walk = ahead;
     let mut count = 0;
     'lines: while let Some(_found) = next_sought(&mut walk, sought) {
         count += 1;
     }
     count
+}
+
+/// How many lines of a document are sought.
+pub(crate) fn count_sought<A: Allocator>(doc: &Doc<A>, sought: Sought<'_>) -> usize
+    ensures { result ≡ length (sought_in (sought_seen sought.entry) doc.now) }
+{
+    count_ahead(doc, numbered(doc), sought)
 }
 
 /// The walk below the first of the lines that are sought in a document: so many of them are passed over.
@@ -43,8 +55,9 @@ pub(crate) fn walk_below<'a, A: Allocator>(
     sought: Sought<'_>,
     number: usize,
 ) -> NumberedLines<'a, A>
-    ensures { sought_ahead (sought_seen sought.entry) result
+    ensures lines { sought_ahead (sought_seen sought.entry) result
         ≡ drop number (sought_in (sought_seen sought.entry) doc.now) }
+    ensures within { length result.ahead ≤ length doc.now }
 {
     let mut walk = numbered(doc);
     let mut left = number;

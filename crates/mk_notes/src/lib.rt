@@ -1,6 +1,8 @@
-//! Notes below a refusal: the lines of the makefile that are its cause, and what tells what was meant.
+//! Notes on the edits of a script: below a refusal the lines of the makefile that are its cause, and what
+//! tells what was meant; on an edit that was made, why it may do nothing in make.
 //!
 //! - [`refusal_notes`](notes::refusal_notes): the notes on a refusal.
+//! - [`edit_notes`](accepted::edit_notes): the notes on an edit that was made.
 //!
 //! The modules, lowest first:
 //!
@@ -10,11 +12,17 @@
 //! - `finding`: the lines of a document that are sought.
 //! - `branch`: the branch of a conditional in which a line stands.
 //! - `line_note`: the notes on lines.
+//! - `candidates`: the lines that an address may mean.
 //! - `choice`: what tells one of several lines.
 //! - [`notes`]: the notes on a refusal.
+//! - `assigned`: the assignment that an edit has changed or put in, and the lines below it.
+//! - [`accepted`]: the notes on an edit that was made.
 #![tactic(auto)]
 
+pub mod accepted;
+mod assigned;
 mod branch;
+mod candidates;
 mod choice;
 mod excerpt;
 mod finding;
@@ -23,4 +31,5 @@ pub mod notes;
 mod sought;
 mod texts;
 
+pub use accepted::edit_notes;
 pub use notes::{Told, refusal_notes};

@@ -17,7 +17,7 @@ use mk_tree::{Doc, Line};
 use std::alloc::{AllocError, Allocator};
 
 /// How many lines the notes below a refusal show at most.
-const MOST_LINES: usize = 10;
+pub(crate) const MOST_LINES: usize = 10;
 
 // Puts what is said of a branch behind some notes.
 fn push_branch<A: Allocator, B: Allocator>(
@@ -64,8 +64,12 @@ fn kind_text(text: &[u8], class: &Class) -> &'static str
     }
 }
 
-// Puts the note on a line behind some notes.
-fn push_line_note<A: Allocator, B: Allocator>(
+/// Puts the note on a line behind some notes.
+///
+/// # Errors
+///
+/// Want of memory.
+pub(crate) fn push_line_note<A: Allocator, B: Allocator>(
     notes: &mut Vec<u8, B>,
     file: &[u8],
     doc: &Doc<A>,
@@ -96,8 +100,12 @@ fn push_some_more<B: Allocator>(
     push_parts(notes, &[file, b": note: and ", number, b" more\n"])
 }
 
-// Puts how many more lines there are behind some notes; nothing if there are none.
-fn push_more<B: Allocator>(
+/// Puts how many more lines there are behind some notes; nothing if there are none.
+///
+/// # Errors
+///
+/// Want of memory.
+pub(crate) fn push_more<B: Allocator>(
     notes: &mut Vec<u8, B>,
     file: &[u8],
     more: usize,
@@ -111,8 +119,8 @@ fn push_more<B: Allocator>(
     }
 }
 
-// How many of the lines that are sought are passed over: those before the nth.
-fn passed_over(nth: Option<usize>) -> usize
+/// How many of the lines that are sought are passed over: those before the nth.
+pub(crate) fn passed_over(nth: Option<usize>) -> usize
     ensures { result ≡ passed_over nth }
 {
     match nth {
@@ -131,8 +139,8 @@ fn shown_at_most(nth: Option<usize>) -> usize
     }
 }
 
-// How many more of so many lines there are than are shown.
-fn how_many_more(nth: Option<usize>, count: usize) -> usize
+/// How many more of so many lines there are than are shown.
+pub(crate) fn how_many_more(nth: Option<usize>, count: usize) -> usize
     ensures { result ≡ how_many_more nth count }
 {
     match nth {
@@ -141,8 +149,12 @@ fn how_many_more(nth: Option<usize>, count: usize) -> usize
     }
 }
 
-// Puts the notes on the first of the lines that a walk has ahead and that are sought behind some notes.
-fn push_first<A: Allocator, B: Allocator>(
+/// Puts the notes on the first of the lines that a walk has ahead and that are sought behind some notes.
+///
+/// # Errors
+///
+/// Want of memory.
+pub(crate) fn push_first<A: Allocator, B: Allocator>(
     notes: &mut Vec<u8, B>,
     file: &[u8],
     doc: &Doc<A>,

@@ -1,11 +1,11 @@
 //! The notes on a refusal.
 ghost use Rattle.std.specs.Prelude.{◌≡◌, ◌++◌, IfOk};
-ghost use Rattle.mk_edit_language.specs.Addresses.{nth_meant};
 ghost use Rattle.mk_edit_language.specs.EditViews.{edit_of};
 ghost use Rattle.mk_edit_parts.specs.AddressViews.{address_seen, address_view};
 ghost use Rattle.mk_notes.specs.NoteViews.{sought_seen, told_seen};
-ghost use Rattle.mk_notes.specs.RefusalNotes.{ambiguous_notes, candidate_notes, candidates_of, choice_text, elsewhere_notes, fewer_text, hidden_of, is_several, last_notes, meant, meant_by_name, meant_notes, missing_notes, near_of, notes_by_lines, notes_by_meant, notes_on, said_notes, script_note, sought_notes, taken_notes};
+ghost use Rattle.mk_notes.specs.RefusalNotes.{ambiguous_notes, candidate_notes, choice_text, elsewhere_notes, fewer_text, hidden_of, is_several, last_notes, meant, meant_by_name, meant_notes, missing_notes, near_of, notes_by_lines, notes_by_meant, notes_on, said_notes, script_note, sought_notes, taken_notes};
 
+use crate::candidates::{candidates_of, nth_of};
 use crate::choice::{choice_text, fewer_text, takes_all};
 use crate::finding::count_sought;
 use crate::line_note::push_line_notes;
@@ -110,26 +110,6 @@ fn meant<A: Allocator>(edit: &Edit<A>) -> Option<Address<'_>>
     match address_of(edit) {
         Some(address) => Some(address),
         None => meant_by_name(edit),
-    }
-}
-
-// The lines that an address may mean.
-fn candidates_of(address: Address<'_>) -> Sought<'_>
-    ensures { sought_seen result ≡ candidates_of (address_view address.entry) }
-{
-    match address {
-        Address::Variable(_, name) => Sought::Variable(name),
-        Address::Rule(_, target) => Sought::Rule(target),
-    }
-}
-
-// The number that an address gives.
-fn nth_of(address: Address<'_>) -> Option<usize>
-    ensures { result ≡ nth_meant (address_view address.entry) }
-{
-    match address {
-        Address::Variable(Some(nth), _) | Address::Rule(Some(nth), _) => Some(nth as usize),
-        Address::Variable(None, _) | Address::Rule(None, _) => None,
     }
 }
 

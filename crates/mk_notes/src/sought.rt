@@ -8,10 +8,10 @@ ghost use Rattle.mk_tree.specs.Trees.{line_view};
 ghost use Rattle.mk_views.specs.Views.{assignment_of, define_of, rule_of, target_assignment_of};
 ghost use Rattle.mk_listing.specs.Listings.{is_for, is_of};
 ghost use Rattle.mk_notes.specs.NoteViews.{sought_seen};
-ghost use Rattle.mk_notes.specs.Sought.{after_mark, assigns_for_targets, begins_with_sign, is_define_line, is_hidden, is_marked, is_near, is_sign, is_sought, is_unread, leads, leads_bare, shows};
+ghost use Rattle.mk_notes.specs.Sought.{after_mark, assigns_for_targets, begins_with_sign, gives_value, is_define_line, is_hidden, is_marked, is_near, is_new_value, is_sign, is_sought, is_unread, leads, leads_bare, shows};
 
 use crate::excerpt::after_blanks;
-use mk_class::Class;
+use mk_class::{Class, Flavor};
 use mk_script::spelling::are_alike;
 use mk_tree::Line;
 use mk_views::{LineViews, WordTexts};
@@ -30,6 +30,9 @@ pub(crate) enum Sought<'a> {
     AlikeVariable(&'a [u8]),
     /// The lines of the rules for another target that is spelled alike.
     AlikeRule(&'a [u8]),
+    /// The lines that give the variable of this name another value: its defines, and its assignments
+    /// but those with `?=` and `+=`.
+    NewValue(&'a [u8]),
     /// Where the name of a variable stands and no edit looks.
     HiddenVariable(&'a [u8]),
     /// Where a target stands and no edit looks.
@@ -51,6 +54,7 @@ impl Sought<'_> {
             Sought::Target(target) => is_rule_for(line, target) || is_for_target(line, target),
             Sought::AlikeVariable(name) => assigns_alike(line, name),
             Sought::AlikeRule(target) => is_rule_for_alike(line, target),
+            Sought::NewValue(name) => gives_value(line, name) || defines(line, name),
             Sought::HiddenVariable(name) => {
                 defines(line, name) || assigns_for_targets(line, name) || is_hidden(line, name)
             }
@@ -67,6 +71,26 @@ fn assigns<A: Allocator>(line: &Line<A>, name: &[u8]) -> bool
 {
     match line.assignment() {
         Some(assignment) => assignment.name() == name,
+        None => false,
+    }
+}
+
+// Whether an operator gives a variable another value, whatever value it has.
+fn is_new_value(flavor: Flavor) -> bool
+    ensures { result ≡ is_new_value flavor }
+{
+    match flavor {
+        Flavor::Conditional | Flavor::Append => false,
+        _ => true,
+    }
+}
+
+// Whether a line is an assignment that gives the variable of this name another value.
+fn gives_value<A: Allocator>(line: &Line<A>, name: &[u8]) -> bool
+    ensures { result ≡ shows (gives_value name.now) (assignment_of (line_view line.now)) }
+{
+    match line.assignment() {
+        Some(assignment) => assignment.name() == name && is_new_value(assignment.flavor()),
         None => false,
     }
 }

@@ -1,4 +1,5 @@
-//! The witnesses of a run that make the notes on refusals: of one makefile at once, of several later.
+//! The witnesses of a run that make the notes on its edits, those that were refused and those that were
+//! made: of one makefile at once, of several later.
 ghost use Rattle.std.specs.Prelude.{◌≡◌};
 ghost use Rattle.mkedit.specs.Destinations.{input_name};
 
@@ -7,7 +8,7 @@ use crate::notes::STANDARD_INPUT;
 use mk_command_line::{EditWords, Input, Script};
 use mk_lines::sink::write_all;
 use mk_lines::{ByteSink, StdSink};
-use mk_notes::{Told, refusal_notes};
+use mk_notes::{Told, edit_notes, refusal_notes};
 use mk_run::{Reported, Witness};
 use mk_session::{Edit, Session};
 use std::alloc::Allocator;
@@ -23,6 +24,15 @@ pub struct Names<'a> {
 }
 
 impl<'a> Names<'a> {
+    // The names, with the line of the script of which notes tell.
+    fn told(self, line: u64) -> Told<'a> {
+        Told {
+            makefile: self.makefile,
+            script: self.script,
+            line,
+        }
+    }
+
     /// What the words call the script and this makefile.
     pub fn of(words: &EditWords<'a>, file: Input<'a>) -> Names<'a> {
         Names {
@@ -60,19 +70,29 @@ fn notes_on<A: Allocator, B: Allocator + Copy>(
     let Some(edit) = reported.edit else {
         return Vec::new(alloc);
     };
-    let told = Told {
-        makefile: names.makefile,
-        script: names.script,
-        line: reported.line,
-    };
+    let told = names.told(reported.line);
     match refusal_notes(alloc, told, session.doc(), edit, reported.refusal) {
         Ok(notes) => notes,
         Err(_) => Vec::new(alloc),
     }
 }
 
-/// A witness that writes the notes on each refusal once its line is in the report. Where a write fails,
-/// it writes nothing more.
+// The notes on an edit that was made; nothing where memory ends.
+fn notes_on_made<A: Allocator, B: Allocator + Copy>(
+    alloc: B,
+    names: Names<'_>,
+    line: u64,
+    edit: &Edit<A>,
+    session: &Session<A>,
+) -> Vec<u8, B> {
+    match edit_notes(alloc, names.told(line), session.doc(), edit) {
+        Ok(notes) => notes,
+        Err(_) => Vec::new(alloc),
+    }
+}
+
+/// A witness that writes the notes on each refusal once its line is in the report, and those on each edit
+/// once it is made. Where a write fails, it writes nothing more.
 #[derive(Drop)]
 pub struct NotesBelow<'a, W, B> {
     alloc: B,
@@ -89,27 +109,37 @@ impl<'a, W: Write, B> NotesBelow<'a, W, B> {
             out: StdSink::new(out),
         }
     }
+
+    // Writes some notes, unless a write has failed.
+    fn put(&mut self, notes: &[u8]) {
+        if !self.out.failed() {
+            let _ = write_all(&mut self.out, notes);
+        }
+    }
 }
 
 impl<A: Allocator, W: Write, B: Allocator + Copy> Witness<A> for NotesBelow<'_, W, B> {
     fn refused(&mut self, reported: &Reported<'_, A>, session: &Session<A>) {
-        if self.out.failed() {
-            return;
-        }
         let notes = notes_on(self.alloc, self.names, reported, session);
-        let _ = write_all(&mut self.out, notes.as_slice());
+        self.put(notes.as_slice());
     }
 
-    fn accepted(&mut self, _line: u64, _edit: &Edit<A>, _session: &Session<A>) {}
+    fn accepted(&mut self, line: u64, edit: &Edit<A>, session: &Session<A>) {
+        let notes = notes_on_made(self.alloc, self.names, line, edit, session);
+        self.put(notes.as_slice());
+    }
 }
 
-/// A witness that keeps the notes on each refusal. Where memory ends, it keeps no more.
+/// A witness that keeps the notes on each refusal, and those on each edit that was made. Where memory
+/// ends, it keeps no more.
 #[derive(Drop)]
 pub struct NotesKept<'a, B: Allocator> {
     names: Names<'a>,
     alloc: B,
-    /// The notes on the first refusal, on the second and so on.
-    pub notes: Vec<Vec<u8, B>, B>,
+    /// The notes before the first refusal.
+    pub before: Vec<u8, B>,
+    /// The notes from the first refusal to the second, from the second to the third and so on.
+    pub below: Vec<Vec<u8, B>, B>,
     is_full: bool,
 }
 
@@ -119,9 +149,19 @@ impl<'a, B: Allocator + Copy> NotesKept<'a, B> {
         NotesKept {
             names,
             alloc,
-            notes: Vec::new(alloc),
+            before: Vec::new(alloc),
+            below: Vec::new(alloc),
             is_full: false,
         }
+    }
+
+    // Keeps notes behind all others.
+    fn keep(&mut self, notes: &[u8]) {
+        let kept = match self.below.last_mut() {
+            Some(last) => last.extend_from_slice(notes),
+            None => self.before.extend_from_slice(notes),
+        };
+        self.is_full = kept.is_err();
     }
 }
 
@@ -131,8 +171,14 @@ impl<A: Allocator, B: Allocator + Copy> Witness<A> for NotesKept<'_, B> {
             return;
         }
         let notes = notes_on(self.alloc, self.names, reported, session);
-        self.is_full = self.notes.push(notes).is_err();
+        self.is_full = self.below.push(notes).is_err();
     }
 
-    fn accepted(&mut self, _line: u64, _edit: &Edit<A>, _session: &Session<A>) {}
+    fn accepted(&mut self, line: u64, edit: &Edit<A>, session: &Session<A>) {
+        if self.is_full {
+            return;
+        }
+        let notes = notes_on_made(self.alloc, self.names, line, edit, session);
+        self.keep(notes.as_slice());
+    }
 }

@@ -129,10 +129,18 @@ fn notes_kept<'a>(
     }
 }
 
-// The notes that a witness has kept.
-fn kept_notes<'a>(witness: &'a Option<NotesKept<'_, Global>>) -> &'a [Vec<u8>] {
+// Writes the notes that a witness has kept before the first line of a report. A write that fails is that
+// of the report too, which is written behind them.
+fn put_before(rt: &HostRuntime, witness: &Option<NotesKept<'_, Global>>) {
+    if let Some(witness) = witness {
+        let _ = write_all(&mut StdSink::new(rt.stderr()), witness.before.as_slice());
+    }
+}
+
+// The notes that a witness has kept below the lines of a report.
+fn notes_below<'a>(witness: &'a Option<NotesKept<'_, Global>>) -> &'a [Vec<u8>] {
     match witness {
-        Some(witness) => witness.notes.as_slice(),
+        Some(witness) => witness.below.as_slice(),
         None => &[],
     }
 }
@@ -289,7 +297,8 @@ fn edit_one<'a>(
     let mut witness = notes_kept(rt, words, file);
     match run_by(rt, words, steps, file, &mut report, &mut witness) {
         Ok(end) => {
-            let below = kept_notes(&witness);
+            put_before(rt, &witness);
+            let below = notes_below(&witness);
             tell_named(rt, file, &mut report, below, &end, words.notes)
         }
         Err(file) => {

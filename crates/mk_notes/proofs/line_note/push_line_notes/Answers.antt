@@ -17,7 +17,7 @@ returns g c =
     let new = c.push_more.new.notes.items in
     let first : between ≡ old ++ flat_map f (take (shown_at_most nth) (drop (passed_over nth) all)) =
     c.in_ok-push_first.ensures
-    ∙ (ap (λ z. old ++ flat_map f (take c.shown_at_most.result z)) c.walk_below-ahead.ensures
+    ∙ (ap (λ z. old ++ flat_map f (take c.shown_at_most.result z)) c.walk_below-ahead.ensures.lines
     ∙ (ap (λ k. old ++ flat_map f (take k (drop c.passed_over.result all))) c.shown_at_most.ensures
     ∙ ap (λ k. old ++ flat_map f (take (shown_at_most nth) (drop k all))) c.passed_over.ensures)) in
     let more = subst (λ m. IfOk c.push_more.result (λ _. new ≡ between ++ more_note file m)) (c.how_many_more.ensures ∙ ap (how_many_more nth) c.count_sought-count.ensures) c.push_more.ensures in

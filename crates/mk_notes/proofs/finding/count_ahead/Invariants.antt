@@ -1,12 +1,12 @@
 -- The lines that were counted and those ahead are all that are sought.
 use Rattle.std.proofs.Common.{◌≡◌, ◌≤◌, ◌+◌, length}
 use Rattle.mk_notes.specs.NoteViews.{sought_seen}
-use Rattle.mk_notes.specs.Sought.{sought_ahead, sought_in}
-use Rattle.mk_notes.proofs.finding.count_sought.Given as goal
+use Rattle.mk_notes.specs.Sought.{sought_ahead}
+use Rattle.mk_notes.proofs.finding.count_ahead.Given as goal
 
 abbrev pub invariant-lines : goal.invariant-lines
 invariant-lines g l =
-    (l.count + length (sought_ahead (sought_seen l.sought) l.walk) ≡ length (sought_in (sought_seen l.sought) l.doc))
+    (l.count + length (sought_ahead (sought_seen l.sought) l.walk) ≡ length (sought_ahead (sought_seen l.sought) l.fn.ahead))
     × (l.count + length l.walk.ahead ≤ length l.doc)
 
 abbrev pub decreases-lines : goal.decreases-lines

@@ -1,0 +1,97 @@
+//! The assignment that an edit has changed or put in, and the lines below it.
+ghost use Rattle.std.specs.Prelude.{◌≡◌, ◌≤◌, IfSome, length, option_map};
+ghost use Rattle.mk_edit_language.specs.EditViews.{edit_of};
+ghost use Rattle.mk_edit_parts.specs.AddressViews.{address_view};
+ghost use Rattle.mk_notes.specs.EditNotes.{assigned_name, below_address, below_edit, changed_line, line_of, stands_below};
+ghost use Rattle.mk_notes.specs.NoteViews.{spot_seen};
+
+use crate::candidates::{candidates_of, nth_of};
+use crate::finding::{next_sought, walk_below};
+use crate::line_note::passed_over;
+use mk_edit_language::{Edit, Place};
+use mk_edit_parts::address::{Address, address_of};
+use mk_listing::{NumberedLines, Position};
+use mk_tree::{Doc, Line};
+use std::alloc::Allocator;
+
+/// The name of the variable to which an edit gives a value on one line.
+pub(crate) fn assigned_name<A: Allocator>(edit: &Edit<A>) -> Option<&[u8]>
+    ensures { option_map (λ name. name.now) result ≡ assigned_name (edit_of edit.now) }
+{
+    match edit {
+        Edit::SetValue { name, .. }
+        | Edit::AppendValue { name, .. }
+        | Edit::AddWord { name, .. }
+        | Edit::RemoveWord { name, .. }
+        | Edit::AddAssign { name, .. } => Some(name),
+        _ => None,
+    }
+}
+
+// The line of an address, with where it stands and the walk below it.
+fn line_of<'a, A: Allocator>(
+    doc: &'a Doc<A>,
+    address: Address<'_>,
+) -> Option<(Position, &'a Line<A>, NumberedLines<'a, A>)>
+    ensures value { spot_seen result ≡ line_of (address_view address.entry) doc.now }
+    ensures within { IfSome result (λ found. length found.2.ahead ≤ length doc.now) }
+{
+    let sought = candidates_of(address);
+    let mut walk = walk_below(doc, sought, passed_over(nth_of(address)));
+    let (position, line) = next_sought(&mut walk, sought)?;
+    Some((position, line, walk))
+}
+
+/// The line whose value an edit has changed, with where it stands; a new line has none.
+pub(crate) fn changed_line<'a, A: Allocator, B: Allocator>(
+    doc: &'a Doc<A>,
+    edit: &Edit<B>,
+) -> Option<(Position, &'a Line<A>, NumberedLines<'a, A>)>
+    ensures { spot_seen result ≡ changed_line (edit_of edit.now) doc.now }
+{
+    if let Edit::AddAssign { .. } = edit {
+        return None;
+    }
+    let address = address_of(edit)?;
+    line_of(doc, address)
+}
+
+// ---- the lines below it
+
+// Whether a new assignment stands below the line of its address.
+fn stands_below<A: Allocator>(edit: &Edit<A>) -> bool
+    ensures { result ≡ stands_below (edit_of edit.now) }
+{
+    match edit {
+        Edit::AddAssign { place, .. } => matches!(place, Place::AfterVar { .. }),
+        _ => false,
+    }
+}
+
+// The lines below the line of an address, or below the one that follows it.
+fn below_address<'a, A: Allocator>(
+    doc: &'a Doc<A>,
+    is_next: bool,
+    address: Address<'_>,
+) -> Option<NumberedLines<'a, A>>
+    ensures value { result ≡ below_address is_next (address_view address.entry) doc.now }
+    ensures within { IfSome result (λ walk. length walk.ahead ≤ length doc.now) }
+{
+    let (_, _, mut walk) = line_of(doc, address)?;
+    if is_next {
+        let _new = walk.next();
+    }
+    Some(walk)
+}
+
+/// The lines below the assignment that an edit has changed or put in; none where it is the last line.
+pub(crate) fn below_edit<'a, A: Allocator, B: Allocator>(
+    doc: &'a Doc<A>,
+    edit: &Edit<B>,
+) -> Option<NumberedLines<'a, A>>
+    ensures value { result ≡ below_edit (edit_of edit.now) doc.now }
+    ensures within { IfSome result (λ walk. length walk.ahead ≤ length doc.now) }
+{
+    let address = address_of(edit)?;
+    below_address(doc, stands_below(edit), address)
+}
