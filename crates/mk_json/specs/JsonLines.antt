@@ -1,12 +1,13 @@
 -- Lines of JSON on the lines of a document: an object on each line of which a query says something.
 -- Told in docs/LIBRARY.md, "Lines of JSON".
-use Rattle.std.specs.Prelude.{ℕ, List, [], ◌∷◌, ◌++◌, Option, Some, None}
-use Rattle.mk_tree.specs.LocatedLines.{LocatedLine}
+use Rattle.std.specs.Prelude.{ℕ, ◌==◌, if◌then◌else◌, ◌&&◌, List, [], ◌∷◌, ◌++◌, Option, Some, None}
+use Rattle.mk_class.specs.Contexts.{Context, start}
+use Rattle.mk_tree.specs.LocatedLines.{LocatedLine, context_after_located_lines}
 use Rattle.mk_views.specs.Views.{conditional_of}
 use Rattle.mk_listing.specs.Listings.{Standing, standing, whole}
 use Rattle.mk_listing.specs.declared.position.Position.{Position}
 use Rattle.mk_json.specs.declared.conditional.OpenConditional.{OpenConditional}
-use Rattle.mk_json.specs.LineMembers.{place_members, variable_members}
+use Rattle.mk_json.specs.LineMembers.{end_members, place_members, unread_members, variable_members, wanted_rule_members}
 use Rattle.mk_json.specs.Members.{Member, object_line}
 use Rattle.mk_json.specs.OpenConditionals.{open_below}
 
@@ -28,3 +29,18 @@ module _ (file : List ℕ) (document : List LocatedLine) where
 -- `vars`: an object on each assignment, of one name if one is asked for
 abbrev pub vars_lines : (file : List ℕ) → (name : Option (List ℕ)) → List LocatedLine → List ℕ
 vars_lines f n ls = said_of f ls (λ s. variable_members n s.line) [] (standing (whole ls))
+
+-- `rules`: an object on the line of each rule, for one target if one is asked for
+abbrev pub rules_lines : (file : List ℕ) → (target : Option (List ℕ)) → List LocatedLine → List ℕ
+rules_lines f t ls = said_of f ls (λ s. wanted_rule_members t s.line) [] (standing (whole ls))
+
+-- the line of JSON on what is open at the end of a document; there is none if nothing is
+abbrev pub end_said : (file : List ℕ) → Context → List ℕ
+end_said f c =
+    if (c.conditionals == 0) && (c.defines == 0) then [] else object_line (end_members f c)
+
+-- `check`: an object on each line that is not read inside, and one on what is open at the end
+abbrev pub check_lines : (file : List ℕ) → List LocatedLine → List ℕ
+check_lines f ls =
+    said_of f ls (λ s. unread_members s.line) [] (standing (whole ls))
+    ++ end_said f (context_after_located_lines start ls)

@@ -1,6 +1,8 @@
 //! What a makefile has, as lines of JSON, for programs.
 //!
 //! - [`vars`]: an object on each assignment, of one name if one is asked for.
+//! - [`rules`]: an object on the line of each rule, for one target if one is asked for.
+//! - [`check`]: an object on each line that is not read inside, and on what is open at the end.
 //!
 //! Each line of text is an object (JSON Lines). It says in which file and where the line of the
 //! makefile stands, in which branches of which conditionals, and what its parts are. Objects and
@@ -26,4 +28,6 @@ mod place;
 mod query;
 mod value;
 
+pub use query::check::check;
+pub use query::rules::rules;
 pub use query::vars::vars;

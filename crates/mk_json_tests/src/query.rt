@@ -1,5 +1,7 @@
 //! The queries by name.
-use mk_json::vars;
+ghost use Rattle.mk_tree.specs.Documents.{IsFaithful};
+
+use mk_json::{check, rules, vars};
 use mk_tree::Doc;
 use std::alloc::{AllocError, Allocator};
 
@@ -7,6 +9,8 @@ use std::alloc::{AllocError, Allocator};
 #[derive(Clone, Copy)]
 pub enum Query {
     Vars,
+    Rules,
+    Check,
 }
 
 impl Query {
@@ -17,9 +21,13 @@ impl Query {
         file: &[u8],
         doc: &Doc<A>,
         word: Option<&[u8]>,
-    ) -> Result<Vec<u8, B>, AllocError> {
+    ) -> Result<Vec<u8, B>, AllocError>
+        requires { IsFaithful doc.now }
+    {
         match self {
             Query::Vars => vars(alloc, file, doc, word),
+            Query::Rules => rules(alloc, file, doc, word),
+            Query::Check => check(alloc, file, doc),
         }
     }
 }

@@ -10,7 +10,7 @@ pub struct Row {
     pub text: &'static [u8],
 }
 
-pub static ROWS: [Row; 18] = [
+pub static ROWS: [Row; 33] = [
     // an empty makefile
     Row {
         query: Query::Vars,
@@ -154,5 +154,125 @@ pub static ROWS: [Row; 18] = [
         file: b"a",
         makefile: b"ifdef X\r\nA = 1\r\nendif\r\n",
         text: b"{\"file\":\"a\",\"line\":2,\"depth\":1,\"conditions\":[{\"branch\":{\"line\":1,\"text\":\"ifdef X\"},\"first\":{\"line\":1,\"text\":\"ifdef X\"}}],\"modifiers\":[],\"name\":\"A\",\"operator\":\"=\",\"value\":\"1\"}\n",
+    },
+    // rules of an empty makefile
+    Row {
+        query: Query::Rules,
+        word: None,
+        file: b"Makefile",
+        makefile: b"",
+        text: b"",
+    },
+    // the parts of a rule
+    Row {
+        query: Query::Rules,
+        word: None,
+        file: b"a",
+        makefile: b"all main: a.o b.o | out dir # all\nclean::\nx y &: z\n",
+        text: b"{\"file\":\"a\",\"line\":1,\"depth\":0,\"conditions\":[],\"targets\":[\"all\",\"main\"],\"separator\":\":\",\"prerequisites\":[\"a.o\",\"b.o\"],\"order_only\":[\"out\",\"dir\"]}\n{\"file\":\"a\",\"line\":2,\"depth\":0,\"conditions\":[],\"targets\":[\"clean\"],\"separator\":\"::\",\"prerequisites\":[],\"order_only\":[]}\n{\"file\":\"a\",\"line\":3,\"depth\":0,\"conditions\":[],\"targets\":[\"x\",\"y\"],\"separator\":\"&:\",\"prerequisites\":[\"z\"],\"order_only\":[]}\n",
+    },
+    // a pattern
+    Row {
+        query: Query::Rules,
+        word: None,
+        file: b"a",
+        makefile: b"a.o b.o: %.o: %.c | out\n\tcc\n%.x: %.y\n",
+        text: b"{\"file\":\"a\",\"line\":1,\"depth\":0,\"conditions\":[],\"targets\":[\"a.o\",\"b.o\"],\"separator\":\":\",\"pattern\":\"%.o\",\"prerequisites\":[\"%.c\"],\"order_only\":[\"out\"]}\n{\"file\":\"a\",\"line\":3,\"depth\":0,\"conditions\":[],\"targets\":[\"%.x\"],\"separator\":\":\",\"prerequisites\":[\"%.y\"],\"order_only\":[]}\n",
+    },
+    // a recipe on the line
+    Row {
+        query: Query::Rules,
+        word: None,
+        file: b"a",
+        makefile: b"a: b ; echo 'x'\nc: ;\nd:;e\n",
+        text: b"{\"file\":\"a\",\"line\":1,\"depth\":0,\"conditions\":[],\"targets\":[\"a\"],\"separator\":\":\",\"prerequisites\":[\"b\"],\"order_only\":[],\"inline_recipe\":\" echo 'x'\"}\n{\"file\":\"a\",\"line\":2,\"depth\":0,\"conditions\":[],\"targets\":[\"c\"],\"separator\":\":\",\"prerequisites\":[],\"order_only\":[],\"inline_recipe\":\"\"}\n{\"file\":\"a\",\"line\":3,\"depth\":0,\"conditions\":[],\"targets\":[\"d\"],\"separator\":\":\",\"prerequisites\":[],\"order_only\":[],\"inline_recipe\":\"e\"}\n",
+    },
+    // what is no line of a rule
+    Row {
+        query: Query::Rules,
+        word: None,
+        file: b"a",
+        makefile: b"A = a: b\nx: A = 1\n\tb: c\nfoo: a\\ b\n# a: b\n",
+        text: b"",
+    },
+    // rules in branches
+    Row {
+        query: Query::Rules,
+        word: None,
+        file: b"a",
+        makefile: b"ifdef X\na: b\nelse ifdef Y\na: c\nendif\na: d \\\n e\n",
+        text: b"{\"file\":\"a\",\"line\":2,\"depth\":1,\"conditions\":[{\"branch\":{\"line\":1,\"text\":\"ifdef X\"},\"first\":{\"line\":1,\"text\":\"ifdef X\"}}],\"targets\":[\"a\"],\"separator\":\":\",\"prerequisites\":[\"b\"],\"order_only\":[]}\n{\"file\":\"a\",\"line\":4,\"depth\":1,\"conditions\":[{\"branch\":{\"line\":3,\"text\":\"else ifdef Y\"},\"first\":{\"line\":1,\"text\":\"ifdef X\"}}],\"targets\":[\"a\"],\"separator\":\":\",\"prerequisites\":[\"c\"],\"order_only\":[]}\n{\"file\":\"a\",\"line\":6,\"depth\":0,\"conditions\":[],\"targets\":[\"a\"],\"separator\":\":\",\"prerequisites\":[\"d\",\"e\"],\"order_only\":[]}\n",
+    },
+    // rules for one target
+    Row {
+        query: Query::Rules,
+        word: Some(b"b"),
+        file: b"a",
+        makefile: b"a: b\na b: c\nb:: d\nbb: e\nc: d | b\n",
+        text: b"{\"file\":\"a\",\"line\":2,\"depth\":0,\"conditions\":[],\"targets\":[\"a\",\"b\"],\"separator\":\":\",\"prerequisites\":[\"c\"],\"order_only\":[]}\n{\"file\":\"a\",\"line\":3,\"depth\":0,\"conditions\":[],\"targets\":[\"b\"],\"separator\":\"::\",\"prerequisites\":[\"d\"],\"order_only\":[]}\n",
+    },
+    // rules for a target with a reference
+    Row {
+        query: Query::Rules,
+        word: Some(b"$(a b)"),
+        file: b"a",
+        makefile: b"a: b\n$(a b) c: d\n",
+        text: b"{\"file\":\"a\",\"line\":2,\"depth\":0,\"conditions\":[],\"targets\":[\"$(a b)\",\"c\"],\"separator\":\":\",\"prerequisites\":[\"d\"],\"order_only\":[]}\n",
+    },
+    // a target that no rule has
+    Row {
+        query: Query::Rules,
+        word: Some(b"z"),
+        file: b"a",
+        makefile: b"a: z\nz = 1\n",
+        text: b"",
+    },
+    // targets that are not utf 8
+    Row {
+        query: Query::Rules,
+        word: None,
+        file: b"a",
+        makefile: b"\xe9 b: \xff | \xc3\xa9 ; \xfe\n",
+        text: b"{\"file\":\"a\",\"line\":1,\"depth\":0,\"conditions\":[],\"targets\":[{\"base64\":\"6Q==\"},\"b\"],\"separator\":\":\",\"prerequisites\":[{\"base64\":\"/w==\"}],\"order_only\":[\"\xc3\xa9\"],\"inline_recipe\":{\"base64\":\"IP4=\"}}\n",
+    },
+    // nothing to check
+    Row {
+        query: Query::Check,
+        word: None,
+        file: b"a",
+        makefile: b"all: main\n\tcc\nA = 1\ninclude b\n",
+        text: b"",
+    },
+    // lines that are not read
+    Row {
+        query: Query::Check,
+        word: None,
+        file: b"a",
+        makefile: b"foo: a\\ b\n$(eval $(call t,x))\nifdef A\n$(x)\nelse\nb: c\\ d\nendif\n",
+        text: b"{\"file\":\"a\",\"line\":1,\"depth\":0,\"conditions\":[],\"kind\":\"rough\"}\n{\"file\":\"a\",\"line\":2,\"depth\":0,\"conditions\":[],\"kind\":\"opaque\"}\n{\"file\":\"a\",\"line\":4,\"depth\":1,\"conditions\":[{\"branch\":{\"line\":3,\"text\":\"ifdef A\"},\"first\":{\"line\":3,\"text\":\"ifdef A\"}}],\"kind\":\"opaque\"}\n{\"file\":\"a\",\"line\":6,\"depth\":1,\"conditions\":[{\"branch\":{\"line\":5,\"text\":\"else\"},\"first\":{\"line\":3,\"text\":\"ifdef A\"}}],\"kind\":\"rough\"}\n",
+    },
+    // an open conditional
+    Row {
+        query: Query::Check,
+        word: None,
+        file: b"a",
+        makefile: b"ifdef A\nifndef B\nelse\n$(x)\n",
+        text: b"{\"file\":\"a\",\"line\":4,\"depth\":2,\"conditions\":[{\"branch\":{\"line\":1,\"text\":\"ifdef A\"},\"first\":{\"line\":1,\"text\":\"ifdef A\"}},{\"branch\":{\"line\":3,\"text\":\"else\"},\"first\":{\"line\":2,\"text\":\"ifndef B\"}}],\"kind\":\"opaque\"}\n{\"file\":\"a\",\"kind\":\"end\",\"conditionals\":2,\"defines\":0}\n",
+    },
+    // an open define
+    Row {
+        query: Query::Check,
+        word: None,
+        file: b"\xff",
+        makefile: b"define D\n",
+        text: b"{\"file\":{\"base64\":\"/w==\"},\"kind\":\"end\",\"conditionals\":0,\"defines\":1}\n",
+    },
+    // open conditionals and open defines
+    Row {
+        query: Query::Check,
+        word: None,
+        file: b"a",
+        makefile: b"ifdef A\nA = 1\ndefine D\ndefine E\n",
+        text: b"{\"file\":\"a\",\"kind\":\"end\",\"conditionals\":1,\"defines\":2}\n",
     },
 ];
