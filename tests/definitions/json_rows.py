@@ -47,7 +47,7 @@ def print_equations(table):
     print("use Rattle.std.proofs.Common.{◌≡◌, refl, []}")
     print("use Rattle.std.specs.Prelude.{Some, None, codes}")
     print("use Rattle.mk_tree.specs.Documents.{document_lines}")
-    print("use Rattle.mk_json.specs.JsonLines.{check_lines, rules_lines, vars_lines}")
+    print("use Rattle.mk_json.specs.JsonLines.{check_lines, recipes_lines, rules_lines, vars_lines}")
     print("use Rattle.mk_json.proofs.OnLiterals.{lines_on_literals}")
     for name, query, word, file, makefile, text in rows(table):
         row = "row_" + name.replace("-", "_")

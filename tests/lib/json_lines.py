@@ -77,6 +77,20 @@ def rules_objects(file, text, only=None):
         yield {**place, **parts}
 
 
+def recipes_objects(file, text, only=None):
+    """The objects on the recipe lines of rules, or of those for one target."""
+    targets, number, is_in_rule = (), 0, False
+    for line, place in standing(file, text):
+        if line.kind in ("Header", "Rough"):
+            targets, number, is_in_rule = line.parts[0], 0, is_rule(line, only)
+            continue
+        is_in_rule = is_in_rule and line.context.flag == "Rule"
+        if is_in_rule and line.kind == "Recipe":
+            number += 1
+            command = joined(line.raw)[0][1:]
+            yield {**place, "targets": texts_value(targets), "number": number, "text": text_value(command)}
+
+
 def check_objects(file, text):
     """The objects on lines that are not read inside, and one on what is open at the end."""
     for line, place in standing(file, text):
@@ -88,7 +102,7 @@ def check_objects(file, text):
         yield {"file": text_value(file), "kind": "end", **counts}
 
 
-OBJECTS = {"vars": vars_objects, "rules": rules_objects, "check": check_objects}
+OBJECTS = {"vars": vars_objects, "rules": rules_objects, "recipes": recipes_objects, "check": check_objects}
 
 
 def lines_of(objects):

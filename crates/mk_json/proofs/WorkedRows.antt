@@ -2,7 +2,7 @@
 use Rattle.std.proofs.Common.{◌≡◌, refl, []}
 use Rattle.std.specs.Prelude.{Some, None, codes}
 use Rattle.mk_tree.specs.Documents.{document_lines}
-use Rattle.mk_json.specs.JsonLines.{check_lines, rules_lines, vars_lines}
+use Rattle.mk_json.specs.JsonLines.{check_lines, recipes_lines, rules_lines, vars_lines}
 use Rattle.mk_json.proofs.OnLiterals.{lines_on_literals}
 
 row_an_empty_makefile : vars_lines (codes "Makefile") None (document_lines []) ≡ []
@@ -136,3 +136,27 @@ row_an_open_define = refl
 row_open_conditionals_and_open_defines : check_lines (codes "a") (document_lines (codes "ifdef A\nA = 1\ndefine D\ndefine E\n")) ≡ (codes "{\"file\":\"a\",\"kind\":\"end\",\"conditionals\":1,\"defines\":2}\n")
 unfolding lines_on_literals
 row_open_conditionals_and_open_defines = refl
+
+row_recipe_lines_of_an_empty_makefile : recipes_lines (codes "Makefile") None (document_lines []) ≡ []
+unfolding lines_on_literals
+row_recipe_lines_of_an_empty_makefile = refl
+
+row_recipe_lines_of_rules : recipes_lines (codes "a") None (document_lines (codes "a b: c ; x\n\ty\n# c\n\n\t@z \\\n\tw # v\nd:\n\t\n")) ≡ (codes "{\"file\":\"a\",\"line\":2,\"depth\":0,\"conditions\":[],\"targets\":[\"a\",\"b\"],\"number\":1,\"text\":\"y\"}\n{\"file\":\"a\",\"line\":5,\"depth\":0,\"conditions\":[],\"targets\":[\"a\",\"b\"],\"number\":2,\"text\":\"@z w # v\"}\n{\"file\":\"a\",\"line\":8,\"depth\":0,\"conditions\":[],\"targets\":[\"d\"],\"number\":1,\"text\":\"\"}\n")
+unfolding lines_on_literals
+row_recipe_lines_of_rules = refl
+
+row_recipe_lines_in_branches : recipes_lines (codes "a") None (document_lines (codes "a:\n\tb\nifdef X\n\tc\nelse\n\td\nendif\n\te\n")) ≡ (codes "{\"file\":\"a\",\"line\":2,\"depth\":0,\"conditions\":[],\"targets\":[\"a\"],\"number\":1,\"text\":\"b\"}\n{\"file\":\"a\",\"line\":4,\"depth\":1,\"conditions\":[{\"branch\":{\"line\":3,\"text\":\"ifdef X\"},\"first\":{\"line\":3,\"text\":\"ifdef X\"}}],\"targets\":[\"a\"],\"number\":2,\"text\":\"c\"}\n{\"file\":\"a\",\"line\":6,\"depth\":1,\"conditions\":[{\"branch\":{\"line\":5,\"text\":\"else\"},\"first\":{\"line\":3,\"text\":\"ifdef X\"}}],\"targets\":[\"a\"],\"number\":3,\"text\":\"d\"}\n{\"file\":\"a\",\"line\":8,\"depth\":0,\"conditions\":[],\"targets\":[\"a\"],\"number\":4,\"text\":\"e\"}\n")
+unfolding lines_on_literals
+row_recipe_lines_in_branches = refl
+
+row_recipe_lines_of_no_rule : recipes_lines (codes "a") None (document_lines (codes "a: b\n\tc\nD = 1\n\te\nf: g\\ h\n\ti\n")) ≡ (codes "{\"file\":\"a\",\"line\":2,\"depth\":0,\"conditions\":[],\"targets\":[\"a\"],\"number\":1,\"text\":\"c\"}\n")
+unfolding lines_on_literals
+row_recipe_lines_of_no_rule = refl
+
+row_recipe_lines_for_one_target : recipes_lines (codes "a") (Some (codes "b")) (document_lines (codes "a:\n\t1\na b: c\n\t2\n\t3\nb::\n\t4\nifdef X\nb: d\n\t5\nendif\n")) ≡ (codes "{\"file\":\"a\",\"line\":4,\"depth\":0,\"conditions\":[],\"targets\":[\"a\",\"b\"],\"number\":1,\"text\":\"2\"}\n{\"file\":\"a\",\"line\":5,\"depth\":0,\"conditions\":[],\"targets\":[\"a\",\"b\"],\"number\":2,\"text\":\"3\"}\n{\"file\":\"a\",\"line\":7,\"depth\":0,\"conditions\":[],\"targets\":[\"b\"],\"number\":1,\"text\":\"4\"}\n{\"file\":\"a\",\"line\":10,\"depth\":1,\"conditions\":[{\"branch\":{\"line\":8,\"text\":\"ifdef X\"},\"first\":{\"line\":8,\"text\":\"ifdef X\"}}],\"targets\":[\"b\"],\"number\":1,\"text\":\"5\"}\n")
+unfolding lines_on_literals
+row_recipe_lines_for_one_target = refl
+
+row_a_recipe_line_that_is_not_utf_8 : recipes_lines (codes "a") None (document_lines (codes "ÿ:\n\techo é\n")) ≡ (codes "{\"file\":\"a\",\"line\":2,\"depth\":0,\"conditions\":[],\"targets\":[{\"base64\":\"/w==\"}],\"number\":1,\"text\":{\"base64\":\"ZWNobyDp\"}}\n")
+unfolding lines_on_literals
+row_a_recipe_line_that_is_not_utf_8 = refl

@@ -9,7 +9,7 @@ use Rattle.mk_class.specs.declared.class.Class.TheVariants as classes
 use Rattle.mk_class.specs.declared.rule.Separator.{Separator}
 use Rattle.mk_tree.specs.LocatedLines.{LocatedLine, text_of_line}
 use Rattle.mk_views.specs.Views.{AssignmentView, RuleView, TargetAssignmentView, assignment_of, rule_of, target_assignment_of}
-use Rattle.mk_listing.specs.Listings.{is_for, is_of}
+use Rattle.mk_listing.specs.Listings.{RecipeSpot, is_for, is_of}
 use Rattle.mk_listing.specs.declared.position.Position.{Position}
 use Rattle.mk_json.specs.declared.conditional.OpenConditional.{OpenConditional}
 use Rattle.mk_json.specs.JsonValues.{number_value, text_value, texts_value}
@@ -129,3 +129,9 @@ rule_in t (Some r) = if is_for t r then Some (rule_members r) else None
 
 abbrev pub wanted_rule_members : (target : Option (List ℕ)) → LocatedLine → Option (List Member)
 wanted_rule_members t l = rule_in t (rule_of l)
+
+-- a recipe line of a rule with these targets: its number, and its text after the prefix
+abbrev pub recipe_members : (targets : List (List ℕ)) → RecipeSpot → List Member
+recipe_members ts r =
+    (codes "targets", texts_value ts) ∷ (codes "number", number_value r.number)
+    ∷ (codes "text", text_value r.text) ∷ []

@@ -1,14 +1,16 @@
 //! The parts of lines, as members of their objects.
 ghost use Rattle.std.specs.Prelude.{◌≡◌};
-ghost use Rattle.mk_json.specs.LineMembers.{assignment_members, kind_members, prerequisite_members, rule_members, target_assignment_members, target_members};
+ghost use Rattle.mk_listing.specs.Items.{recipe_spot};
+ghost use Rattle.mk_json.specs.LineMembers.{assignment_members, kind_members, prerequisite_members, recipe_members, rule_members, target_assignment_members, target_members};
 ghost use Rattle.mk_json.specs.PartMembers.{kind_text, part_members};
 ghost use Rattle.mk_json.specs.Writing.{PutsTokens, tokens_of};
 
 use crate::member::{
-    put_optional_text_member, put_string_member, put_text_member, put_texts_member,
+    put_number_member, put_optional_text_member, put_string_member, put_text_member, put_texts_member,
 };
 use json::Writer;
 use mk_class::Separator;
+use mk_listing::RecipeLine;
 use mk_views::{AssignmentRef, RuleRef, TargetAssignmentRef, WordTexts};
 use std::alloc::{AllocError, Allocator};
 
@@ -21,8 +23,19 @@ pub(crate) enum Parts<'a> {
     TargetAssignment(TargetAssignmentRef<'a>),
     /// Those of the line of a rule.
     Rule(RuleRef<'a>),
+    /// Those of a recipe line of a rule.
+    Recipe(RecipeParts<'a>),
     /// That the line is kept and not read inside.
     Unread(Unread),
+}
+
+/// The parts of a recipe line.
+#[derive(Debug, Drop)]
+pub(crate) struct RecipeParts<'a> {
+    /// The rule in which it stands.
+    pub(crate) rule: &'a RuleRef<'a>,
+    /// The line.
+    pub(crate) line: RecipeLine<'a>,
 }
 
 /// Which line that is not read inside a line is.
@@ -62,6 +75,7 @@ pub(crate) fn put_parts<A: Allocator + Copy>(
         Parts::Assignment(assignment) => put_assignment(writer, alloc, assignment),
         Parts::TargetAssignment(assignment) => put_target_assignment(writer, alloc, assignment),
         Parts::Rule(rule) => put_rule(writer, alloc, rule),
+        Parts::Recipe(recipe) => put_recipe(writer, alloc, recipe),
         Parts::Unread(unread) => put_unread(writer, *unread),
     }
 }
@@ -106,6 +120,20 @@ fn put_rule<A: Allocator + Copy>(
     put_optional_text_member(writer, alloc, "pattern", rule.pattern())?;
     put_prerequisites(writer, alloc, rule.prereqs(), rule.order_only())?;
     put_optional_text_member(writer, alloc, "inline_recipe", rule.inline_recipe())
+}
+
+// Puts the parts of a recipe line: the targets of its rule, its number and its text.
+fn put_recipe<A: Allocator + Copy>(
+    writer: &mut Writer<A>,
+    alloc: A,
+    recipe: &RecipeParts<'_>,
+) -> Result<(), AllocError>
+    ensures { PutsTokens result writer.old writer.new
+        (tokens_of (recipe_members recipe.now.rule.now.targets (recipe_spot recipe.now.line))) }
+{
+    put_texts_member(writer, alloc, "targets", recipe.rule.targets())?;
+    put_number_member(writer, "number", recipe.line.number as usize)?;
+    put_text_member(writer, alloc, "text", recipe.line.text)
 }
 
 // Puts that a line is not read inside.

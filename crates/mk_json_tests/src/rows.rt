@@ -10,7 +10,7 @@ pub struct Row {
     pub text: &'static [u8],
 }
 
-pub static ROWS: [Row; 33] = [
+pub static ROWS: [Row; 39] = [
     // an empty makefile
     Row {
         query: Query::Vars,
@@ -274,5 +274,53 @@ pub static ROWS: [Row; 33] = [
         file: b"a",
         makefile: b"ifdef A\nA = 1\ndefine D\ndefine E\n",
         text: b"{\"file\":\"a\",\"kind\":\"end\",\"conditionals\":1,\"defines\":2}\n",
+    },
+    // recipe lines of an empty makefile
+    Row {
+        query: Query::Recipes,
+        word: None,
+        file: b"Makefile",
+        makefile: b"",
+        text: b"",
+    },
+    // recipe lines of rules
+    Row {
+        query: Query::Recipes,
+        word: None,
+        file: b"a",
+        makefile: b"a b: c ; x\n\ty\n# c\n\n\t@z \\\n\tw # v\nd:\n\t\n",
+        text: b"{\"file\":\"a\",\"line\":2,\"depth\":0,\"conditions\":[],\"targets\":[\"a\",\"b\"],\"number\":1,\"text\":\"y\"}\n{\"file\":\"a\",\"line\":5,\"depth\":0,\"conditions\":[],\"targets\":[\"a\",\"b\"],\"number\":2,\"text\":\"@z w # v\"}\n{\"file\":\"a\",\"line\":8,\"depth\":0,\"conditions\":[],\"targets\":[\"d\"],\"number\":1,\"text\":\"\"}\n",
+    },
+    // recipe lines in branches
+    Row {
+        query: Query::Recipes,
+        word: None,
+        file: b"a",
+        makefile: b"a:\n\tb\nifdef X\n\tc\nelse\n\td\nendif\n\te\n",
+        text: b"{\"file\":\"a\",\"line\":2,\"depth\":0,\"conditions\":[],\"targets\":[\"a\"],\"number\":1,\"text\":\"b\"}\n{\"file\":\"a\",\"line\":4,\"depth\":1,\"conditions\":[{\"branch\":{\"line\":3,\"text\":\"ifdef X\"},\"first\":{\"line\":3,\"text\":\"ifdef X\"}}],\"targets\":[\"a\"],\"number\":2,\"text\":\"c\"}\n{\"file\":\"a\",\"line\":6,\"depth\":1,\"conditions\":[{\"branch\":{\"line\":5,\"text\":\"else\"},\"first\":{\"line\":3,\"text\":\"ifdef X\"}}],\"targets\":[\"a\"],\"number\":3,\"text\":\"d\"}\n{\"file\":\"a\",\"line\":8,\"depth\":0,\"conditions\":[],\"targets\":[\"a\"],\"number\":4,\"text\":\"e\"}\n",
+    },
+    // recipe lines of no rule
+    Row {
+        query: Query::Recipes,
+        word: None,
+        file: b"a",
+        makefile: b"a: b\n\tc\nD = 1\n\te\nf: g\\ h\n\ti\n",
+        text: b"{\"file\":\"a\",\"line\":2,\"depth\":0,\"conditions\":[],\"targets\":[\"a\"],\"number\":1,\"text\":\"c\"}\n",
+    },
+    // recipe lines for one target
+    Row {
+        query: Query::Recipes,
+        word: Some(b"b"),
+        file: b"a",
+        makefile: b"a:\n\t1\na b: c\n\t2\n\t3\nb::\n\t4\nifdef X\nb: d\n\t5\nendif\n",
+        text: b"{\"file\":\"a\",\"line\":4,\"depth\":0,\"conditions\":[],\"targets\":[\"a\",\"b\"],\"number\":1,\"text\":\"2\"}\n{\"file\":\"a\",\"line\":5,\"depth\":0,\"conditions\":[],\"targets\":[\"a\",\"b\"],\"number\":2,\"text\":\"3\"}\n{\"file\":\"a\",\"line\":7,\"depth\":0,\"conditions\":[],\"targets\":[\"b\"],\"number\":1,\"text\":\"4\"}\n{\"file\":\"a\",\"line\":10,\"depth\":1,\"conditions\":[{\"branch\":{\"line\":8,\"text\":\"ifdef X\"},\"first\":{\"line\":8,\"text\":\"ifdef X\"}}],\"targets\":[\"b\"],\"number\":1,\"text\":\"5\"}\n",
+    },
+    // a recipe line that is not utf 8
+    Row {
+        query: Query::Recipes,
+        word: None,
+        file: b"a",
+        makefile: b"\xff:\n\techo \xe9\n",
+        text: b"{\"file\":\"a\",\"line\":2,\"depth\":0,\"conditions\":[],\"targets\":[{\"base64\":\"/w==\"}],\"number\":1,\"text\":{\"base64\":\"ZWNobyDp\"}}\n",
     },
 ];
