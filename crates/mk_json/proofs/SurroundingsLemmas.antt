@@ -25,8 +25,8 @@ pub follows-on : (ls above ahead further left : List LocatedLine) (l : LocatedLi
     → (p ≡ position_below above) × (ahead ≡ l ∷ left) × (further ≡ above ++ l ∷ [])
     → k ≡ conditional_of l → below ≡ open_below os p k
     → (further ++ left ≡ ls) × (n + 1 ≡ length further) × (below ≡ open_under further)
-follows-on ls above ahead further left l p n os below k follows given seen passed =
-    ( ap (λ z. z ++ left) given.2 ∙ (append_assoc above (l ∷ []) left ∙ (ap (λ z. above ++ z) (sym given.1) ∙ follows.0))
-    , ap (λ z. z + 1) follows.1 ∙ (sym (length-append above (l ∷ [])) ∙ ap length (sym given.2))
-    , passed ∙ (ap (λ z. open_below z p k) follows.2 ∙ (ap (λ z. open_below (open_under above) z k) given.0 ∙ (ap (λ z. open_below (open_under above) (position_below above) z) seen ∙ (sym (open_under-more above l) ∙ ap open_under (sym given.2)))))
-    )
+follows-on ls above ahead further left l p n os below k follows given seen passed = (
+  ap (λ z. z ++ left) given.2 ∙ (append_assoc above (l ∷ []) left ∙ (ap (λ z. above ++ z) (sym given.1) ∙ follows.0)),
+  ap (λ z. z + 1) follows.1 ∙ (sym (length-append above (l ∷ [])) ∙ ap length (sym given.2)),
+  passed ∙ (ap (λ z. open_below z p k) follows.2 ∙ (ap (λ z. open_below (open_under above) z k) given.0 ∙ (ap (λ z. open_below (open_under above) (position_below above) z) seen ∙ (sym (open_under-more above l) ∙ ap open_under (sym given.2))))),
+)

@@ -6,7 +6,8 @@ ghost use Rattle.mk_json.specs.PartMembers.{kind_text, part_members};
 ghost use Rattle.mk_json.specs.Writing.{PutsTokens, tokens_of};
 
 use crate::member::{
-    put_number_member, put_optional_text_member, put_string_member, put_text_member, put_texts_member,
+    put_number_member, put_optional_text_member, put_string_member, put_text_member,
+    put_texts_member,
 };
 use json::Writer;
 use mk_class::Separator;
