@@ -35,17 +35,24 @@ def rows(table):
         yield row["name"], row["query"], word, file, makefile, json_text(row["query"], file, makefile, word)
 
 
+def drawn_word(query, word):
+    """The name or target that a query is asked for, as an argument; `check` has none."""
+    if query == "check":
+        return ""
+    return " None" if word is None else f" (Some {drawn_text(word)})"
+
+
 def print_equations(table):
     print(f"-- Lines of JSON. Made by `tests/definitions/json_rows.py tests/cases/{table.name}`.")
     print("use Rattle.std.proofs.Common.{◌≡◌, refl, []}")
     print("use Rattle.std.specs.Prelude.{Some, None, codes}")
     print("use Rattle.mk_tree.specs.Documents.{document_lines}")
-    print("use Rattle.mk_json.specs.JsonLines.{vars_lines}")
+    print("use Rattle.mk_json.specs.JsonLines.{check_lines, recipes_lines, rules_lines, vars_lines}")
     print("use Rattle.mk_json.proofs.OnLiterals.{lines_on_literals}")
     for name, query, word, file, makefile, text in rows(table):
         row = "row_" + name.replace("-", "_")
-        asked = "None" if word is None else f"(Some {drawn_text(word)})"
-        question = f"{query}_lines {drawn_text(file)} {asked} (document_lines {drawn_text(makefile)})"
+        asked = f"{drawn_text(file)}{drawn_word(query, word)} (document_lines {drawn_text(makefile)})"
+        question = f"{query}_lines {asked}"
         print(f"\n{row} : {question} ≡ {drawn_text(text)}\nunfolding lines_on_literals\n{row} = refl")
 
 

@@ -6,7 +6,7 @@ Told in docs/LIBRARY.md, "Lines of JSON". It shares no line with the program.
 import base64
 import json
 
-from .reading import joined, read
+from .reading import is_rule, joined, read
 
 
 def text_value(text):
@@ -61,7 +61,48 @@ def vars_objects(file, text, only=None):
         yield {**place, **parts}
 
 
-OBJECTS = {"vars": vars_objects}
+def rules_objects(file, text, only=None):
+    """The objects on the lines of rules, or on those for one target."""
+    for line, place in standing(file, text):
+        if not is_rule(line, only):
+            continue
+        targets, separator, pattern, normal, order, inline = line.parts
+        parts = target_members(targets, separator)
+        if pattern is not None:
+            parts["pattern"] = text_value(pattern)
+        parts["prerequisites"] = texts_value(normal)
+        parts["order_only"] = texts_value(order)
+        if inline is not None:
+            parts["inline_recipe"] = text_value(inline)
+        yield {**place, **parts}
+
+
+def recipes_objects(file, text, only=None):
+    """The objects on the recipe lines of rules, or of those for one target."""
+    targets, number, is_in_rule = (), 0, False
+    for line, place in standing(file, text):
+        if line.kind in ("Header", "Rough"):
+            targets, number, is_in_rule = line.parts[0], 0, is_rule(line, only)
+            continue
+        is_in_rule = is_in_rule and line.context.flag == "Rule"
+        if is_in_rule and line.kind == "Recipe":
+            number += 1
+            command = joined(line.raw)[0][1:]
+            yield {**place, "targets": texts_value(targets), "number": number, "text": text_value(command)}
+
+
+def check_objects(file, text):
+    """The objects on lines that are not read inside, and one on what is open at the end."""
+    for line, place in standing(file, text):
+        if line.kind in ("Rough", "Opaque"):
+            yield {**place, "kind": line.kind.lower()}
+    end = read(text)[1]
+    if end.conditionals or end.defines:
+        counts = {"conditionals": end.conditionals, "defines": end.defines}
+        yield {"file": text_value(file), "kind": "end", **counts}
+
+
+OBJECTS = {"vars": vars_objects, "rules": rules_objects, "recipes": recipes_objects, "check": check_objects}
 
 
 def lines_of(objects):

@@ -1,6 +1,7 @@
 -- Lemmas by subject
 mod ValueLemmas
 mod ConditionalLemmas
+mod SurroundingsLemmas
 mod WritingLemmas
 mod PartLemmas
 -- Definitions computed

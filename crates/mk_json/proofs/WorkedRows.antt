@@ -2,7 +2,7 @@
 use Rattle.std.proofs.Common.{◌≡◌, refl, []}
 use Rattle.std.specs.Prelude.{Some, None, codes}
 use Rattle.mk_tree.specs.Documents.{document_lines}
-use Rattle.mk_json.specs.JsonLines.{vars_lines}
+use Rattle.mk_json.specs.JsonLines.{check_lines, recipes_lines, rules_lines, vars_lines}
 use Rattle.mk_json.proofs.OnLiterals.{lines_on_literals}
 
 row_an_empty_makefile : vars_lines (codes "Makefile") None (document_lines []) ≡ []
@@ -76,3 +76,87 @@ row_texts_that_are_not_utf_8 = refl
 row_line_ends_of_two_bytes : vars_lines (codes "a") None (document_lines (codes "ifdef X\r\nA = 1\r\nendif\r\n")) ≡ (codes "{\"file\":\"a\",\"line\":2,\"depth\":1,\"conditions\":[{\"branch\":{\"line\":1,\"text\":\"ifdef X\"},\"first\":{\"line\":1,\"text\":\"ifdef X\"}}],\"modifiers\":[],\"name\":\"A\",\"operator\":\"=\",\"value\":\"1\"}\n")
 unfolding lines_on_literals
 row_line_ends_of_two_bytes = refl
+
+row_rules_of_an_empty_makefile : rules_lines (codes "Makefile") None (document_lines []) ≡ []
+unfolding lines_on_literals
+row_rules_of_an_empty_makefile = refl
+
+row_the_parts_of_a_rule : rules_lines (codes "a") None (document_lines (codes "all main: a.o b.o | out dir # all\nclean::\nx y &: z\n")) ≡ (codes "{\"file\":\"a\",\"line\":1,\"depth\":0,\"conditions\":[],\"targets\":[\"all\",\"main\"],\"separator\":\":\",\"prerequisites\":[\"a.o\",\"b.o\"],\"order_only\":[\"out\",\"dir\"]}\n{\"file\":\"a\",\"line\":2,\"depth\":0,\"conditions\":[],\"targets\":[\"clean\"],\"separator\":\"::\",\"prerequisites\":[],\"order_only\":[]}\n{\"file\":\"a\",\"line\":3,\"depth\":0,\"conditions\":[],\"targets\":[\"x\",\"y\"],\"separator\":\"&:\",\"prerequisites\":[\"z\"],\"order_only\":[]}\n")
+unfolding lines_on_literals
+row_the_parts_of_a_rule = refl
+
+row_a_pattern : rules_lines (codes "a") None (document_lines (codes "a.o b.o: %.o: %.c | out\n\tcc\n%.x: %.y\n")) ≡ (codes "{\"file\":\"a\",\"line\":1,\"depth\":0,\"conditions\":[],\"targets\":[\"a.o\",\"b.o\"],\"separator\":\":\",\"pattern\":\"%.o\",\"prerequisites\":[\"%.c\"],\"order_only\":[\"out\"]}\n{\"file\":\"a\",\"line\":3,\"depth\":0,\"conditions\":[],\"targets\":[\"%.x\"],\"separator\":\":\",\"prerequisites\":[\"%.y\"],\"order_only\":[]}\n")
+unfolding lines_on_literals
+row_a_pattern = refl
+
+row_a_recipe_on_the_line : rules_lines (codes "a") None (document_lines (codes "a: b ; echo 'x'\nc: ;\nd:;e\n")) ≡ (codes "{\"file\":\"a\",\"line\":1,\"depth\":0,\"conditions\":[],\"targets\":[\"a\"],\"separator\":\":\",\"prerequisites\":[\"b\"],\"order_only\":[],\"inline_recipe\":\" echo 'x'\"}\n{\"file\":\"a\",\"line\":2,\"depth\":0,\"conditions\":[],\"targets\":[\"c\"],\"separator\":\":\",\"prerequisites\":[],\"order_only\":[],\"inline_recipe\":\"\"}\n{\"file\":\"a\",\"line\":3,\"depth\":0,\"conditions\":[],\"targets\":[\"d\"],\"separator\":\":\",\"prerequisites\":[],\"order_only\":[],\"inline_recipe\":\"e\"}\n")
+unfolding lines_on_literals
+row_a_recipe_on_the_line = refl
+
+row_what_is_no_line_of_a_rule : rules_lines (codes "a") None (document_lines (codes "A = a: b\nx: A = 1\n\tb: c\nfoo: a\\ b\n# a: b\n")) ≡ []
+unfolding lines_on_literals
+row_what_is_no_line_of_a_rule = refl
+
+row_rules_in_branches : rules_lines (codes "a") None (document_lines (codes "ifdef X\na: b\nelse ifdef Y\na: c\nendif\na: d \\\n e\n")) ≡ (codes "{\"file\":\"a\",\"line\":2,\"depth\":1,\"conditions\":[{\"branch\":{\"line\":1,\"text\":\"ifdef X\"},\"first\":{\"line\":1,\"text\":\"ifdef X\"}}],\"targets\":[\"a\"],\"separator\":\":\",\"prerequisites\":[\"b\"],\"order_only\":[]}\n{\"file\":\"a\",\"line\":4,\"depth\":1,\"conditions\":[{\"branch\":{\"line\":3,\"text\":\"else ifdef Y\"},\"first\":{\"line\":1,\"text\":\"ifdef X\"}}],\"targets\":[\"a\"],\"separator\":\":\",\"prerequisites\":[\"c\"],\"order_only\":[]}\n{\"file\":\"a\",\"line\":6,\"depth\":0,\"conditions\":[],\"targets\":[\"a\"],\"separator\":\":\",\"prerequisites\":[\"d\",\"e\"],\"order_only\":[]}\n")
+unfolding lines_on_literals
+row_rules_in_branches = refl
+
+row_rules_for_one_target : rules_lines (codes "a") (Some (codes "b")) (document_lines (codes "a: b\na b: c\nb:: d\nbb: e\nc: d | b\n")) ≡ (codes "{\"file\":\"a\",\"line\":2,\"depth\":0,\"conditions\":[],\"targets\":[\"a\",\"b\"],\"separator\":\":\",\"prerequisites\":[\"c\"],\"order_only\":[]}\n{\"file\":\"a\",\"line\":3,\"depth\":0,\"conditions\":[],\"targets\":[\"b\"],\"separator\":\"::\",\"prerequisites\":[\"d\"],\"order_only\":[]}\n")
+unfolding lines_on_literals
+row_rules_for_one_target = refl
+
+row_rules_for_a_target_with_a_reference : rules_lines (codes "a") (Some (codes "$(a b)")) (document_lines (codes "a: b\n$(a b) c: d\n")) ≡ (codes "{\"file\":\"a\",\"line\":2,\"depth\":0,\"conditions\":[],\"targets\":[\"$(a b)\",\"c\"],\"separator\":\":\",\"prerequisites\":[\"d\"],\"order_only\":[]}\n")
+unfolding lines_on_literals
+row_rules_for_a_target_with_a_reference = refl
+
+row_a_target_that_no_rule_has : rules_lines (codes "a") (Some (codes "z")) (document_lines (codes "a: z\nz = 1\n")) ≡ []
+unfolding lines_on_literals
+row_a_target_that_no_rule_has = refl
+
+row_targets_that_are_not_utf_8 : rules_lines (codes "a") None (document_lines (codes "é b: ÿ | Ã© ; þ\n")) ≡ (codes "{\"file\":\"a\",\"line\":1,\"depth\":0,\"conditions\":[],\"targets\":[{\"base64\":\"6Q==\"},\"b\"],\"separator\":\":\",\"prerequisites\":[{\"base64\":\"/w==\"}],\"order_only\":[\"Ã©\"],\"inline_recipe\":{\"base64\":\"IP4=\"}}\n")
+unfolding lines_on_literals
+row_targets_that_are_not_utf_8 = refl
+
+row_nothing_to_check : check_lines (codes "a") (document_lines (codes "all: main\n\tcc\nA = 1\ninclude b\n")) ≡ []
+unfolding lines_on_literals
+row_nothing_to_check = refl
+
+row_lines_that_are_not_read : check_lines (codes "a") (document_lines (codes "foo: a\\ b\n$(eval $(call t,x))\nifdef A\n$(x)\nelse\nb: c\\ d\nendif\n")) ≡ (codes "{\"file\":\"a\",\"line\":1,\"depth\":0,\"conditions\":[],\"kind\":\"rough\"}\n{\"file\":\"a\",\"line\":2,\"depth\":0,\"conditions\":[],\"kind\":\"opaque\"}\n{\"file\":\"a\",\"line\":4,\"depth\":1,\"conditions\":[{\"branch\":{\"line\":3,\"text\":\"ifdef A\"},\"first\":{\"line\":3,\"text\":\"ifdef A\"}}],\"kind\":\"opaque\"}\n{\"file\":\"a\",\"line\":6,\"depth\":1,\"conditions\":[{\"branch\":{\"line\":5,\"text\":\"else\"},\"first\":{\"line\":3,\"text\":\"ifdef A\"}}],\"kind\":\"rough\"}\n")
+unfolding lines_on_literals
+row_lines_that_are_not_read = refl
+
+row_an_open_conditional : check_lines (codes "a") (document_lines (codes "ifdef A\nifndef B\nelse\n$(x)\n")) ≡ (codes "{\"file\":\"a\",\"line\":4,\"depth\":2,\"conditions\":[{\"branch\":{\"line\":1,\"text\":\"ifdef A\"},\"first\":{\"line\":1,\"text\":\"ifdef A\"}},{\"branch\":{\"line\":3,\"text\":\"else\"},\"first\":{\"line\":2,\"text\":\"ifndef B\"}}],\"kind\":\"opaque\"}\n{\"file\":\"a\",\"kind\":\"end\",\"conditionals\":2,\"defines\":0}\n")
+unfolding lines_on_literals
+row_an_open_conditional = refl
+
+row_an_open_define : check_lines (codes "ÿ") (document_lines (codes "define D\n")) ≡ (codes "{\"file\":{\"base64\":\"/w==\"},\"kind\":\"end\",\"conditionals\":0,\"defines\":1}\n")
+unfolding lines_on_literals
+row_an_open_define = refl
+
+row_open_conditionals_and_open_defines : check_lines (codes "a") (document_lines (codes "ifdef A\nA = 1\ndefine D\ndefine E\n")) ≡ (codes "{\"file\":\"a\",\"kind\":\"end\",\"conditionals\":1,\"defines\":2}\n")
+unfolding lines_on_literals
+row_open_conditionals_and_open_defines = refl
+
+row_recipe_lines_of_an_empty_makefile : recipes_lines (codes "Makefile") None (document_lines []) ≡ []
+unfolding lines_on_literals
+row_recipe_lines_of_an_empty_makefile = refl
+
+row_recipe_lines_of_rules : recipes_lines (codes "a") None (document_lines (codes "a b: c ; x\n\ty\n# c\n\n\t@z \\\n\tw # v\nd:\n\t\n")) ≡ (codes "{\"file\":\"a\",\"line\":2,\"depth\":0,\"conditions\":[],\"targets\":[\"a\",\"b\"],\"number\":1,\"text\":\"y\"}\n{\"file\":\"a\",\"line\":5,\"depth\":0,\"conditions\":[],\"targets\":[\"a\",\"b\"],\"number\":2,\"text\":\"@z w # v\"}\n{\"file\":\"a\",\"line\":8,\"depth\":0,\"conditions\":[],\"targets\":[\"d\"],\"number\":1,\"text\":\"\"}\n")
+unfolding lines_on_literals
+row_recipe_lines_of_rules = refl
+
+row_recipe_lines_in_branches : recipes_lines (codes "a") None (document_lines (codes "a:\n\tb\nifdef X\n\tc\nelse\n\td\nendif\n\te\n")) ≡ (codes "{\"file\":\"a\",\"line\":2,\"depth\":0,\"conditions\":[],\"targets\":[\"a\"],\"number\":1,\"text\":\"b\"}\n{\"file\":\"a\",\"line\":4,\"depth\":1,\"conditions\":[{\"branch\":{\"line\":3,\"text\":\"ifdef X\"},\"first\":{\"line\":3,\"text\":\"ifdef X\"}}],\"targets\":[\"a\"],\"number\":2,\"text\":\"c\"}\n{\"file\":\"a\",\"line\":6,\"depth\":1,\"conditions\":[{\"branch\":{\"line\":5,\"text\":\"else\"},\"first\":{\"line\":3,\"text\":\"ifdef X\"}}],\"targets\":[\"a\"],\"number\":3,\"text\":\"d\"}\n{\"file\":\"a\",\"line\":8,\"depth\":0,\"conditions\":[],\"targets\":[\"a\"],\"number\":4,\"text\":\"e\"}\n")
+unfolding lines_on_literals
+row_recipe_lines_in_branches = refl
+
+row_recipe_lines_of_no_rule : recipes_lines (codes "a") None (document_lines (codes "a: b\n\tc\nD = 1\n\te\nf: g\\ h\n\ti\n")) ≡ (codes "{\"file\":\"a\",\"line\":2,\"depth\":0,\"conditions\":[],\"targets\":[\"a\"],\"number\":1,\"text\":\"c\"}\n")
+unfolding lines_on_literals
+row_recipe_lines_of_no_rule = refl
+
+row_recipe_lines_for_one_target : recipes_lines (codes "a") (Some (codes "b")) (document_lines (codes "a:\n\t1\na b: c\n\t2\n\t3\nb::\n\t4\nifdef X\nb: d\n\t5\nendif\n")) ≡ (codes "{\"file\":\"a\",\"line\":4,\"depth\":0,\"conditions\":[],\"targets\":[\"a\",\"b\"],\"number\":1,\"text\":\"2\"}\n{\"file\":\"a\",\"line\":5,\"depth\":0,\"conditions\":[],\"targets\":[\"a\",\"b\"],\"number\":2,\"text\":\"3\"}\n{\"file\":\"a\",\"line\":7,\"depth\":0,\"conditions\":[],\"targets\":[\"b\"],\"number\":1,\"text\":\"4\"}\n{\"file\":\"a\",\"line\":10,\"depth\":1,\"conditions\":[{\"branch\":{\"line\":8,\"text\":\"ifdef X\"},\"first\":{\"line\":8,\"text\":\"ifdef X\"}}],\"targets\":[\"b\"],\"number\":1,\"text\":\"5\"}\n")
+unfolding lines_on_literals
+row_recipe_lines_for_one_target = refl
+
+row_a_recipe_line_that_is_not_utf_8 : recipes_lines (codes "a") None (document_lines (codes "ÿ:\n\techo é\n")) ≡ (codes "{\"file\":\"a\",\"line\":2,\"depth\":0,\"conditions\":[],\"targets\":[{\"base64\":\"/w==\"}],\"number\":1,\"text\":{\"base64\":\"ZWNobyDp\"}}\n")
+unfolding lines_on_literals
+row_a_recipe_line_that_is_not_utf_8 = refl

@@ -1,5 +1,5 @@
 -- Tokens that are put one after the other.
-use Rattle.std.proofs.Common.{◌≡◌, refl, ap, ◌∙◌, List, [], ◌∷◌, ◌++◌, append_assoc, sym, Result}
+use Rattle.std.proofs.Common.{◌≡◌, refl, ap, ◌∙◌, List, [], ◌∷◌, ◌++◌, append-nil, append_assoc, sym, subst, Result}
 use Rattle.std.proofs.lemmas.Result.{on_ok_weaker}
 use Rattle.json.specs.Json.{object}
 use Rattle.json.specs.Token.{Token, begin_object, end_object}
@@ -30,3 +30,16 @@ members-end (m ∷ ms) = ap (λ z. member_tokens m ++ z) (members-end ms) ∙ sy
 -- the tokens of an object with some members, and then others
 pub object-tokens : (a b : List Member) → json_tokens (object (members_of (a ++ b))) ≡ (begin_object ∷ []) ++ (tokens_of a ++ (tokens_of b ++ end_object ∷ []))
 object-tokens a b = ap (λ z. begin_object ∷ z) (members-end (a ++ b) ∙ (ap (λ z. z ++ end_object ∷ []) (tokens_of-append a b) ∙ append_assoc (tokens_of a) (tokens_of b) (end_object ∷ [])))
+
+-- the tokens of an object with some members
+pub members-object : (ms : List Member) → json_tokens (object (members_of ms)) ≡ (begin_object ∷ []) ++ (tokens_of ms ++ end_object ∷ [])
+members-object ms = ap (λ z. begin_object ∷ z) (members-end ms)
+
+-- some members, and then others
+pub puts-members : {E : Type 0} (result : Result Unit E) (old between new : Written) (a b : List Member) → (between.before ≡ old.before) × (between.tokens ≡ old.tokens ++ tokens_of a) → PutsTokens result between new (tokens_of b) → PutsTokens result old new (tokens_of (a ++ b))
+puts-members result old between new a b first next =
+    subst (PutsTokens result old new) (sym (tokens_of-append a b)) (puts-then result old between new (tokens_of a) (tokens_of b) first next)
+
+-- a member by itself
+pub member-alone : (m : Member) → member_tokens m ≡ tokens_of (m ∷ [])
+member-alone m = sym (append-nil (member_tokens m))

@@ -10,3 +10,5 @@ pub mod JsonLines
 -- Parts of lines, and JSON that is being written
 pub mod PartMembers
 pub mod Writing
+-- Conditionals round a line
+pub mod Surroundings

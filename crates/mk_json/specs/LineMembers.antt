@@ -2,11 +2,14 @@
 -- Told in docs/LIBRARY.md, "Lines of JSON".
 use Rattle.std.specs.Prelude.{ℕ, if◌then◌else◌, List, [], ◌∷◌, ◌++◌, slice_get, Option, Some, None, codes}
 use Rattle.json.specs.Json.{string, array, object, Items, no_items, item}
+use Rattle.mk_class.specs.Contexts.{Context}
 use Rattle.mk_class.specs.OperatorTexts.{operator_text, separator_text}
+use Rattle.mk_class.specs.declared.class.Class.{Class}
+use Rattle.mk_class.specs.declared.class.Class.TheVariants as classes
 use Rattle.mk_class.specs.declared.rule.Separator.{Separator}
 use Rattle.mk_tree.specs.LocatedLines.{LocatedLine, text_of_line}
-use Rattle.mk_views.specs.Views.{AssignmentView, TargetAssignmentView, assignment_of, target_assignment_of}
-use Rattle.mk_listing.specs.Listings.{is_of}
+use Rattle.mk_views.specs.Views.{AssignmentView, RuleView, TargetAssignmentView, assignment_of, rule_of, target_assignment_of}
+use Rattle.mk_listing.specs.Listings.{RecipeSpot, is_for, is_of}
 use Rattle.mk_listing.specs.declared.position.Position.{Position}
 use Rattle.mk_json.specs.declared.conditional.OpenConditional.{OpenConditional}
 use Rattle.mk_json.specs.JsonValues.{number_value, text_value, texts_value}
@@ -48,7 +51,30 @@ place_members f ls os p =
     ∷ (codes "depth", number_value p.conditionals)
     ∷ (codes "conditions", array (condition_items ls os)) ∷ []
 
+-- ---- the end of a document
+
+-- how many conditionals and defines are open at the end of a document of this file
+abbrev pub end_members : (file : List ℕ) → Context → List Member
+end_members f c =
+    (codes "file", text_value f) ∷ (codes "kind", string (codes "end"))
+    ∷ (codes "conditionals", number_value c.conditionals)
+    ∷ (codes "defines", number_value c.defines) ∷ []
+
 -- ---- the parts of a line
+
+-- the kind of a line
+abbrev pub kind_members : (kind : List ℕ) → List Member
+kind_members k = (codes "kind", string k) ∷ []
+
+-- the kind of a line that is kept and not read inside: it is the line of a rule, or any other
+abbrev unread_in : Class → Option (List Member)
+unread_in classes.Rough = Some (kind_members (codes "rough"))
+unread_in classes.Opaque = Some (kind_members (codes "opaque"))
+unread_in k = None
+
+-- `check`, of a line: what kind of line it is, if it is not read inside
+abbrev pub unread_members : LocatedLine → Option (List Member)
+unread_members l = unread_in l.class
 
 -- targets, and what stands after them
 abbrev pub target_members : (targets : List (List ℕ)) → Separator → List Member
@@ -77,3 +103,35 @@ variable_in n None None = None
 
 abbrev pub variable_members : (name : Option (List ℕ)) → LocatedLine → Option (List Member)
 variable_members n l = variable_in n (assignment_of l) (target_assignment_of l)
+
+-- a text of this name, if there is one
+abbrev pub optional_members : (name : List ℕ) → Option (List ℕ) → List Member
+optional_members n None = []
+optional_members n (Some t) = (n, text_value t) ∷ []
+
+-- the prerequisites before any `|`, and those after it
+abbrev pub prerequisite_members : (normal order_only : List (List ℕ)) → List Member
+prerequisite_members ns os =
+    (codes "prerequisites", texts_value ns) ∷ (codes "order_only", texts_value os) ∷ []
+
+-- the line of a rule
+abbrev pub rule_members : RuleView → List Member
+rule_members r =
+    target_members r.targets r.separator
+    ++ (optional_members (codes "pattern") (slice_get r.pattern 0)
+    ++ (prerequisite_members r.prereqs r.order_only
+    ++ optional_members (codes "inline_recipe") r.inline_recipe))
+
+-- `rules`, of a line, for one target if one is asked for: the line of a rule
+abbrev rule_in : (target : Option (List ℕ)) → Option RuleView → Option (List Member)
+rule_in t None = None
+rule_in t (Some r) = if is_for t r then Some (rule_members r) else None
+
+abbrev pub wanted_rule_members : (target : Option (List ℕ)) → LocatedLine → Option (List Member)
+wanted_rule_members t l = rule_in t (rule_of l)
+
+-- a recipe line of a rule with these targets: its number, and its text after the prefix
+abbrev pub recipe_members : (targets : List (List ℕ)) → RecipeSpot → List Member
+recipe_members ts r =
+    (codes "targets", texts_value ts) ∷ (codes "number", number_value r.number)
+    ∷ (codes "text", text_value r.text) ∷ []

@@ -1,6 +1,9 @@
 //! What a makefile has, as lines of JSON, for programs.
 //!
 //! - [`vars`]: an object on each assignment, of one name if one is asked for.
+//! - [`rules`]: an object on the line of each rule, for one target if one is asked for.
+//! - [`recipes`]: an object on each recipe line of each rule, for one target if one is asked for.
+//! - [`check`]: an object on each line that is not read inside, and on what is open at the end.
 //!
 //! Each line of text is an object (JSON Lines). It says in which file and where the line of the
 //! makefile stands, in which branches of which conditionals, and what its parts are. Objects and
@@ -13,6 +16,7 @@
 //! - `value`: texts and numbers as JSON values.
 //! - `member`: members of objects, each with its name.
 //! - `place`: where a line stands.
+//! - `surroundings`: the conditionals round lines, which are asked for in turn.
 //! - `parts`: the parts of lines.
 //! - `object`: the object on a line.
 //! - `query`: the queries, each in the module of its name.
@@ -24,6 +28,10 @@ mod object;
 mod parts;
 mod place;
 mod query;
+mod surroundings;
 mod value;
 
+pub use query::check::check;
+pub use query::recipes::recipes;
+pub use query::rules::rules;
 pub use query::vars::vars;

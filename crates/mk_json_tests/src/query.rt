@@ -1,5 +1,7 @@
 //! The queries by name.
-use mk_json::vars;
+ghost use Rattle.mk_tree.specs.Documents.{IsFaithful};
+
+use mk_json::{check, recipes, rules, vars};
 use mk_tree::Doc;
 use std::alloc::{AllocError, Allocator};
 
@@ -7,19 +9,27 @@ use std::alloc::{AllocError, Allocator};
 #[derive(Clone, Copy)]
 pub enum Query {
     Vars,
+    Rules,
+    Recipes,
+    Check,
 }
 
 impl Query {
     /// Asks it of a document, for one name or target if there is one.
-    pub fn ask<A: Allocator, B: Allocator + Copy>(
+    pub fn ask<'a, A: Allocator, B: Allocator + Copy>(
         self,
         alloc: B,
         file: &[u8],
-        doc: &Doc<A>,
-        word: Option<&[u8]>,
-    ) -> Result<Vec<u8, B>, AllocError> {
+        doc: &'a Doc<A>,
+        word: Option<&'a [u8]>,
+    ) -> Result<Vec<u8, B>, AllocError>
+        requires { IsFaithful doc.now }
+    {
         match self {
             Query::Vars => vars(alloc, file, doc, word),
+            Query::Rules => rules(alloc, file, doc, word),
+            Query::Recipes => recipes(alloc, file, doc, word),
+            Query::Check => check(alloc, file, doc),
         }
     }
 }

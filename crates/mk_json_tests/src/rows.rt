@@ -10,7 +10,7 @@ pub struct Row {
     pub text: &'static [u8],
 }
 
-pub static ROWS: [Row; 18] = [
+pub static ROWS: [Row; 39] = [
     // an empty makefile
     Row {
         query: Query::Vars,
@@ -154,5 +154,173 @@ pub static ROWS: [Row; 18] = [
         file: b"a",
         makefile: b"ifdef X\r\nA = 1\r\nendif\r\n",
         text: b"{\"file\":\"a\",\"line\":2,\"depth\":1,\"conditions\":[{\"branch\":{\"line\":1,\"text\":\"ifdef X\"},\"first\":{\"line\":1,\"text\":\"ifdef X\"}}],\"modifiers\":[],\"name\":\"A\",\"operator\":\"=\",\"value\":\"1\"}\n",
+    },
+    // rules of an empty makefile
+    Row {
+        query: Query::Rules,
+        word: None,
+        file: b"Makefile",
+        makefile: b"",
+        text: b"",
+    },
+    // the parts of a rule
+    Row {
+        query: Query::Rules,
+        word: None,
+        file: b"a",
+        makefile: b"all main: a.o b.o | out dir # all\nclean::\nx y &: z\n",
+        text: b"{\"file\":\"a\",\"line\":1,\"depth\":0,\"conditions\":[],\"targets\":[\"all\",\"main\"],\"separator\":\":\",\"prerequisites\":[\"a.o\",\"b.o\"],\"order_only\":[\"out\",\"dir\"]}\n{\"file\":\"a\",\"line\":2,\"depth\":0,\"conditions\":[],\"targets\":[\"clean\"],\"separator\":\"::\",\"prerequisites\":[],\"order_only\":[]}\n{\"file\":\"a\",\"line\":3,\"depth\":0,\"conditions\":[],\"targets\":[\"x\",\"y\"],\"separator\":\"&:\",\"prerequisites\":[\"z\"],\"order_only\":[]}\n",
+    },
+    // a pattern
+    Row {
+        query: Query::Rules,
+        word: None,
+        file: b"a",
+        makefile: b"a.o b.o: %.o: %.c | out\n\tcc\n%.x: %.y\n",
+        text: b"{\"file\":\"a\",\"line\":1,\"depth\":0,\"conditions\":[],\"targets\":[\"a.o\",\"b.o\"],\"separator\":\":\",\"pattern\":\"%.o\",\"prerequisites\":[\"%.c\"],\"order_only\":[\"out\"]}\n{\"file\":\"a\",\"line\":3,\"depth\":0,\"conditions\":[],\"targets\":[\"%.x\"],\"separator\":\":\",\"prerequisites\":[\"%.y\"],\"order_only\":[]}\n",
+    },
+    // a recipe on the line
+    Row {
+        query: Query::Rules,
+        word: None,
+        file: b"a",
+        makefile: b"a: b ; echo 'x'\nc: ;\nd:;e\n",
+        text: b"{\"file\":\"a\",\"line\":1,\"depth\":0,\"conditions\":[],\"targets\":[\"a\"],\"separator\":\":\",\"prerequisites\":[\"b\"],\"order_only\":[],\"inline_recipe\":\" echo 'x'\"}\n{\"file\":\"a\",\"line\":2,\"depth\":0,\"conditions\":[],\"targets\":[\"c\"],\"separator\":\":\",\"prerequisites\":[],\"order_only\":[],\"inline_recipe\":\"\"}\n{\"file\":\"a\",\"line\":3,\"depth\":0,\"conditions\":[],\"targets\":[\"d\"],\"separator\":\":\",\"prerequisites\":[],\"order_only\":[],\"inline_recipe\":\"e\"}\n",
+    },
+    // what is no line of a rule
+    Row {
+        query: Query::Rules,
+        word: None,
+        file: b"a",
+        makefile: b"A = a: b\nx: A = 1\n\tb: c\nfoo: a\\ b\n# a: b\n",
+        text: b"",
+    },
+    // rules in branches
+    Row {
+        query: Query::Rules,
+        word: None,
+        file: b"a",
+        makefile: b"ifdef X\na: b\nelse ifdef Y\na: c\nendif\na: d \\\n e\n",
+        text: b"{\"file\":\"a\",\"line\":2,\"depth\":1,\"conditions\":[{\"branch\":{\"line\":1,\"text\":\"ifdef X\"},\"first\":{\"line\":1,\"text\":\"ifdef X\"}}],\"targets\":[\"a\"],\"separator\":\":\",\"prerequisites\":[\"b\"],\"order_only\":[]}\n{\"file\":\"a\",\"line\":4,\"depth\":1,\"conditions\":[{\"branch\":{\"line\":3,\"text\":\"else ifdef Y\"},\"first\":{\"line\":1,\"text\":\"ifdef X\"}}],\"targets\":[\"a\"],\"separator\":\":\",\"prerequisites\":[\"c\"],\"order_only\":[]}\n{\"file\":\"a\",\"line\":6,\"depth\":0,\"conditions\":[],\"targets\":[\"a\"],\"separator\":\":\",\"prerequisites\":[\"d\",\"e\"],\"order_only\":[]}\n",
+    },
+    // rules for one target
+    Row {
+        query: Query::Rules,
+        word: Some(b"b"),
+        file: b"a",
+        makefile: b"a: b\na b: c\nb:: d\nbb: e\nc: d | b\n",
+        text: b"{\"file\":\"a\",\"line\":2,\"depth\":0,\"conditions\":[],\"targets\":[\"a\",\"b\"],\"separator\":\":\",\"prerequisites\":[\"c\"],\"order_only\":[]}\n{\"file\":\"a\",\"line\":3,\"depth\":0,\"conditions\":[],\"targets\":[\"b\"],\"separator\":\"::\",\"prerequisites\":[\"d\"],\"order_only\":[]}\n",
+    },
+    // rules for a target with a reference
+    Row {
+        query: Query::Rules,
+        word: Some(b"$(a b)"),
+        file: b"a",
+        makefile: b"a: b\n$(a b) c: d\n",
+        text: b"{\"file\":\"a\",\"line\":2,\"depth\":0,\"conditions\":[],\"targets\":[\"$(a b)\",\"c\"],\"separator\":\":\",\"prerequisites\":[\"d\"],\"order_only\":[]}\n",
+    },
+    // a target that no rule has
+    Row {
+        query: Query::Rules,
+        word: Some(b"z"),
+        file: b"a",
+        makefile: b"a: z\nz = 1\n",
+        text: b"",
+    },
+    // targets that are not utf 8
+    Row {
+        query: Query::Rules,
+        word: None,
+        file: b"a",
+        makefile: b"\xe9 b: \xff | \xc3\xa9 ; \xfe\n",
+        text: b"{\"file\":\"a\",\"line\":1,\"depth\":0,\"conditions\":[],\"targets\":[{\"base64\":\"6Q==\"},\"b\"],\"separator\":\":\",\"prerequisites\":[{\"base64\":\"/w==\"}],\"order_only\":[\"\xc3\xa9\"],\"inline_recipe\":{\"base64\":\"IP4=\"}}\n",
+    },
+    // nothing to check
+    Row {
+        query: Query::Check,
+        word: None,
+        file: b"a",
+        makefile: b"all: main\n\tcc\nA = 1\ninclude b\n",
+        text: b"",
+    },
+    // lines that are not read
+    Row {
+        query: Query::Check,
+        word: None,
+        file: b"a",
+        makefile: b"foo: a\\ b\n$(eval $(call t,x))\nifdef A\n$(x)\nelse\nb: c\\ d\nendif\n",
+        text: b"{\"file\":\"a\",\"line\":1,\"depth\":0,\"conditions\":[],\"kind\":\"rough\"}\n{\"file\":\"a\",\"line\":2,\"depth\":0,\"conditions\":[],\"kind\":\"opaque\"}\n{\"file\":\"a\",\"line\":4,\"depth\":1,\"conditions\":[{\"branch\":{\"line\":3,\"text\":\"ifdef A\"},\"first\":{\"line\":3,\"text\":\"ifdef A\"}}],\"kind\":\"opaque\"}\n{\"file\":\"a\",\"line\":6,\"depth\":1,\"conditions\":[{\"branch\":{\"line\":5,\"text\":\"else\"},\"first\":{\"line\":3,\"text\":\"ifdef A\"}}],\"kind\":\"rough\"}\n",
+    },
+    // an open conditional
+    Row {
+        query: Query::Check,
+        word: None,
+        file: b"a",
+        makefile: b"ifdef A\nifndef B\nelse\n$(x)\n",
+        text: b"{\"file\":\"a\",\"line\":4,\"depth\":2,\"conditions\":[{\"branch\":{\"line\":1,\"text\":\"ifdef A\"},\"first\":{\"line\":1,\"text\":\"ifdef A\"}},{\"branch\":{\"line\":3,\"text\":\"else\"},\"first\":{\"line\":2,\"text\":\"ifndef B\"}}],\"kind\":\"opaque\"}\n{\"file\":\"a\",\"kind\":\"end\",\"conditionals\":2,\"defines\":0}\n",
+    },
+    // an open define
+    Row {
+        query: Query::Check,
+        word: None,
+        file: b"\xff",
+        makefile: b"define D\n",
+        text: b"{\"file\":{\"base64\":\"/w==\"},\"kind\":\"end\",\"conditionals\":0,\"defines\":1}\n",
+    },
+    // open conditionals and open defines
+    Row {
+        query: Query::Check,
+        word: None,
+        file: b"a",
+        makefile: b"ifdef A\nA = 1\ndefine D\ndefine E\n",
+        text: b"{\"file\":\"a\",\"kind\":\"end\",\"conditionals\":1,\"defines\":2}\n",
+    },
+    // recipe lines of an empty makefile
+    Row {
+        query: Query::Recipes,
+        word: None,
+        file: b"Makefile",
+        makefile: b"",
+        text: b"",
+    },
+    // recipe lines of rules
+    Row {
+        query: Query::Recipes,
+        word: None,
+        file: b"a",
+        makefile: b"a b: c ; x\n\ty\n# c\n\n\t@z \\\n\tw # v\nd:\n\t\n",
+        text: b"{\"file\":\"a\",\"line\":2,\"depth\":0,\"conditions\":[],\"targets\":[\"a\",\"b\"],\"number\":1,\"text\":\"y\"}\n{\"file\":\"a\",\"line\":5,\"depth\":0,\"conditions\":[],\"targets\":[\"a\",\"b\"],\"number\":2,\"text\":\"@z w # v\"}\n{\"file\":\"a\",\"line\":8,\"depth\":0,\"conditions\":[],\"targets\":[\"d\"],\"number\":1,\"text\":\"\"}\n",
+    },
+    // recipe lines in branches
+    Row {
+        query: Query::Recipes,
+        word: None,
+        file: b"a",
+        makefile: b"a:\n\tb\nifdef X\n\tc\nelse\n\td\nendif\n\te\n",
+        text: b"{\"file\":\"a\",\"line\":2,\"depth\":0,\"conditions\":[],\"targets\":[\"a\"],\"number\":1,\"text\":\"b\"}\n{\"file\":\"a\",\"line\":4,\"depth\":1,\"conditions\":[{\"branch\":{\"line\":3,\"text\":\"ifdef X\"},\"first\":{\"line\":3,\"text\":\"ifdef X\"}}],\"targets\":[\"a\"],\"number\":2,\"text\":\"c\"}\n{\"file\":\"a\",\"line\":6,\"depth\":1,\"conditions\":[{\"branch\":{\"line\":5,\"text\":\"else\"},\"first\":{\"line\":3,\"text\":\"ifdef X\"}}],\"targets\":[\"a\"],\"number\":3,\"text\":\"d\"}\n{\"file\":\"a\",\"line\":8,\"depth\":0,\"conditions\":[],\"targets\":[\"a\"],\"number\":4,\"text\":\"e\"}\n",
+    },
+    // recipe lines of no rule
+    Row {
+        query: Query::Recipes,
+        word: None,
+        file: b"a",
+        makefile: b"a: b\n\tc\nD = 1\n\te\nf: g\\ h\n\ti\n",
+        text: b"{\"file\":\"a\",\"line\":2,\"depth\":0,\"conditions\":[],\"targets\":[\"a\"],\"number\":1,\"text\":\"c\"}\n",
+    },
+    // recipe lines for one target
+    Row {
+        query: Query::Recipes,
+        word: Some(b"b"),
+        file: b"a",
+        makefile: b"a:\n\t1\na b: c\n\t2\n\t3\nb::\n\t4\nifdef X\nb: d\n\t5\nendif\n",
+        text: b"{\"file\":\"a\",\"line\":4,\"depth\":0,\"conditions\":[],\"targets\":[\"a\",\"b\"],\"number\":1,\"text\":\"2\"}\n{\"file\":\"a\",\"line\":5,\"depth\":0,\"conditions\":[],\"targets\":[\"a\",\"b\"],\"number\":2,\"text\":\"3\"}\n{\"file\":\"a\",\"line\":7,\"depth\":0,\"conditions\":[],\"targets\":[\"b\"],\"number\":1,\"text\":\"4\"}\n{\"file\":\"a\",\"line\":10,\"depth\":1,\"conditions\":[{\"branch\":{\"line\":8,\"text\":\"ifdef X\"},\"first\":{\"line\":8,\"text\":\"ifdef X\"}}],\"targets\":[\"b\"],\"number\":1,\"text\":\"5\"}\n",
+    },
+    // a recipe line that is not utf 8
+    Row {
+        query: Query::Recipes,
+        word: None,
+        file: b"a",
+        makefile: b"\xff:\n\techo \xe9\n",
+        text: b"{\"file\":\"a\",\"line\":2,\"depth\":0,\"conditions\":[],\"targets\":[{\"base64\":\"/w==\"}],\"number\":1,\"text\":{\"base64\":\"ZWNobyDp\"}}\n",
     },
 ];
