@@ -16,7 +16,7 @@ open_through-more os above (k ∷ ls) l =
     open_through-more (open_below os (position_below above) (conditional_of k)) (above ++ k ∷ []) ls l
     ∙ ap (λ z. open_below (open_through os (standing_below above (k ∷ ls))) (position_below z) (conditional_of l)) (append_assoc above (k ∷ []) ls)
 
-pub open_under-more : (ls : List LocatedLine) (l : LocatedLine) → open_under (ls ++ l ∷ []) ≡ open_below (open_under ls) (position_below ls) (conditional_of l)
+open_under-more : (ls : List LocatedLine) (l : LocatedLine) → open_under (ls ++ l ∷ []) ≡ open_below (open_under ls) (position_below ls) (conditional_of l)
 open_under-more ls l = open_through-more [] [] ls l
 
 -- a walk that follows a document still does so once it has passed a line
