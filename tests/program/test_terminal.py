@@ -20,6 +20,12 @@ from tests.lib.terminals import END, INTERRUPT, terminal
 UNWRITTEN = b"There are unwritten changes: `write` writes them, and `quit` once more drops them.\n"
 
 
+def prepare():
+    """Has the keys of the terminal reach the program, also where this process ignores the interrupt key."""
+    signal.signal(signal.SIGINT, signal.SIG_DFL)
+    fcntl.ioctl(0, termios.TIOCSCTTY, 0)
+
+
 class User:
     """A user of a session at a terminal. What the user types is not shown, but what the program says is."""
 
@@ -27,9 +33,7 @@ class User:
         command = [room.program.path, "session", *words]
         self.side = side
         how = {"stdin": program, "stdout": program, "stderr": program, "start_new_session": True}
-        # so that the keys of the terminal reach the program
-        how["preexec_fn"] = lambda: fcntl.ioctl(0, termios.TIOCSCTTY, 0)
-        self.process = subprocess.Popen(command, cwd=room.folder, **how)
+        self.process = subprocess.Popen(command, cwd=room.folder, preexec_fn=prepare, **how)
 
     def shown(self, end):
         """What the program shows up to this end."""
