@@ -46,6 +46,11 @@ class Command(NamedTuple):
     def word(self):
         return self.form.split()[0]
 
+    @property
+    def first(self):
+        """The first sentence on what the command does."""
+        return re.match(r".*?\.(?= |$)", self.does)[0]
+
 
 def command_of(form, text):
     """The command that a text is about. A ValueError says that the text has another form."""
@@ -67,12 +72,12 @@ def commands(top=TOP):
 
 
 def table(found):
-    """The table of README.md: the edits alone."""
+    """The table of README.md: the edits alone, each in a sentence."""
     yield "| Command of a script | What it does |"
     yield "|---|---|"
     for it in found:
         if it.word not in NO_EDITS:
-            yield f"| `{it.form}` | {cell(it.does)} |"
+            yield f"| `{it.form}` | {cell(it.first)} |"
 
 
 def full_table(found):

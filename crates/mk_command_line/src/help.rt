@@ -6,7 +6,9 @@ use crate::command_name::{CommandName, QueryName};
 pub(crate) const PROGRAM: &str = "\
 Examples:
     mkedit edit use-clang config.mk              prints config.mk as the script use-clang edits it
-    mkedit edit -e 'set CC clang' config.mk      does so by the command that is given
+    mkedit edit --diff use-clang config.mk       prints what would change
+    mkedit edit -i use-clang config.mk           changes the file
+    mkedit edit -e 'set CC clang' config.mk      prints it as the command edits it
     mkedit vars config.mk                        lists the assignments of config.mk
 
 `mkedit help COMMAND` has an example of each command, and of each command of a script: `mkedit help set`.
@@ -29,14 +31,20 @@ A line of the script is a command, a comment that begins with #, or blank:
     undo    redo    begin    end    cancel                try COMMAND    or COMMAND
 PLACE is bottom, before-var NAME, after-var NAME or before-rule TARGET. OP is one of
 = := ::= :::= ?= += != and SEP one of : and ::. A field with blanks in it stands between double
-quotes. `nth N` before a command picks the N-th of several lines that it could mean. `all` before
+quotes, and so does an empty one. Between them \\\" is a quote and \\\\ a backslash; elsewhere each of the
+two is itself. `nth N` before a command picks the N-th of several lines that it could mean. `all` before
 set, append, add or drop means all of them. `try` before an edit: it is no refusal that there is nothing
 to do. `or` before an edit: an alternative of the edit in the line above, for the case that there is
 nothing on which that one is to be made. `mkedit help set` says what `set` does, and so for each word.
+Commands are done in their order, each on what those above it have left.
 
 The text goes to standard output, or to OUT, which may be FILE. Where a command is refused, a line on
 standard error says which one and why, and no text goes out, unless -k is given. `mkedit explain 4`,
-or `mkedit explain NoSuch`, says more on the refusal 4 NoSuch, and what to do.
+or `mkedit explain NoSuch`, says more on the refusal 4 NoSuch, and what to do. --notes shows the lines
+that are the cause, and also what is wrong with a line of the script that is not a command.
+
+Several FILEs may stand with -i: each is edited by itself. One in which a command is refused stays as it
+was, the others go on, and each line on standard error begins with the name of its file.
 
 Example: with `CC = gcc # c` in config.mk, and `set CC clang` in use-clang,
     mkedit edit use-clang config.mk
@@ -65,7 +73,8 @@ Example: with `ifdef DEBUG`, `export CFLAGS += -g  # slow`, `endif` and `all: CC
 prints
     2:1: export CFLAGS += -g
     4:0: all: CC = gcc
-and with `--name CC` the second of these lines alone.
+and with `--name CC` the second of these lines alone. Where there is no such line it prints nothing, and
+the status is 0.
 ";
 
 // What `rules` does, in a line.
@@ -81,7 +90,8 @@ Example: with `all: main.o | build ; ld main.o`, a recipe line below it, and `%.
 prints
     1:0: all: main.o | build [2]
     3:0: %.o: %.c [0]
-and with `--target all` the first of these lines alone.
+and with `--target all` the first of these lines alone. Where there is no such line it prints nothing,
+and the status is 0.
 ";
 
 // What `recipes` does, in a line.

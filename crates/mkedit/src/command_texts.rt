@@ -88,7 +88,8 @@ makes
 ";
 
 const RULE: &str = "\
-Puts in the line of a new rule.
+Puts in the line of a new rule, also where the target has a rule. A rule without prerequisites has
+`\"\"` for PREREQS.
 
 Is refused with BadArgument, Reserved, RecipePrefix, NoSuch, Ambiguous, OpenLine, OpenDefine, Leans
 or TooLong.
@@ -254,7 +255,7 @@ makes
 ";
 
 const RENAME: &str = "\
-Gives a target another name, also where it is a prerequisite.
+Gives a target another name, also where it is a prerequisite. Recipes stay as they are.
 
 Is refused with BadArgument, Reserved, RecipePrefix, NoSuch, Taken or TooLong.
 
@@ -301,7 +302,7 @@ makes
 ";
 
 const UNDO: &str = "\
-Takes back the last edit that stands.
+Takes back the last edit that stands. Only edits of the same run can be taken back.
 
 Is refused with NothingToUndo or GroupOpen.
 
@@ -379,7 +380,8 @@ makes
 ";
 
 const TRY: &str = "\
-Makes an edit, and it is no refusal if there is nothing to do.
+Makes an edit, and it is no refusal if there is nothing to do. There is nothing to do where a word is
+there already, where it is gone, and where no line has the name.
 
 Is refused with those of COMMAND, but not with NoSuch, Absent or Already.
 
@@ -392,7 +394,8 @@ makes
 ";
 
 const OR: &str = "\
-Makes an edit if that of the line above finds nothing on which it is to be made.
+Makes an edit if that of the line above finds nothing on which it is to be made. That line has no `try`,
+and needs none: in both lines it is no refusal that a word is there already, or gone already.
 
 Is refused with those of COMMAND.
 

@@ -23,7 +23,8 @@ Example: the script
 is reported as
     1: refused 1 BadArgument value
 
-Correct the script. In a value write `\\#`, and between double quotes `\\\\#`:
+Correct the script. No edit reaches a line whose name has a reference, such as `obj-$(X)`: such a line
+can be changed by hand alone. In a value write `\\#`, and between double quotes `\\\\#`:
 `set CC \"gcc \\\\#1\"`. Or put the `#` inside a reference.
 ";
 
