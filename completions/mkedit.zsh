@@ -71,6 +71,7 @@ _mkedit_edit() {
 
 _mkedit_query() {
     _arguments -s "$@" \
+        '--json[print lines of JSON, each of them an object, for programs]' \
         '--notes[say below a message or a refusal what its cause is]' \
         '(-h --help)'{-h,--help}'[print help]' \
         '*:makefile:_files'

@@ -110,6 +110,13 @@ expression_rule = record (new_rule (codes "expression")) {
   action = Some Append;
 }
 
+-- --json
+abbrev pub json_rule : Rule
+json_rule = record (new_rule (codes "json")) {
+  long = Some (codes "json");
+  action = Some SetTrue;
+}
+
 -- --notes
 abbrev pub notes_rule : Rule
 notes_rule = record (new_rule (codes "notes")) {
@@ -194,7 +201,7 @@ session_options = depth_rule ∷ protocol_rule ∷ new_makefile_rule ∷ []
 
 abbrev arguments_of : CommandName → List Rule
 arguments_of Edit = edit_options ++ script_rule ∷ file_rule ∷ []
-arguments_of (Query query) = choice_of query ++ notes_rule ∷ file_rule ∷ []
+arguments_of (Query query) = choice_of query ++ json_rule ∷ notes_rule ∷ file_rule ∷ []
 arguments_of Get = get_options ++ variable_rule ∷ file_rule ∷ []
 arguments_of Explain = refusal_rule ∷ []
 arguments_of Session = session_options ++ session_file_rule ∷ []

@@ -6,7 +6,7 @@ ghost use Rattle.mk_command_line.specs.Commands.{command_app, commands, edit_opt
 ghost use Rattle.mk_command_line.specs.Commands.{choice_of, first_command, program_for, program_with, shape_of_command, word_of};
 
 use crate::arguments::{
-    backup, color, depth, diff, expression, file, in_place, keep_going, name, new_makefile, notes,
+    backup, color, depth, diff, expression, file, in_place, json, keep_going, name, new_makefile, notes,
     nth, output, protocol, refusal, script, session_file, target, variable,
 };
 use crate::command_name::{COMMANDS, CommandName, QueryName, command_named};
@@ -136,6 +136,7 @@ fn command<'a>(alloc: Global, name: CommandName) -> Result<Command<'a>, AllocErr
     match name {
         CommandName::Edit => edit(alloc),
         CommandName::Query(query) => with_choice(alloc, query)?
+            .arg(json(alloc))?
             .arg(notes(alloc))?
             .arg(file(alloc)),
         CommandName::Get => get(alloc),

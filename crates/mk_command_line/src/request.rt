@@ -18,6 +18,15 @@ pub enum Query<'a> {
     Caveats,
 }
 
+/// How an answer is written.
+#[derive(Clone, Copy, Debug, PartialEq, Eq)]
+pub enum Form {
+    /// As lines for a person.
+    Text,
+    /// As lines of JSON for a program: each is an object.
+    Json,
+}
+
 /// Where bytes come from.
 #[derive(Clone, Copy)]
 pub enum Input<'a> {
@@ -90,6 +99,8 @@ pub struct EditWords<'a> {
 pub struct QueryWords<'a> {
     /// What is asked.
     pub query: Query<'a>,
+    /// How the answer is written.
+    pub form: Form,
     /// Whether a message has notes below it.
     pub notes: bool,
     /// The makefiles, one or more.
