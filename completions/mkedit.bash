@@ -9,7 +9,7 @@ _mkedit_options() {
         vars) echo "--name --json --notes -h --help" ;;
         rules | recipes) echo "--target --json --notes -h --help" ;;
         check | caveats) echo "--json --notes -h --help" ;;
-        session) echo "-d --depth --protocol --new -h --help" ;;
+        session) echo "-d --depth --protocol --json --new -h --help" ;;
         get) echo "--nth --notes -h --help" ;;
         help) ;;
         *) echo "-h --help" ;;

@@ -190,6 +190,7 @@ pub record AsksGet (rows : List Row) (words : GetWords) : Type 0 where
 pub record AsksSession (rows : List Row) (words : SessionWords) : Type 0 where
   pub depth : IsDepth (first_of (codes "depth") rows) words.depth
   pub protocol : IsFlag (codes "protocol") rows words.by_protocol
+  pub form : IsFlag (codes "json") rows (is_json words.form)
   pub new : IsFlag (codes "new") rows words.may_be_new
   pub file : first_of (codes "FILE") rows ≡ Some words.file.now
   pub named : bytes_eq words.file.now (codes "-") ≡ false

@@ -11,8 +11,8 @@ ghost use Rattle.mk_command_line.specs.Requests.{AreMakefiles, ReadsFrom, file_n
 ghost use Rattle.mk_command_line.specs.Requests.{IsAsked, IsBackup, IsColor, IsNth, IsNumber, is_alone, is_json, is_named, is_query, is_suffix};
 
 use crate::arguments::{
-    BACKUP, COLOR, DEPTH, DIFF, EXPRESSION, FILE, IN_PLACE, JSON, KEEP_GOING, NAME, NEW, NOTES, NTH,
-    OUTPUT, PROTOCOL, REFUSAL, SCRIPT, TARGET, VARIABLE,
+    BACKUP, COLOR, DEPTH, DIFF, EXPRESSION, FILE, IN_PLACE, JSON, KEEP_GOING, NAME, NEW, NOTES,
+    NTH, OUTPUT, PROTOCOL, REFUSAL, SCRIPT, TARGET, VARIABLE,
 };
 use crate::command_name::{CommandName, QueryName, command_named};
 use crate::commands::program_for;
@@ -429,6 +429,7 @@ fn session_words<'a>(
         Some(file) if file != STANDARD => Ok(SessionWords {
             depth,
             by_protocol: is_set(matches, PROTOCOL),
+            form: form_of(matches),
             may_be_new: is_set(matches, NEW),
             file,
         }),

@@ -127,6 +127,9 @@ pub struct SessionWords<'a> {
     pub depth: u32,
     /// Whether the replies are those of the protocol, also at a terminal.
     pub by_protocol: bool,
+    /// How answers are written. Lines of JSON have the replies of the protocol round them in each case,
+    /// whatever `by_protocol` says.
+    pub form: Form,
     /// Whether a makefile that is missing is opened as an empty one.
     pub may_be_new: bool,
     /// The name of the makefile, which is not `-`.

@@ -12,6 +12,7 @@ use Rattle.mk_lookup.specs.Lookups.{looked_up}
 use Rattle.mk_run.specs.declared.outcome.Outcome.{Outcome}
 use Rattle.mk_run.specs.declared.outcome.Outcome.TheVariants.{Done, Write}
 use Rattle.mk_command_line.specs.declared.request.Query.{Query}
+use Rattle.mk_command_line.specs.declared.request.Form.{Form}
 use Rattle.mk_command_line.specs.declared.request.Form.TheVariants as form
 use Rattle.mkedit.specs.declared.question.Inquiry.{Inquiry}
 use Rattle.mkedit.specs.declared.question.Inquiry.TheVariants as inquiry
@@ -42,6 +43,11 @@ json_text file (Rules target) text = rules_lines file (word_asked target) (docum
 json_text file (Recipes target) text = recipes_lines file (word_asked target) (document_lines text)
 json_text file Check text = check_lines file (document_lines text)
 json_text file Caveats text = check_lines file (document_lines text)
+
+-- what is printed for a query, in a form
+abbrev pub text_in_form : Form → (file : List ℕ) → Query → List ℕ → List ℕ
+text_in_form form.Text file query text = query_text query text
+text_in_form form.Json file query text = json_text file query text
 
 -- the question to the makefile of this name
 abbrev pub question_to : (file : Bor (List ℕ)) → Inquiry → Question

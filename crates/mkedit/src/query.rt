@@ -325,12 +325,7 @@ fn ask_kept<'a>(
 }
 
 // Answers what several makefiles are asked for, in turn, until nobody reads the output any more.
-fn ask_each(
-    rt: &HostRuntime,
-    inquiry: Inquiry<'_>,
-    files: &[Input<'_>],
-    notes: bool,
-) -> ExitCode {
+fn ask_each(rt: &HostRuntime, inquiry: Inquiry<'_>, files: &[Input<'_>], notes: bool) -> ExitCode {
     let mut statuses = Statuses::new();
     for file in files {
         let mut lines = Vec::new(rt.alloc());
