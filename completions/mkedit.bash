@@ -6,10 +6,10 @@ _mkedit_options() {
     case $1 in
         "") echo "-h --help -V --version" ;;
         edit) echo "-k --keep-going -d --depth -o --output -i --in-place --backup --diff --color -e --expression --notes -h --help" ;;
-        vars) echo "--name --notes -h --help" ;;
-        rules | recipes) echo "--target --notes -h --help" ;;
-        check | caveats) echo "--notes -h --help" ;;
-        session) echo "-d --depth --protocol --new -h --help" ;;
+        vars) echo "--name --json --notes -h --help" ;;
+        rules | recipes) echo "--target --json --notes -h --help" ;;
+        check | caveats) echo "--json --notes -h --help" ;;
+        session) echo "-d --depth --protocol --json --new -h --help" ;;
         get) echo "--nth --notes -h --help" ;;
         help) ;;
         *) echo "-h --help" ;;

@@ -52,6 +52,7 @@ complete -c mkedit -n '__fish_seen_subcommand_from vars; and not __fish_seen_sub
 complete -c mkedit -n '__fish_seen_subcommand_from rules recipes; and not __fish_seen_subcommand_from help' -l target -x -a '(__mkedit_targets)' -d 'Lists what belongs to the rules for this target alone'
 complete -c mkedit -n '__fish_seen_subcommand_from get; and not __fish_seen_subcommand_from help' -l nth -x -d 'Takes the N-th of several assignments of the name, from 1'
 complete -c mkedit -n '__fish_seen_subcommand_from get; and test (count (commandline -opc)) -eq 2' -a '(__mkedit_names)'
+complete -c mkedit -n '__fish_seen_subcommand_from vars rules recipes check caveats session; and not __fish_seen_subcommand_from help' -l json -d 'Prints lines of JSON, each of them an object, for programs'
 complete -c mkedit -n '__fish_seen_subcommand_from edit vars rules recipes check caveats get; and not __fish_seen_subcommand_from help' -l notes -d 'Says below a message or a refusal what its cause is'
 complete -c mkedit -n '__fish_seen_subcommand_from edit vars rules recipes check caveats get session; and not __fish_seen_subcommand_from help' -F
 complete -c mkedit -n '__fish_seen_subcommand_from help' -a 'edit vars rules recipes check caveats get explain session help'

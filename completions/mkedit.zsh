@@ -71,6 +71,7 @@ _mkedit_edit() {
 
 _mkedit_query() {
     _arguments -s "$@" \
+        '--json[print lines of JSON, each of them an object, for programs]' \
         '--notes[say below a message or a refusal what its cause is]' \
         '(-h --help)'{-h,--help}'[print help]' \
         '*:makefile:_files'
@@ -127,6 +128,7 @@ _mkedit_session() {
     _arguments -s \
         '(-d --depth)'{-d+,--depth=}'[how many edits can be undone, from 1 to 10000]:depth: ' \
         '--protocol[reply as to a program, also at a terminal]' \
+        '--json[print lines of JSON, each of them an object, for programs]' \
         '--new[open a makefile that is missing as an empty one]' \
         '(-h --help)'{-h,--help}'[print help]' \
         '1:makefile:_files'

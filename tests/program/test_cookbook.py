@@ -1,7 +1,7 @@
 """The tasks of docs/COOKBOOK.md, run as they stand there.
 
-A task is a title of the second level with fenced blocks below it. A block ```make NAME or
-```mkedit NAME is a file, and ```console a shell session. The blocks of a task are done in their order
+A task is a title of the second level with fenced blocks below it. A block ```make NAME,
+```mkedit NAME or ```python NAME is a file, and ```console a shell session. The blocks of a task are done in their order
 in a folder of its own. Each refusal that a task names has to be one of docs/EDITS.md.
 """
 
@@ -15,7 +15,7 @@ from tests.lib.transcripts import Shell
 TASK = re.compile(r"^## (.*)\n((?:(?!## ).*\n)*)", re.M)
 BLOCK = re.compile(r"^```(.*)\n((?:(?!```).*\n)*)```\n", re.M)
 REFUSAL = re.compile(r"`(\d+) (\w+)[^`]*`")
-TASKS = 19
+TASKS = 20
 # The tasks whose script changes nothing when it is run over its own result.
 TWICE = (
     "Add a flag unless it is there",
@@ -45,7 +45,7 @@ def check_task(program, text):
             if kind == "console":
                 sessions += 1
                 yield from shell.differs(content)
-            elif kind in ("make", "mkedit") and name:
+            elif kind in ("make", "mkedit", "python") and name:
                 write_file(room, name, content)
             else:
                 yield f"a block is neither a file nor a session: {head}"

@@ -110,6 +110,13 @@ expression_rule = record (new_rule (codes "expression")) {
   action = Some Append;
 }
 
+-- --json
+abbrev pub json_rule : Rule
+json_rule = record (new_rule (codes "json")) {
+  long = Some (codes "json");
+  action = Some SetTrue;
+}
+
 -- --notes
 abbrev pub notes_rule : Rule
 notes_rule = record (new_rule (codes "notes")) {
@@ -184,17 +191,21 @@ choice_of Recipes = target_rule ∷ []
 choice_of Check = []
 choice_of Caveats = []
 
+-- the options of a query before `--notes`
+abbrev pub query_options : QueryName → List Rule
+query_options query = choice_of query ++ json_rule ∷ []
+
 -- those of `get`
 abbrev pub get_options : List Rule
 get_options = nth_rule ∷ notes_rule ∷ []
 
 -- those of `session`
 abbrev pub session_options : List Rule
-session_options = depth_rule ∷ protocol_rule ∷ new_makefile_rule ∷ []
+session_options = depth_rule ∷ protocol_rule ∷ json_rule ∷ new_makefile_rule ∷ []
 
 abbrev arguments_of : CommandName → List Rule
 arguments_of Edit = edit_options ++ script_rule ∷ file_rule ∷ []
-arguments_of (Query query) = choice_of query ++ notes_rule ∷ file_rule ∷ []
+arguments_of (Query query) = query_options query ++ notes_rule ∷ file_rule ∷ []
 arguments_of Get = get_options ++ variable_rule ∷ file_rule ∷ []
 arguments_of Explain = refusal_rule ∷ []
 arguments_of Session = session_options ++ session_file_rule ∷ []

@@ -20,6 +20,8 @@ use Rattle.mk_command_line.specs.declared.request.Output.TheVariants as output
 use Rattle.mk_command_line.specs.declared.request.Color.{Color}
 use Rattle.mk_command_line.specs.declared.request.Color.TheVariants.{Auto, Always, Never}
 use Rattle.mk_command_line.specs.declared.request.EditWords.{EditWords}
+use Rattle.mk_command_line.specs.declared.request.Form.{Form}
+use Rattle.mk_command_line.specs.declared.request.Form.TheVariants as form
 use Rattle.mk_command_line.specs.declared.request.QueryWords.{QueryWords}
 use Rattle.mk_command_line.specs.declared.request.GetWords.{GetWords}
 use Rattle.mk_command_line.specs.declared.request.SessionWords.{SessionWords}
@@ -76,6 +78,11 @@ abbrev pub IsFlag : Text → List Row → Bool → Type 0
 IsFlag flag rows is_set = (one_of flag rows ≡ None → is_set ≡ false)
     × (one_of flag rows ≡ Some (codes "false") → is_set ≡ false)
     × (one_of flag rows ≡ Some (codes "true") → is_set ≡ true)
+
+-- whether an answer in this form is lines of JSON
+abbrev pub is_json : Form → Bool
+is_json form.Text = false
+is_json form.Json = true
 
 -- the number that decimal digits write
 abbrev pub IsNumber : Text → ℕ → Type 0
@@ -160,6 +167,7 @@ IsAsked _ _ _ = ⊥
 
 pub record AsksQuery (name : QueryName) (rows : List Row) (words : QueryWords) : Type 0 where
   pub query_is : IsAsked name rows words.query
+  pub form : IsFlag (codes "json") rows (is_json words.form)
   pub notes : IsFlag (codes "notes") rows words.notes
   pub files : AreMakefiles (words_of (all_of (codes "FILE") rows)) words.files.items
 
@@ -182,6 +190,7 @@ pub record AsksGet (rows : List Row) (words : GetWords) : Type 0 where
 pub record AsksSession (rows : List Row) (words : SessionWords) : Type 0 where
   pub depth : IsDepth (first_of (codes "depth") rows) words.depth
   pub protocol : IsFlag (codes "protocol") rows words.by_protocol
+  pub form : IsFlag (codes "json") rows (is_json words.form)
   pub new : IsFlag (codes "new") rows words.may_be_new
   pub file : first_of (codes "FILE") rows ≡ Some words.file.now
   pub named : bytes_eq words.file.now (codes "-") ≡ false

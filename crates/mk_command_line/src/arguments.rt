@@ -1,7 +1,7 @@
 //! The arguments of the commands, each with the name by which its words are found.
 ghost use Rattle.std.specs.Prelude.{◌≡◌, IfOk, false};
 ghost use Rattle.clap.specs.Words.{rule_of};
-ghost use Rattle.mk_command_line.specs.Commands.{backup_rule, color_rule, depth_rule, diff_rule, expression_rule, file_rule};
+ghost use Rattle.mk_command_line.specs.Commands.{backup_rule, color_rule, depth_rule, diff_rule, expression_rule, file_rule, json_rule};
 ghost use Rattle.mk_command_line.specs.Commands.{in_place_rule, keep_going_rule, name_rule, new_makefile_rule, notes_rule, nth_rule, output_rule};
 ghost use Rattle.mk_command_line.specs.Commands.{protocol_rule, refusal_rule, script_rule, session_file_rule, target_rule, variable_rule};
 
@@ -32,6 +32,8 @@ pub(crate) const DIFF: &str = "diff";
 pub(crate) const COLOR: &str = "color";
 
 pub(crate) const EXPRESSION: &str = "expression";
+
+pub(crate) const JSON: &str = "json";
 
 pub(crate) const NOTES: &str = "notes";
 
@@ -163,6 +165,17 @@ pub(crate) fn expression<'a>(alloc: Global) -> Arg<'a>
         .value_name("COMMAND")
         .action(ArgAction::Append)
         .help("A line of a script, in place of SCRIPT; several -e are its lines")
+}
+
+/// Whether the answer is lines of JSON.
+pub(crate) fn json<'a>(alloc: Global) -> Arg<'a>
+    ensures rule { rule_of result ≡ json_rule }
+    ensures local { result.global ≡ false }
+{
+    Arg::new(alloc, JSON)
+        .long("json")
+        .action(ArgAction::SetTrue)
+        .help("Prints lines of JSON, each of them an object, for programs")
 }
 
 /// Whether a message has notes below it.

@@ -2,12 +2,12 @@
 ghost use Rattle.std.specs.Prelude.{◌≡◌, ◌++◌, IfOk, false, map, [], string_bytes};
 ghost use Rattle.clap.specs.Words.{app_of, with_subcommand};
 ghost use Rattle.clap.specs.declared.builder.command.Command.TheViews.{out-Command as fields_of};
-ghost use Rattle.mk_command_line.specs.Commands.{command_app, commands, edit_options, get_options, leaf, output_options, run_options, session_options};
+ghost use Rattle.mk_command_line.specs.Commands.{command_app, commands, edit_options, get_options, leaf, output_options, query_options, run_options, session_options};
 ghost use Rattle.mk_command_line.specs.Commands.{choice_of, first_command, program_for, program_with, shape_of_command, word_of};
 
 use crate::arguments::{
-    backup, color, depth, diff, expression, file, in_place, keep_going, name, new_makefile, notes,
-    nth, output, protocol, refusal, script, session_file, target, variable,
+    backup, color, depth, diff, expression, file, in_place, json, keep_going, name, new_makefile,
+    notes, nth, output, protocol, refusal, script, session_file, target, variable,
 };
 use crate::command_name::{COMMANDS, CommandName, QueryName, command_named};
 use crate::help;
@@ -90,6 +90,15 @@ fn with_choice<'a>(alloc: Global, query: QueryName) -> Result<Command<'a>, Alloc
     }
 }
 
+// A query with its options before `--notes`.
+fn query_options<'a>(alloc: Global, query: QueryName) -> Result<Command<'a>, AllocError>
+    ensures app { IfOk result (λ command. app_of command
+        ≡ leaf (word_of (CommandName.Query query)) (query_options query)) }
+    ensures local { IfOk result (λ command. (fields_of command).has_globals ≡ false) }
+{
+    with_choice(alloc, query)?.arg(json(alloc))
+}
+
 // `get` with its options.
 fn get_options<'a>(alloc: Global) -> Result<Command<'a>, AllocError>
     ensures app { IfOk result (λ get. app_of get ≡ leaf (word_of CommandName.Get) get_options) }
@@ -117,6 +126,7 @@ fn session_options<'a>(alloc: Global) -> Result<Command<'a>, AllocError>
     titled(alloc, CommandName::Session)
         .arg(depth(alloc))?
         .arg(protocol(alloc))?
+        .arg(json(alloc))?
         .arg(new_makefile(alloc))
 }
 
@@ -135,7 +145,7 @@ fn command<'a>(alloc: Global, name: CommandName) -> Result<Command<'a>, AllocErr
 {
     match name {
         CommandName::Edit => edit(alloc),
-        CommandName::Query(query) => with_choice(alloc, query)?
+        CommandName::Query(query) => query_options(alloc, query)?
             .arg(notes(alloc))?
             .arg(file(alloc)),
         CommandName::Get => get(alloc),

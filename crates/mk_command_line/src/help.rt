@@ -74,7 +74,7 @@ prints
     2:1: export CFLAGS += -g
     4:0: all: CC = gcc
 and with `--name CC` the second of these lines alone. Where there is no such line it prints nothing, and
-the status is 0.
+the status is 0. docs/EDITS.md has the members of the objects that --json prints.
 ";
 
 // What `rules` does, in a line.
@@ -192,7 +192,8 @@ Each line of standard input is a command of a script, as `mkedit help edit` list
 Each is answered at once: the lines of an answer, each behind `| `, and then a line `ok`, `refused` with
 the number and the name of the refusal, or `fault` with what is wrong. The first line is the version of
 this protocol, which docs/PROTOCOL.md has. FILE changes by `write` and `write!` alone. At a terminal the
-replies are sentences, and each edit shows the lines that it changes.
+replies are sentences, and each edit shows the lines that it changes. With --json each line of an answer
+is a JSON object.
 
 Example: with `CC = gcc # c` in config.mk and the lines `set CC clang`, `print`, `undo`, `undo` and `quit`,
     mkedit session config.mk

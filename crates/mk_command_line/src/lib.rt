@@ -20,6 +20,6 @@ pub mod request;
 
 pub use reading::read_request;
 pub use request::{
-    Backup, Color, EditWords, GetWords, Input, MAX_DEPTH, Output, Query, QueryWords, Request,
+    Backup, Color, EditWords, Form, GetWords, Input, MAX_DEPTH, Output, Query, QueryWords, Request,
     Script, SessionWords,
 };

@@ -8,16 +8,16 @@ ghost use Rattle.clap.specs.declared.error.kind.ErrorKind.TheVariants.{OutOfMemo
 ghost use Rattle.mk_command_line.specs.Commands.{program_for};
 ghost use Rattle.mk_command_line.specs.Requests.{AreApart, Asks, AsksEdit, AsksGet, AsksQuery, AsksSession, GoesTo, IsDepth, IsFlag};
 ghost use Rattle.mk_command_line.specs.Requests.{AreMakefiles, ReadsFrom, file_named, file_of, words_from};
-ghost use Rattle.mk_command_line.specs.Requests.{IsAsked, IsBackup, IsColor, IsNth, IsNumber, is_alone, is_named, is_query, is_suffix};
+ghost use Rattle.mk_command_line.specs.Requests.{IsAsked, IsBackup, IsColor, IsNth, IsNumber, is_alone, is_json, is_named, is_query, is_suffix};
 
 use crate::arguments::{
-    BACKUP, COLOR, DEPTH, DIFF, EXPRESSION, FILE, IN_PLACE, KEEP_GOING, NAME, NEW, NOTES, NTH,
-    OUTPUT, PROTOCOL, REFUSAL, SCRIPT, TARGET, VARIABLE,
+    BACKUP, COLOR, DEPTH, DIFF, EXPRESSION, FILE, IN_PLACE, JSON, KEEP_GOING, NAME, NEW, NOTES,
+    NTH, OUTPUT, PROTOCOL, REFUSAL, SCRIPT, TARGET, VARIABLE,
 };
 use crate::command_name::{CommandName, QueryName, command_named};
 use crate::commands::program_for;
 use crate::request::{
-    Backup, Color, EditWords, GetWords, Input, Output, Query, QueryWords, Request, Script,
+    Backup, Color, EditWords, Form, GetWords, Input, Output, Query, QueryWords, Request, Script,
     SessionWords,
 };
 use clap::error::ErrorKind;
@@ -361,6 +361,17 @@ fn asked<'a>(query: QueryName, matches: &ArgMatches<'a>) -> Query<'a>
     }
 }
 
+// How the answer is written.
+fn form_of(matches: &ArgMatches<'_>) -> Form
+    ensures { IsFlag (codes "json") (rows_of (found_of matches.now)) (is_json result) }
+{
+    if is_set(matches, JSON) {
+        Form::Json
+    } else {
+        Form::Text
+    }
+}
+
 // What the words of a query ask for.
 fn query_words<'a>(
     alloc: Global,
@@ -373,6 +384,7 @@ fn query_words<'a>(
     let files = makefiles(alloc, None, values(matches, FILE))?;
     Ok(QueryWords {
         query: asked(query, matches),
+        form: form_of(matches),
         notes,
         files,
     })
@@ -417,6 +429,7 @@ fn session_words<'a>(
         Some(file) if file != STANDARD => Ok(SessionWords {
             depth,
             by_protocol: is_set(matches, PROTOCOL),
+            form: form_of(matches),
             may_be_new: is_set(matches, NEW),
             file,
         }),

@@ -18,6 +18,15 @@ pub enum Query<'a> {
     Caveats,
 }
 
+/// How an answer is written.
+#[derive(Clone, Copy, Debug, PartialEq, Eq)]
+pub enum Form {
+    /// As lines for a person.
+    Text,
+    /// As lines of JSON for a program: each is an object.
+    Json,
+}
+
 /// Where bytes come from.
 #[derive(Clone, Copy)]
 pub enum Input<'a> {
@@ -90,6 +99,8 @@ pub struct EditWords<'a> {
 pub struct QueryWords<'a> {
     /// What is asked.
     pub query: Query<'a>,
+    /// How the answer is written.
+    pub form: Form,
     /// Whether a message has notes below it.
     pub notes: bool,
     /// The makefiles, one or more.
@@ -116,6 +127,9 @@ pub struct SessionWords<'a> {
     pub depth: u32,
     /// Whether the replies are those of the protocol, also at a terminal.
     pub by_protocol: bool,
+    /// How answers are written. Lines of JSON have the replies of the protocol round them in each case,
+    /// whatever `by_protocol` says.
+    pub form: Form,
     /// Whether a makefile that is missing is opened as an empty one.
     pub may_be_new: bool,
     /// The name of the makefile, which is not `-`.

@@ -6,6 +6,8 @@ pub mod Members
 pub mod OpenConditionals
 pub mod LineMembers
 pub mod JsonLines
+-- Lines of any text
+pub mod TextLines
 -- # Vocabulary of private contracts
 -- Parts of lines, and JSON that is being written
 pub mod PartMembers

@@ -4,6 +4,7 @@
 //! - [`rules`]: an object on the line of each rule, for one target if one is asked for.
 //! - [`recipes`]: an object on each recipe line of each rule, for one target if one is asked for.
 //! - [`check`]: an object on each line that is not read inside, and on what is open at the end.
+//! - [`push_text_line`]: an object on a line of any text.
 //!
 //! Each line of text is an object (JSON Lines). It says in which file and where the line of the
 //! makefile stands, in which branches of which conditionals, and what its parts are. Objects and
@@ -20,6 +21,7 @@
 //! - `parts`: the parts of lines.
 //! - `object`: the object on a line.
 //! - `query`: the queries, each in the module of its name.
+//! - `text_line`: the object on a line of any text.
 #![tactic(auto)]
 
 pub mod conditional;
@@ -29,9 +31,11 @@ mod parts;
 mod place;
 mod query;
 mod surroundings;
+mod text_line;
 mod value;
 
 pub use query::check::check;
 pub use query::recipes::recipes;
 pub use query::rules::rules;
 pub use query::vars::vars;
+pub use text_line::push_text_line;

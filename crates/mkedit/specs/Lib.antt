@@ -12,4 +12,5 @@ pub mod Settled
 pub mod DiffRuns
 pub mod SessionFaults
 pub mod SessionSentences
+pub mod SessionForms
 pub mod SessionReplies

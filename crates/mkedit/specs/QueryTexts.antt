@@ -1,14 +1,21 @@
--- What a query prints of the text of a makefile, and how it ends where nobody reads on; the value that
--- `get` prints, and how it is refused.
+-- What a query prints of the text of a makefile, for a person and as JSON, and how it ends where nobody
+-- reads on; the value that `get` prints, and how it is refused.
 -- Told in docs/EDITS.md, "Queries".
-use Rattle.std.specs.Prelude.{ℕ, List, [], ◌++◌, Bool, true, Option, Some, None, Result, Ok, Err, codes}
+use Rattle.std.specs.Prelude.{ℕ, List, [], ◌++◌, Bool, true, false, Option, Some, None, Result, Ok, Err, Vec, codes, option_map}
+use Rattle.std.specs.Borrow.{Bor}
+use Rattle.mk_tree.specs.Documents.{document_lines}
 use Rattle.mk_queries.specs.Queries.{vars_text, vars_named_text, rules_text, rules_for_text, recipes_text, recipes_for_text, check_text}
 use Rattle.mk_queries.specs.Caveats.{caveats_text}
+use Rattle.mk_json.specs.JsonLines.{check_lines, recipes_lines, rules_lines, vars_lines}
 use Rattle.mk_edit_language.specs.declared.refusal.Refusal.{Refusal}
 use Rattle.mk_lookup.specs.Lookups.{looked_up}
 use Rattle.mk_run.specs.declared.outcome.Outcome.{Outcome}
 use Rattle.mk_run.specs.declared.outcome.Outcome.TheVariants.{Done, Write}
 use Rattle.mk_command_line.specs.declared.request.Query.{Query}
+use Rattle.mk_command_line.specs.declared.request.Form.{Form}
+use Rattle.mk_command_line.specs.declared.request.Form.TheVariants as form
+use Rattle.mkedit.specs.declared.question.Inquiry.{Inquiry}
+use Rattle.mkedit.specs.declared.question.Inquiry.TheVariants as inquiry
 use Rattle.mkedit.specs.declared.question.Question.{Question}
 use Rattle.mkedit.specs.declared.question.Question.TheVariants as question
 use Rattle.mkedit.specs.declared.question.Found.{Found}
@@ -25,6 +32,36 @@ query_text (Recipes (Some target)) text = recipes_for_text target.now text
 query_text Check text = check_text text
 query_text Caveats text = caveats_text text
 
+-- the name or the target that is asked for, if one is
+abbrev pub word_asked : Option (Bor (List ℕ)) → Option (List ℕ)
+word_asked word = option_map (λ word. word.now) word
+
+-- the lines of JSON of a query; the makefile is called by this name in them
+abbrev pub json_text : (file : List ℕ) → Query → List ℕ → List ℕ
+json_text file (Vars name) text = vars_lines file (word_asked name) (document_lines text)
+json_text file (Rules target) text = rules_lines file (word_asked target) (document_lines text)
+json_text file (Recipes target) text = recipes_lines file (word_asked target) (document_lines text)
+json_text file Check text = check_lines file (document_lines text)
+json_text file Caveats text = check_lines file (document_lines text)
+
+-- what is printed for a query, in a form
+abbrev pub text_in_form : Form → (file : List ℕ) → Query → List ℕ → List ℕ
+text_in_form form.Text file query text = query_text query text
+text_in_form form.Json file query text = json_text file query text
+
+-- the question to the makefile of this name
+abbrev pub question_to : (file : Bor (List ℕ)) → Inquiry → Question
+question_to file (inquiry.Query query form.Text) = question.Lines query
+question_to file (inquiry.Query query form.Json) = question.Json query file
+question_to file (inquiry.Value nth name) = question.Value nth name
+
+-- whether the name of the makefile stands before each line of an answer where several are asked; a line
+-- of JSON has it in it
+abbrev pub has_prefix : Inquiry → Bool
+has_prefix (inquiry.Query query form.Text) = true
+has_prefix (inquiry.Query query form.Json) = false
+has_prefix (inquiry.Value nth name) = true
+
 -- a value and the end of its line; nothing where there is a refusal
 abbrev value_line : Result (List ℕ) Refusal → List ℕ
 value_line (Ok value) = value ++ codes "\n"
@@ -37,16 +74,19 @@ refusal_in (Err refusal) = Some refusal
 -- what is printed for a question
 abbrev pub answer_text : Question → List ℕ → List ℕ
 answer_text (question.Lines query) text = query_text query text
+answer_text (question.Json query file) text = json_text file.now query text
 answer_text (question.Value nth name) text = value_line (looked_up text nth name.now)
 
 -- the refusal of a question, if it is refused
 abbrev pub answer_refusal : Question → List ℕ → Option Refusal
 answer_refusal (question.Lines query) text = None
+answer_refusal (question.Json query file) text = None
 answer_refusal (question.Value nth name) text = refusal_in (looked_up text nth name.now)
 
 -- what is printed of what is found for a question
-abbrev pub found_text : Found → List ℕ → List ℕ
+abbrev pub found_text : {B : Type 0} → Found B → List ℕ → List ℕ
 found_text (found.Lines query) text = query_text query text
+found_text (found.Json lines) text = lines.items
 found_text (found.Value value) text = value.now ++ codes "\n"
 
 -- The outcome of a query by how its print ended, and whether a write failed since nobody reads the

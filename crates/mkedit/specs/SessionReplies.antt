@@ -15,7 +15,13 @@ use Rattle.mk_prompt.specs.declared.talk.After.{After}
 use Rattle.mk_prompt.specs.declared.talk.After.TheVariants.{GoesOn, Ends}
 use Rattle.mk_queries.specs.Caveats.{caveats_text}
 use Rattle.mk_queries.specs.Queries.{check_text, recipes_for_text, recipes_text, rules_for_text, rules_text, vars_named_text, vars_text}
+use Rattle.mk_tree.specs.Documents.{document_lines}
+use Rattle.mk_command_line.specs.declared.request.Form.{Form}
+use Rattle.mk_command_line.specs.declared.request.Form.TheVariants as form
+use Rattle.mk_json.specs.JsonLines.{check_lines, recipes_lines, rules_lines, vars_lines}
 use Rattle.mkedit.specs.SessionFaults.{fault_text}
+use Rattle.mkedit.specs.SessionForms.{text_lines}
+use Rattle.mkedit.specs.declared.session.desk.Opened.{Opened}
 use Rattle.mkedit.specs.declared.session.not_done.NotDone.{NotDone}
 use Rattle.mkedit.specs.declared.session.not_done.NotDone.TheVariants.{NoMemory, Refused, BeyondDepth}
 
@@ -36,28 +42,54 @@ IsReverted opened old new (Err (Refused refusal)) =
     (refusal ≡ GroupOpen) × (is_some old.begun ≡ true) × (new ≡ old)
 IsReverted opened old new (Err other) = ⊥
 
--- the answer to a request by the text that is shown, where it has one of these
-abbrev pub answer_in : (text : List ℕ) → Asked → Option (List ℕ)
-answer_in text (Print from to) = Some (lines_between from to text)
-answer_in text (Word word.Vars) = Some (vars_text text)
-answer_in text (Word word.Rules) = Some (rules_text text)
-answer_in text (Word word.Recipes) = Some (recipes_text text)
-answer_in text (Word word.Check) = Some (check_text text)
-answer_in text (Word word.Caveats) = Some (caveats_text text)
-answer_in text (Of of.Vars name) = Some (vars_named_text name text)
-answer_in text (Of of.Rules target) = Some (rules_for_text target text)
-answer_in text (Of of.Recipes target) = Some (recipes_for_text target text)
-answer_in text other = None
+-- the answer to a request by the text that is shown, where it has one of these: for a person
+abbrev answer_for_person : (text : List ℕ) → Asked → Option (List ℕ)
+answer_for_person text (Print from to) = Some (lines_between from to text)
+answer_for_person text (Word word.Vars) = Some (vars_text text)
+answer_for_person text (Word word.Rules) = Some (rules_text text)
+answer_for_person text (Word word.Recipes) = Some (recipes_text text)
+answer_for_person text (Word word.Check) = Some (check_text text)
+answer_for_person text (Word word.Caveats) = Some (caveats_text text)
+answer_for_person text (Of of.Vars name) = Some (vars_named_text name text)
+answer_for_person text (Of of.Rules target) = Some (rules_for_text target text)
+answer_for_person text (Of of.Recipes target) = Some (recipes_for_text target text)
+answer_for_person text other = None
+
+-- the same as lines of JSON, in which the makefile has this name
+abbrev answer_in_json : (file text : List ℕ) → Asked → Option (List ℕ)
+answer_in_json file text (Print from to) = Some (text_lines (lines_between from to text))
+answer_in_json file text (Word word.Vars) = Some (vars_lines file None (document_lines text))
+answer_in_json file text (Word word.Rules) = Some (rules_lines file None (document_lines text))
+answer_in_json file text (Word word.Recipes) = Some (recipes_lines file None (document_lines text))
+answer_in_json file text (Word word.Check) = Some (check_lines file (document_lines text))
+answer_in_json file text (Word word.Caveats) = Some (check_lines file (document_lines text))
+answer_in_json file text (Of of.Vars name) = Some (vars_lines file (Some name) (document_lines text))
+answer_in_json file text (Of of.Rules target) =
+    Some (rules_lines file (Some target) (document_lines text))
+answer_in_json file text (Of of.Recipes target) =
+    Some (recipes_lines file (Some target) (document_lines text))
+answer_in_json file text other = None
+
+-- the same in a form
+abbrev answer_in_form : Form → (file text : List ℕ) → Asked → Option (List ℕ)
+answer_in_form form.Text file text asked = answer_for_person text asked
+answer_in_form form.Json file text asked = answer_in_json file text asked
+
+-- the same in the form in which the makefile was opened
+abbrev pub answer_in : Opened → (text : List ℕ) → Asked → Option (List ℕ)
+answer_in opened text asked = answer_in_form opened.form opened.name.now text asked
 
 -- a request that is done has this answer, if there is one
 abbrev pub HasAnswer : (wanted : Option (List ℕ)) → Result (List ℕ) NotDone → Type 0
 HasAnswer wanted result = IfSome wanted (λ text. IfOk result (λ answer. answer ≡ text))
 
 -- This came of a request, and this is shown before and after it: no other than `revert` changes anything.
-abbrev pub IsRequestDone : Asked → (opened : List ℕ) → (old new : Shown (List ℕ))
+abbrev pub IsRequestDone : Asked → Opened → (old new : Shown (List ℕ))
     → Result (List ℕ) NotDone → Type 0
-IsRequestDone (Word word.Revert) opened old new result = IsReverted opened old new result
-IsRequestDone other opened old new result = (new ≡ old) × HasAnswer (answer_in old.text other) result
+IsRequestDone (Word word.Revert) opened old new result =
+    IsReverted opened.text.items old new result
+IsRequestDone other opened old new result =
+    (new ≡ old) × HasAnswer (answer_in opened old.text other) result
 
 -- whether a request asks that the session ends
 abbrev pub is_quit : Asked → Bool
@@ -79,7 +111,7 @@ IsReplyTo name (Ok text) reply =
 IsReplyTo name (Err why) reply = reply ≡ fault_text why name
 
 -- A line that is no command was answered: it is no request, or it is this one.
-abbrev pub IsOtherAnswered : Option Asked → (opened : List ℕ) → (old : Shown (List ℕ)) → (reply : List ℕ) → After
+abbrev pub IsOtherAnswered : Option Asked → Opened → (old : Shown (List ℕ)) → (reply : List ℕ) → After
     → (new : Shown (List ℕ)) → Type 0
 IsOtherAnswered None opened old reply after new =
     (reply ≡ codes "fault not a command\n") × (after ≡ GoesOn) × (new ≡ old)
@@ -89,7 +121,7 @@ IsOtherAnswered (Some asked) opened old reply after new =
     × (after ≡ after_request asked (is_ok answer))
 
 -- This came of a line as a command, and it was answered.
-abbrev IsCameAnswered : o.Obeyed → (line opened : List ℕ) → (old : Shown (List ℕ)) → (reply : List ℕ) → After
+abbrev IsCameAnswered : o.Obeyed → (line : List ℕ) → Opened → (old : Shown (List ℕ)) → (reply : List ℕ) → After
     → (new : Shown (List ℕ)) → Type 0
 IsCameAnswered NoCommand line opened old reply after new =
     IsOtherAnswered (request_in line) opened old reply after new
@@ -97,7 +129,7 @@ IsCameAnswered came line opened old reply after new =
     (reply ≡ reply_to came) × (after ≡ GoesOn) × (new ≡ old)
 
 -- A line was heard: it was obeyed as a command, and then it was answered.
-abbrev pub IsHeard : (line opened : List ℕ) → (old : Shown (List ℕ)) → (reply : List ℕ) → After → (new : Shown (List ℕ))
+abbrev pub IsHeard : (line : List ℕ) → Opened → (old : Shown (List ℕ)) → (reply : List ℕ) → After → (new : Shown (List ℕ))
     → Type 0
 IsHeard line opened old reply after new =
     (came : o.Obeyed) × (obeyed : Shown (List ℕ)) × IsLineObeyed line old obeyed came

@@ -6,8 +6,8 @@
 //! - `color`: when that diff has colours.
 //! - `several`: a script over several makefiles, by [`mk_run::run_steps`].
 //! - `destination`: where the text of a makefile goes.
-//! - `query`: what a makefile has, by [`mk_queries`] and [`mk_lookup`]; `question`: what is asked of it,
-//!   and what is found.
+//! - `query`: what a makefile has, by [`mk_queries`], [`mk_json`] and [`mk_lookup`]; `question`: what is
+//!   asked of it, and what is found.
 //! - `explain`: why a command is refused; `explanations` has the texts.
 //! - `help`: what a command of a script does; `script_command` has the commands, `command_texts` the texts.
 //! - `files`: files beside the standard streams.
@@ -51,7 +51,7 @@ use ending::{BAD_COMMAND_LINE, End, answered, ended};
 use explain::CalledRefusal;
 use mk_command_line::{Request, read_request};
 use mk_run::Outcome;
-use question::Question;
+use question::Inquiry;
 use std::io::{ErrorKind, IsTerminal};
 use std::process::ExitCode;
 
@@ -92,14 +92,14 @@ fn done(rt: &HostRuntime, words: &[String]) -> ExitCode {
             edit::edit(rt, &words)
         }
         Ok(Request::Query(words)) => {
-            let question = Question::Lines(words.query);
+            let inquiry = Inquiry::Query(words.query, words.form);
             let notes = has_notes(rt, words.notes);
-            query::ask(rt, question, words.files.as_slice(), notes)
+            query::ask(rt, inquiry, words.files.as_slice(), notes)
         }
         Ok(Request::Get(words)) => {
-            let question = Question::Value(words.nth, words.name);
+            let inquiry = Inquiry::Value(words.nth, words.name);
             let notes = has_notes(rt, words.notes);
-            query::ask(rt, question, words.files.as_slice(), notes)
+            query::ask(rt, inquiry, words.files.as_slice(), notes)
         }
         Ok(Request::Explain(CalledRefusal(refusal))) => {
             ended(rt, &End::of(explain::explain(rt, &refusal)), false)

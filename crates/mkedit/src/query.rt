@@ -1,6 +1,7 @@
 //! `mkedit vars`, `mkedit rules`, `mkedit recipes`, `mkedit check` and `mkedit caveats`: what a
-//! makefile has, a line for each thing; and `mkedit get`: the value of a variable.
-ghost use Rattle.std.specs.Prelude.{◌≡◌, ◌↔◌, ◌<◌, ◌+◌, ◌||◌, ℕ, IsTrue, IfSome, OnOk, Err, None, Some, false, true, length, is_ok};
+//! makefile has, a line for each thing, for a person or as JSON; and `mkedit get`: the value of a
+//! variable.
+ghost use Rattle.std.specs.Prelude.{◌≡◌, ◌↔◌, ◌<◌, ◌+◌, ◌||◌, ◌⊎◌, ℕ, IsTrue, IfSome, OnOk, Err, None, Some, false, true, length, if◌then◌else◌, is_ok, option_map};
 ghost use Rattle.std.specs.Io.KnownBytes.{Appends};
 ghost use Rattle.mk_lines.specs.Limits.{max_text};
 ghost use Rattle.mk_lines.specs.Device.{AppendsPrefix};
@@ -9,17 +10,17 @@ ghost use Rattle.mk_tree.specs.Documents.{IsFaithful, IsTooDeep};
 ghost use Rattle.mk_edit_language.specs.declared.refusal.Refusal.{Refusal};
 ghost use Rattle.mk_run.specs.Report.{refusal_text};
 ghost use Rattle.mk_run.specs.RunEnds.{PutsOut, PutsOutIf, ReadsOnce};
-ghost use Rattle.mkedit.specs.declared.query.Unanswered.TheVariants as unanswered;
-ghost use Rattle.mkedit.specs.QueryTexts.{answer_refusal, answer_text, found_text, query_outcome};
+ghost use Rattle.mkedit.specs.QueryTexts.{answer_refusal, answer_text, found_text, has_prefix, query_outcome};
+ghost use Rattle.mkedit.specs.Destinations.{name_of};
 
 use crate::destination::name_of;
 use crate::ending::{CANNOT_OPEN, End, Statuses, finished, tell_not_opened};
 use crate::files::{CannotOpen, open};
 use crate::noted::Noted;
 use crate::notes::{STANDARD_INPUT, STANDARD_OUTPUT};
-use crate::question::{Found, Question, found_for, put_found};
+use crate::question::{Found, Inquiry, Question, Unanswered, found_for, put_found};
 use crate::several::{kept_outcome, put_named, tell_named};
-use mk_command_line::Input;
+use mk_command_line::{Form, Input};
 use mk_lines::source::{BUFFER, MAX_TEXT, read_all};
 use mk_lines::{ByteSink, ByteSource, Fault, StdSink, StdSource};
 use mk_run::{Outcome, write_refusal};
@@ -33,26 +34,9 @@ use std::process::ExitCode;
 // A session that is only looked at: the least depth there is.
 const DEPTH: u32 = 1;
 
-/// Why a question has no answer.
-#[derive(Clone, Copy, Debug, PartialEq, Eq)]
-pub enum Unanswered {
-    /// A device, a limit or memory ended it.
-    Fault(Fault),
-    /// `set` would be refused so for the name that it gives.
-    Refused(Refusal),
-}
-
-impl From<Fault> for Unanswered {
-    ghost from_gives = { λ fault answer. answer ≡ unanswered.Fault fault };
-
-    fn from(fault: Fault) -> Unanswered {
-        Unanswered::Fault(fault)
-    }
-}
-
 // Writes what is found, and flushes it once.
-fn put_out<A: Allocator, W: ByteSink>(
-    found: Found<'_>,
+fn put_out<A: Allocator, B: Allocator, W: ByteSink>(
+    found: Found<'_, B>,
     doc: &Doc<A>,
     out: &mut W,
 ) -> Result<(), Fault>
@@ -66,7 +50,8 @@ fn put_out<A: Allocator, W: ByteSink>(
 }
 
 // Writes the answer that a document has, and flushes it once.
-fn put_answer<A: Allocator, W: ByteSink>(
+fn put_answer<A: Allocator, B: Allocator + Copy, W: ByteSink>(
+    alloc: B,
     question: Question<'_>,
     doc: &Doc<A>,
     out: &mut W,
@@ -81,14 +66,13 @@ fn put_answer<A: Allocator, W: ByteSink>(
         (answer_refusal question.entry (located_text doc.now) ≡ None) }
     ensures refused { (refusal : Refusal) → result ≡ Err (Unanswered.Refused refusal)
         → answer_refusal question.entry (located_text doc.now) ≡ Some refusal }
-    ensures fault { (fault : Fault) → result ≡ Err (Unanswered.Fault fault) → fault ≡ Fault.Write }
+    ensures fault { (fault : Fault) → result ≡ Err (Unanswered.Fault fault)
+        → (fault ≡ Fault.Write) ⊎ (fault ≡ Fault.NoMemory) }
     ensures write { result ≡ Err (Unanswered.Fault Fault.Write) ↔ W.failed out.new ≡ true }
     ensures out { PutsOutIf W.failed W.flushes W.pending out.old out.new (is_ok result) }
 {
-    match found_for(question, doc) {
-        Ok(found) => Ok(put_out(found, doc, out)?),
-        Err(refusal) => Err(Unanswered::Refused(refusal)),
-    }
+    let found = found_for(alloc, question, doc)?;
+    Ok(put_out(found, doc, out)?)
 }
 
 /// Reads a makefile to its end, and writes the answer, which it flushes once.
@@ -139,7 +123,7 @@ where
 {
     let text = read_all(alloc, makefile)?;
     let session = Session::open_vec(alloc, text, DEPTH)?;
-    let answered = put_answer(question, session.doc(), out);
+    let answered = put_answer(alloc, question, session.doc(), out);
     // The program ends soon: it does not give up a box for each line.
     mem::forget(session);
     answered
@@ -284,10 +268,11 @@ fn print_out<'a, R: Read + Drop, P: ByteSink>(
     end_of_query(outcome, name, &makefile, &out)
 }
 
-// Opens a makefile, and answers what it is asked for. A refusal is told on the sink.
+// Opens a makefile, and answers what it is asked for. Where there is a prefix, each line of the answer
+// gets it. A refusal is told on the sink.
 fn ask_one<'a, P: ByteSink>(
     rt: &HostRuntime,
-    question: Question<'_>,
+    inquiry: Inquiry<'_>,
     prefix: Option<&str>,
     file: Input<'a>,
     report: &mut P,
@@ -297,24 +282,38 @@ fn ask_one<'a, P: ByteSink>(
     match file {
         Input::File(name) => {
             let makefile = open(rt, name)?;
+            let question = inquiry.to(name_of(file));
             Ok(print_out(rt, question, prefix, name, makefile, report))
         }
         Input::Standard => {
             let name = STANDARD_INPUT;
+            let question = inquiry.to(name_of(file));
             Ok(print_out(rt, question, prefix, name, rt.stdin(), report))
         }
+    }
+}
+
+// What stands before each line of an answer where several makefiles are asked: the name of the makefile,
+// which a line of JSON has in it.
+fn prefix_of<'a>(inquiry: Inquiry<'_>, file: Input<'a>) -> Option<&'a str>
+    ensures { option_map (λ name. name.now) result
+        ≡ (if has_prefix inquiry.entry then Some (name_of file.entry) else None) }
+{
+    match inquiry {
+        Inquiry::Query(_, Form::Json) => None,
+        Inquiry::Query(_, Form::Text) | Inquiry::Value(_, _) => Some(name_of(file)),
     }
 }
 
 // Answers what one of several makefiles is asked for. What is said of a refusal is gathered in memory.
 fn ask_kept<'a>(
     rt: &HostRuntime,
-    question: Question<'_>,
+    inquiry: Inquiry<'_>,
     file: Input<'a>,
     lines: &mut Vec<u8>,
 ) -> Result<Asked<'a>, CannotOpen<'a>> {
     let mut report = StdSink::new(lines);
-    let asked = ask_one(rt, question, Some(name_of(file)), file, &mut report)?;
+    let asked = ask_one(rt, inquiry, prefix_of(inquiry, file), file, &mut report)?;
     let outcome = kept_outcome(asked.end.outcome, report.failed());
     Ok(Asked {
         end: End {
@@ -326,16 +325,11 @@ fn ask_kept<'a>(
 }
 
 // Answers what several makefiles are asked for, in turn, until nobody reads the output any more.
-fn ask_each(
-    rt: &HostRuntime,
-    question: Question<'_>,
-    files: &[Input<'_>],
-    notes: bool,
-) -> ExitCode {
+fn ask_each(rt: &HostRuntime, inquiry: Inquiry<'_>, files: &[Input<'_>], notes: bool) -> ExitCode {
     let mut statuses = Statuses::new();
     for file in files {
         let mut lines = Vec::new(rt.alloc());
-        match ask_kept(rt, question, *file, &mut lines) {
+        match ask_kept(rt, inquiry, *file, &mut lines) {
             Ok(asked) => {
                 statuses.add(tell_named(rt, *file, &mut lines, &[], &asked.end, notes));
                 if asked.is_left {
@@ -353,13 +347,13 @@ fn ask_each(
 
 /// Answers what the makefiles are asked for, on standard output, and answers the status. Where nobody
 /// reads that to its end, it ends as where all was read.
-pub fn ask(rt: &HostRuntime, question: Question<'_>, files: &[Input<'_>], notes: bool) -> ExitCode {
+pub fn ask(rt: &HostRuntime, inquiry: Inquiry<'_>, files: &[Input<'_>], notes: bool) -> ExitCode {
     match files {
         [file] => {
             let mut report = StdSink::new(rt.stderr());
-            let asked = ask_one(rt, question, None, *file, &mut report);
+            let asked = ask_one(rt, inquiry, None, *file, &mut report);
             finished(rt, asked.map(|asked| asked.end), notes)
         }
-        files => ask_each(rt, question, files, notes),
+        files => ask_each(rt, inquiry, files, notes),
     }
 }

@@ -3,11 +3,13 @@
 //!
 //! - `desk`: the makefile that is open, and what it answers; `help_text`: what `help` says.
 //! - `journal`: the lines of what can be undone and redone.
+//! - `text_lines`: answers as lines of JSON.
 //! - `protocol`: its replies to a program; `terminal`: its replies to a person, whose words `sentences` has.
 //! - `not_done`: why a request is not done.
 //! - `on_disk`: the makefile's file.
 
 ghost use Rattle.std.specs.Prelude.{◌≡◌, false};
+ghost use Rattle.mkedit.specs.SessionForms.{is_by_protocol};
 
 mod desk;
 mod help_text;
@@ -17,13 +19,14 @@ mod on_disk;
 mod protocol;
 mod sentences;
 mod terminal;
+mod text_lines;
 
 use crate::ending::{End, finished};
 use crate::files::{CannotOpen, open};
 use crate::noted::Noted;
 use crate::notes::{Cause, STANDARD_OUTPUT, SystemFault};
 use desk::Desk;
-use mk_command_line::SessionWords;
+use mk_command_line::{Form, SessionWords};
 use mk_lines::source::read_all;
 use mk_lines::{ByteSink, ByteSource, Fault, StdSink, StdSource};
 use mk_prompt::converse;
@@ -90,9 +93,16 @@ fn reply<S: ByteSource, W: ByteSink>(
     talked
 }
 
+// Whether the replies are those of the protocol, also at a terminal: JSON is for programs.
+fn is_by_protocol(words: SessionWords<'_>) -> bool
+    ensures { result ≡ is_by_protocol words.entry }
+{
+    words.by_protocol || words.form == Form::Json
+}
+
 // Replies to the lines of standard input, on standard output.
-fn talk<'a>(rt: &'a HostRuntime, by_protocol: bool, desk: Desk<'a>) -> End<'a> {
-    let at_terminal = !by_protocol && rt.stdin().is_terminal();
+fn talk<'a>(rt: &'a HostRuntime, words: SessionWords<'a>, desk: Desk<'a>) -> End<'a> {
+    let at_terminal = !is_by_protocol(words) && rt.stdin().is_terminal();
     let mut source = StdSource::new(rt.stdin());
     let mut device = Noted::new(rt.stdout());
     let mut out = StdSink::new(&mut device);
@@ -103,7 +113,7 @@ fn talk<'a>(rt: &'a HostRuntime, by_protocol: bool, desk: Desk<'a>) -> End<'a> {
 // Opens the makefile, and replies to the lines of standard input.
 fn over_file<'a>(rt: &'a HostRuntime, words: SessionWords<'a>) -> Result<End<'a>, CannotOpen<'a>> {
     match open_desk(rt, words)? {
-        Ok(desk) => Ok(talk(rt, words.by_protocol, desk)),
+        Ok(desk) => Ok(talk(rt, words, desk)),
         Err(fault) => Ok(End::of(Outcome::from(fault))),
     }
 }

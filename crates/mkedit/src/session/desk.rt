@@ -3,24 +3,27 @@ ghost use Rattle.std.specs.Prelude.{◌≡◌, IfOk, IsSomeAnd, OnErr, OnOk, is_
 ghost use Rattle.mk_prompt.specs.AnswerLines.{lines_between};
 ghost use Rattle.mk_prompt.specs.Replies.{IsLineObeyed};
 ghost use Rattle.mk_prompt.specs.Requests.{Of, Word, asked_of};
-ghost use Rattle.mk_queries.specs.Queries.{recipes_for_text, rules_for_text, vars_named_text};
+ghost use Rattle.mk_prompt.specs.declared.request.RequestOf.TheVariants as of;
 ghost use Rattle.mk_session.specs.Sessions.{seen_opened};
-ghost use Rattle.mkedit.specs.QueryTexts.{query_text};
+ghost use Rattle.mkedit.specs.QueryTexts.{query_text, text_in_form};
+ghost use Rattle.mkedit.specs.SessionForms.{in_form};
 ghost use Rattle.mkedit.specs.SessionReplies.{HasAnswer, IsRequestDone, IsReverted, after_request, answer_in, answer_text, is_quit};
 
 use super::help_text::HELP;
 use super::journal::{EditMade, Journal};
 use super::not_done::{NotDone, shown_name};
 use super::on_disk::{look, look_missing, put, put_or_make};
+use super::text_lines::text_lines;
 use crate::command_texts::command_text;
 use crate::diff::diff_name;
 use crate::explain::{put_out, refusal_of};
 use crate::explanations::explanation;
 use crate::help::put_help;
-use crate::question::put_lines;
+use crate::question::{json_lines, put_lines};
 use crate::script_command::command_called;
-use mk_command_line::{Input, Query, SessionWords};
+use mk_command_line::{Form, Input, Query, SessionWords};
 use mk_diff::diff;
+use mk_json as json;
 use mk_lines::Fault;
 use mk_lookup::get;
 use mk_prompt::{
@@ -32,14 +35,23 @@ use mk_session::{Refusal, Session};
 use std::alloc::Global;
 use std::str::from_utf8;
 
+/// How a makefile was opened.
+#[derive(Drop)]
+pub struct Opened<'a> {
+    /// Its name, as the command line has it.
+    pub name: &'a str,
+    /// How answers are written.
+    pub form: Form,
+    /// Its text then.
+    pub text: Vec<u8>,
+}
+
 /// A makefile that is open.
 #[derive(Drop)]
 pub struct Desk<'a> {
     rt: &'a HostRuntime,
-    name: &'a str,
     session: Session<Global>,
-    // The text as it was opened.
-    opened: Vec<u8>,
+    opened: Opened<'a>,
     // The text as it was written last, if it was.
     written: Option<Vec<u8>>,
     // Whether there is no file yet.
@@ -92,14 +104,18 @@ impl<'a> Desk<'a> {
         is_missing: bool,
     ) -> Result<Desk<'a>, Fault>
         ensures session { IfOk result (λ desk. desk.session ≡ seen_opened words.entry.depth text.items) }
-        ensures opened { IfOk result (λ desk. desk.opened.items ≡ text.items) }
-        ensures name { IfOk result (λ desk. desk.name ≡ words.entry.file) }
+        ensures opened { IfOk result (λ desk. desk.opened.text.items ≡ text.items) }
+        ensures name { IfOk result (λ desk. desk.opened.name ≡ words.entry.file) }
+        ensures form { IfOk result (λ desk. desk.opened.form ≡ words.entry.form) }
     {
-        let opened = Vec::from_slice(rt.alloc(), text.as_slice())?;
+        let opened = Opened {
+            name: words.file,
+            form: words.form,
+            text: Vec::from_slice(rt.alloc(), text.as_slice())?,
+        };
         let session = Session::open_vec(rt.alloc(), text, words.depth)?;
         Ok(Desk {
             rt,
-            name: words.file,
             session,
             opened,
             written: None,
@@ -116,14 +132,14 @@ impl<'a> Desk<'a> {
 
     /// The name of the makefile, as the command line has it.
     pub fn name(&self) -> &'a str {
-        self.name
+        self.opened.name
     }
 
     /// The bytes that the makefile was left with.
     pub fn left(&self) -> &[u8] {
         match &self.written {
             Some(text) => text.as_slice(),
-            None => self.opened.as_slice(),
+            None => self.opened.text.as_slice(),
         }
     }
 
@@ -150,10 +166,10 @@ impl<'a> Desk<'a> {
     // What has changed since the text was opened.
     fn diff(&self) -> Result<Vec<u8>, NotDone> {
         let text = self.text()?;
-        let name = diff_name(Input::File(self.name));
+        let name = diff_name(Input::File(self.opened.name));
         match diff(
             self.rt.alloc(),
-            self.opened.as_slice(),
+            self.opened.text.as_slice(),
             text.as_slice(),
             name,
         ) {
@@ -162,14 +178,36 @@ impl<'a> Desk<'a> {
         }
     }
 
-    // The answer to a query.
-    fn query(&self, query: Query<'_>) -> Result<Vec<u8>, NotDone>
+    // An answer in the form that is asked for.
+    fn in_form(&self, text: Vec<u8>) -> Result<Vec<u8>, NotDone>
+        ensures { IfOk result (λ answer. answer.items ≡ in_form self.now.opened.form text.items) }
+    {
+        match self.opened.form {
+            Form::Text => Ok(text),
+            Form::Json => Ok(text_lines(self.rt.alloc(), text.as_slice())?),
+        }
+    }
+
+    // The answer to a query, for a person.
+    fn query_text(&self, query: Query<'_>) -> Result<Vec<u8>, NotDone>
         ensures { IfOk result (λ text. text.items ≡ query_text query.entry self.now.session.shown.text) }
     {
         let mut sink = TextSink::new(self.rt.alloc());
         match put_lines(query, self.session.doc(), &mut sink) {
             Ok(()) => Ok(sink.text),
             Err(_) => Err(NotDone::NoMemory),
+        }
+    }
+
+    // The answer to a query, in the form that is asked for.
+    fn query(&self, query: Query<'_>) -> Result<Vec<u8>, NotDone>
+        ensures { IfOk result (λ text. text.items ≡ text_in_form self.now.opened.form
+            self.now.opened.name.now query.entry self.now.session.shown.text) }
+    {
+        let alloc = self.rt.alloc();
+        match self.opened.form {
+            Form::Text => self.query_text(query),
+            Form::Json => Ok(json_lines(alloc, query, self.opened.name, self.session.doc())?),
         }
     }
 
@@ -225,10 +263,16 @@ impl<'a> Desk<'a> {
 
     // The assignments of a name.
     fn vars_named(&self, name: &[u8]) -> Result<Vec<u8>, NotDone>
-        ensures { IfOk result (λ text. text.items ≡ vars_named_text name.now self.now.session.shown.text) }
+        ensures { HasAnswer (answer_in self.now.opened self.now.session.shown.text (Of of.Vars name.now))
+            (answer_text result) }
     {
-        let mut sink = TextSink::new(self.rt.alloc());
-        match vars_named(self.session.doc(), name, &mut sink) {
+        let (alloc, doc) = (self.rt.alloc(), self.session.doc());
+        if self.opened.form == Form::Json {
+            let file = self.opened.name.as_bytes();
+            return Ok(json::vars(alloc, file, doc, Some(name))?);
+        }
+        let mut sink = TextSink::new(alloc);
+        match vars_named(doc, name, &mut sink) {
             Ok(()) => Ok(sink.text),
             Err(_) => Err(NotDone::NoMemory),
         }
@@ -236,10 +280,16 @@ impl<'a> Desk<'a> {
 
     // The rules for a target.
     fn rules_for(&self, target: &[u8]) -> Result<Vec<u8>, NotDone>
-        ensures { IfOk result (λ text. text.items ≡ rules_for_text target.now self.now.session.shown.text) }
+        ensures { HasAnswer (answer_in self.now.opened self.now.session.shown.text (Of of.Rules target.now))
+            (answer_text result) }
     {
-        let mut sink = TextSink::new(self.rt.alloc());
-        match rules_for(self.session.doc(), target, &mut sink) {
+        let (alloc, doc) = (self.rt.alloc(), self.session.doc());
+        if self.opened.form == Form::Json {
+            let file = self.opened.name.as_bytes();
+            return Ok(json::rules(alloc, file, doc, Some(target))?);
+        }
+        let mut sink = TextSink::new(alloc);
+        match rules_for(doc, target, &mut sink) {
             Ok(()) => Ok(sink.text),
             Err(_) => Err(NotDone::NoMemory),
         }
@@ -247,10 +297,16 @@ impl<'a> Desk<'a> {
 
     // The recipe lines of the rules for a target.
     fn recipes_for(&self, target: &[u8]) -> Result<Vec<u8>, NotDone>
-        ensures { IfOk result (λ text. text.items ≡ recipes_for_text target.now self.now.session.shown.text) }
+        ensures { HasAnswer (answer_in self.now.opened self.now.session.shown.text (Of of.Recipes target.now))
+            (answer_text result) }
     {
-        let mut sink = TextSink::new(self.rt.alloc());
-        match recipes_for(self.session.doc(), target, &mut sink) {
+        let (alloc, doc) = (self.rt.alloc(), self.session.doc());
+        if self.opened.form == Form::Json {
+            let file = self.opened.name.as_bytes();
+            return Ok(json::recipes(alloc, file, doc, Some(target))?);
+        }
+        let mut sink = TextSink::new(alloc);
+        match recipes_for(doc, target, &mut sink) {
             Ok(()) => Ok(sink.text),
             Err(_) => Err(NotDone::NoMemory),
         }
@@ -266,9 +322,9 @@ impl<'a> Desk<'a> {
     {
         let text = self.text()?;
         if self.is_missing {
-            put_or_make(self.rt, self.name, text.as_slice())?;
+            put_or_make(self.rt, self.opened.name, text.as_slice())?;
         } else {
-            put(self.rt, self.name, text.as_slice())?;
+            put(self.rt, self.opened.name, text.as_slice())?;
         }
         self.is_missing = false;
         self.written = Some(text);
@@ -284,9 +340,9 @@ impl<'a> Desk<'a> {
         ensures unwritten { OnErr result (self.new.written ≡ self.old.written) }
     {
         if self.is_missing {
-            look_missing(self.rt, self.name)?;
+            look_missing(self.rt, self.opened.name)?;
         } else {
-            look(self.rt, self.name, self.left())?;
+            look(self.rt, self.opened.name, self.left())?;
         }
         self.write_text()
     }
@@ -299,7 +355,7 @@ impl<'a> Desk<'a> {
         let Ok(file) = from_utf8(file) else {
             return Err(NotDone::CannotWrite);
         };
-        if file == self.name {
+        if file == self.opened.name {
             return self.write_if_left();
         }
         let text = self.text()?;
@@ -308,10 +364,14 @@ impl<'a> Desk<'a> {
 
     // Undoes all that can be undone.
     fn revert(&mut self) -> Result<(), NotDone>
-        ensures reverted { IsReverted self.old.opened.items self.old.session.shown self.new.session.shown result }
+        ensures reverted { IsReverted self.old.opened.text.items self.old.session.shown self.new.session.shown result }
         ensures opened { self.new.opened ≡ self.old.opened }
     {
-        let reverted = revert(self.rt.alloc(), &mut self.session, self.opened.as_slice());
+        let reverted = revert(
+            self.rt.alloc(),
+            &mut self.session,
+            self.opened.text.as_slice(),
+        );
         if reverted.is_ok() {
             self.journal.note_reverted();
         }
@@ -338,19 +398,22 @@ impl<'a> Desk<'a> {
 
     // What is answered to a request of one word; the text of the answer.
     fn done_word(&mut self, word: RequestWord) -> Result<Vec<u8>, NotDone>
-        ensures done { IsRequestDone (Word word) self.old.opened.items self.old.session.shown
+        ensures done { IsRequestDone (Word word) self.old.opened self.old.session.shown
             self.new.session.shown (answer_text result) }
         ensures opened { self.new.opened ≡ self.old.opened }
     {
         match word {
-            RequestWord::Diff => return self.diff(),
+            RequestWord::Diff => return self.in_form(self.diff()?),
             RequestWord::Vars => return self.query(Query::Vars(None)),
             RequestWord::Rules => return self.query(Query::Rules(None)),
             RequestWord::Recipes => return self.query(Query::Recipes(None)),
             RequestWord::Check => return self.query(Query::Check),
             RequestWord::Caveats => return self.query(Query::Caveats),
-            RequestWord::History => return Ok(self.journal.text()?),
-            RequestWord::Help => return Ok(Vec::from_slice(self.rt.alloc(), HELP.as_bytes())?),
+            RequestWord::History => return self.in_form(self.journal.text()?),
+            RequestWord::Help => return self.in_form(Vec::from_slice(
+                self.rt.alloc(),
+                HELP.as_bytes(),
+            )?),
             RequestWord::Write => self.write_if_left()?,
             RequestWord::WriteAnyway => self.write_text()?,
             RequestWord::Revert => self.revert()?,
@@ -362,15 +425,15 @@ impl<'a> Desk<'a> {
 
     // What is answered to a request of two words; the text of the answer.
     fn done_of(&mut self, of: RequestOf, word: &[u8]) -> Result<Vec<u8>, NotDone>
-        ensures answer { HasAnswer (answer_in self.old.session.shown.text (Of of word.now))
+        ensures answer { HasAnswer (answer_in self.old.opened self.old.session.shown.text (Of of word.now))
             (answer_text result) }
         ensures session { self.new.session ≡ self.old.session }
         ensures opened { self.new.opened ≡ self.old.opened }
     {
         match of {
-            RequestOf::Explain => self.explain(word),
-            RequestOf::Help => self.help(word),
-            RequestOf::Get => self.get(None, word),
+            RequestOf::Explain => self.in_form(self.explain(word)?),
+            RequestOf::Help => self.in_form(self.help(word)?),
+            RequestOf::Get => self.in_form(self.get(None, word)?),
             RequestOf::Vars => self.vars_named(word),
             RequestOf::Rules => self.rules_for(word),
             RequestOf::Recipes => self.recipes_for(word),
@@ -383,13 +446,13 @@ impl<'a> Desk<'a> {
 
     // What is answered to a request.
     fn done(&mut self, request: Request<'_>) -> Result<Vec<u8>, NotDone>
-        ensures done { IsRequestDone (asked_of request.entry) self.old.opened.items self.old.session.shown
+        ensures done { IsRequestDone (asked_of request.entry) self.old.opened self.old.session.shown
             self.new.session.shown (answer_text result) }
         ensures opened { self.new.opened ≡ self.old.opened }
     {
         match request {
-            Request::Print(from, to) => self.print(from, to),
-            Request::GetNth(nth, name) => self.get_nth(nth, name),
+            Request::Print(from, to) => self.in_form(self.print(from, to)?),
+            Request::GetNth(nth, name) => self.in_form(self.get_nth(nth, name)?),
             Request::Of(of, word) => self.done_of(of, word),
             Request::Word(word) => self.done_word(word),
         }
@@ -400,7 +463,7 @@ impl<'a> Desk<'a> {
         ensures obeyed { IsLineObeyed line.now self.old.session.shown self.new.session.shown result }
         ensures opened { self.new.opened ≡ self.old.opened }
         ensures written { self.new.written ≡ self.old.written }
-        ensures name { self.new.name ≡ self.old.name }
+        ensures name { self.new.opened.name ≡ self.old.opened.name }
     {
         let mut made = EditMade(false);
         let obeyed = obey_line(self.rt.alloc(), &mut self.session, line, &mut made);
@@ -421,13 +484,13 @@ impl<'a> Desk<'a> {
     {
         match request {
             Request::Of(RequestOf::Write, file) => file,
-            _ => shown_name(self.name),
+            _ => shown_name(self.opened.name),
         }
     }
 
     /// Answers a request. The second `quit` in a row ends the session.
     pub fn ask(&mut self, request: Request<'_>) -> Asked
-        ensures done { IsRequestDone (asked_of request.entry) self.old.opened.items self.old.session.shown
+        ensures done { IsRequestDone (asked_of request.entry) self.old.opened self.old.session.shown
             self.new.session.shown (answer_text result.answer) }
         ensures opened { self.new.opened ≡ self.old.opened }
         ensures after { result.after ≡ after_request (asked_of request.entry) (is_ok result.answer) }

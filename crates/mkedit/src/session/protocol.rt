@@ -54,7 +54,7 @@ impl Desk<'_> {
     fn answer_other<W: ByteSink>(&mut self, line: &[u8], out: &mut W) -> Result<After, Fault>
         requires { W.failed out.old ≡ false }
         ensures said { IfOk result (λ after. SaysOut (W.contents out.old) (W.contents out.new) (λ reply.
-            IsOtherAnswered (request_in line.now) self.old.opened.items self.old.session.shown reply after
+            IsOtherAnswered (request_in line.now) self.old.opened self.old.session.shown reply after
             self.new.session.shown)) }
         ensures opened { self.new.opened ≡ self.old.opened }
         ensures fault { IfErr result (λ fault. (fault ≡ Fault.Write) × (W.failed out.new ≡ true)) }
@@ -73,7 +73,7 @@ impl Desk<'_> {
     fn answer_to<W: ByteSink>(&mut self, line: &[u8], out: &mut W) -> Result<After, Fault>
         requires { W.failed out.old ≡ false }
         ensures said { IfOk result (λ after. SaysOut (W.contents out.old) (W.contents out.new) (λ reply.
-            IsHeard line.now self.old.opened.items self.old.session.shown reply after
+            IsHeard line.now self.old.opened self.old.session.shown reply after
             self.new.session.shown
             × (self.new.opened ≡ self.old.opened))) }
         ensures fault { IfErr result (λ fault. (fault ≡ Fault.Write) × (W.failed out.new ≡ true)) }
@@ -94,7 +94,7 @@ impl Listener for Desk<'_> {
     ghost turns_down = { λ _ reply. reply ≡ too_long };
 
     ghost hears = { λ old line reply after new.
-        IsHeard line old.opened.items old.session.shown reply after new.session.shown
+        IsHeard line old.opened old.session.shown reply after new.session.shown
         × (new.opened ≡ old.opened) };
 
     fn greet<W: ByteSink>(&self, out: &mut W) -> Result<(), Fault> {
