@@ -73,7 +73,8 @@ def rules_objects(file, text, only=None):
         parts["prerequisites"] = texts_value(normal)
         parts["order_only"] = texts_value(order)
         if inline is not None:
-            parts["inline_recipe"] = text_value(inline)
+            # (its line end is gone already)
+            parts["inline_recipe"] = text_value(joined(inline + b"\n")[0])
         yield {**place, **parts}
 
 

@@ -31,6 +31,8 @@ from .test_queries import makefiles
 EXAMPLES = TOP / "examples/makefiles"
 # Lines of conditionals that are long, one inside the other, and a line within.
 DEAR = b"".join(b"ifdef " + b"A" * 4000 + b"\n" for _ in range(200)) + b"X = 1\n" * 400
+# How many makefiles are asked in one call.
+MANY = 200
 # The bytes of memory with which the program reads DEAR, and does not have room for its lines of JSON.
 LITTLE = 64 << 20
 
@@ -83,19 +85,29 @@ def without_counts(query, text):
 
 
 class Json(RoomCase):
-    def objects(self, *words, **how):
-        """The objects that a query prints, which has to end well."""
-        got = self.room.run(*words, **how)
+    def lines(self, *words):
+        """The lines that a query prints, which has to end well."""
+        got = self.room.run(*words)
         self.assertEqual((got.stderr, got.status), (b"", 0), words)
-        return [json.loads(line) for line in got.stdout.decode().splitlines()]
+        return re.findall(rb".*\n", got.stdout)
+
+    def objects(self, *words):
+        """The objects that a query prints."""
+        return [json.loads(line) for line in self.lines(*words)]
 
     def test_each_makefile_of_the_tables_is_told_as_it_is_read(self):
-        for query in OBJECTS:
-            for text, name in makefiles().items():
-                with self.subTest(f"{query}, {name}"):
-                    self.room.write("Makefile", text)
-                    wanted = Outcome(json_text(query, b"Makefile", text), b"", 0)
-                    self.assert_run(wanted, query, "--json", "Makefile")
+        texts = {f"m{number}": text for number, text in enumerate(makefiles())}
+        for name, text in texts.items():
+            self.room.write(name, text)
+        for query, start in itertools.product(OBJECTS, range(0, len(texts), MANY)):
+            names = list(texts)[start : start + MANY]
+            with self.subTest(f"{query}, {MANY} makefiles from number {start} on"):
+                told = {name: b"" for name in names}
+                for line in self.lines(query, "--json", *names):
+                    told[json.loads(line)["file"]] += line
+                for name in names:
+                    wanted = json_text(query, name.encode(), texts[name])
+                    self.assertEqual(told[name], wanted, (query, texts[name]))
 
     def test_each_example_is_told_as_it_is_for_a_person(self):
         for folder in sorted(it for it in EXAMPLES.iterdir() if it.is_dir()):
