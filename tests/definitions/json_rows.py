@@ -9,6 +9,9 @@ from tests/lib/json_lines.py, which reads a makefile in Python and writes JSON b
 
 A row of the table has a name, the query, the one name or target that it is asked for, if the column is not
 empty, the name of the file, and the makefile. row_tables.py says how a table is written.
+
+The makefile of a row of `caveats` is one of tests/cases/queries.tsv, which says of which lines the query in
+words tells, and with which sentences. The lines of JSON are on these lines and have these sentences.
 """
 
 import re
@@ -19,7 +22,9 @@ sys.path.insert(0, str(Path(__file__).resolve().parents[2]))
 
 from reading_rows import antt_text
 from row_tables import rows_of_table, unescape
-from tests.lib.json_lines import json_text
+from tests.lib.json_lines import caveats_text, json_text
+
+QUERIES = Path(__file__).resolve().parents[1] / "cases" / "queries.tsv"
 
 
 def drawn_text(text):
@@ -27,17 +32,29 @@ def drawn_text(text):
     return re.sub(r"[\x80-\xa0\xad]", lambda found: f"\\u{{{ord(found.group()):x}}}", antt_text(text))
 
 
+def told_by_caveats():
+    """What `caveats` prints of each makefile of the table of queries."""
+    rows = (row for row in rows_of_table(QUERIES) if row["query"] == "caveats")
+    return {unescape(row["makefile"]).encode("latin-1"): unescape(row["stdout"]).encode("latin-1") for row in rows}
+
+
 def rows(table):
     """The rows: name, query, word or None, file, makefile and text."""
+    told = told_by_caveats()
     for row in rows_of_table(table):
+        query = row["query"]
         word, file, makefile = (unescape(row[it]).encode("latin-1") for it in ("word", "file", "makefile"))
         word = word or None
-        yield row["name"], row["query"], word, file, makefile, json_text(row["query"], file, makefile, word)
+        if query == "caveats":
+            text = caveats_text(file, makefile, told[makefile])
+        else:
+            text = json_text(query, file, makefile, word)
+        yield row["name"], query, word, file, makefile, text
 
 
 def drawn_word(query, word):
-    """The name or target that a query is asked for, as an argument; `check` has none."""
-    if query == "check":
+    """The name or target that a query is asked for, as an argument; `check` and `caveats` have none."""
+    if query in ("check", "caveats"):
         return ""
     return " None" if word is None else f" (Some {drawn_text(word)})"
 
@@ -47,7 +64,7 @@ def print_equations(table):
     print("use Rattle.std.proofs.Common.{◌≡◌, refl, []}")
     print("use Rattle.std.specs.Prelude.{Some, None, codes}")
     print("use Rattle.mk_tree.specs.Documents.{document_lines}")
-    print("use Rattle.mk_json.specs.JsonLines.{check_lines, recipes_lines, rules_lines, vars_lines}")
+    print("use Rattle.mk_json.specs.JsonLines.{caveats_lines, check_lines, recipes_lines, rules_lines, vars_lines}")
     print("use Rattle.mk_json.proofs.OnLiterals.{lines_on_literals}")
     for name, query, word, file, makefile, text in rows(table):
         row = "row_" + name.replace("-", "_")

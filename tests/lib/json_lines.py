@@ -73,7 +73,8 @@ def rules_objects(file, text, only=None):
         parts["prerequisites"] = texts_value(normal)
         parts["order_only"] = texts_value(order)
         if inline is not None:
-            parts["inline_recipe"] = text_value(inline)
+            # (its line end is gone already)
+            parts["inline_recipe"] = text_value(joined(inline + b"\n")[0])
         yield {**place, **parts}
 
 
@@ -102,6 +103,30 @@ def check_objects(file, text):
         yield {"file": text_value(file), "kind": "end", **counts}
 
 
+# The kind of each sentence of `caveats` (docs/LANGUAGE.md, chapter 8).
+KINDS = {
+    "make may take this for a recipe line: an opaque line above is empty for make": "after_empty",
+    "make may take this for a recipe line: it may skip the conditional above": "after_conditional",
+    "make may obey this as a line of a conditional": "conditional",
+    "make may begin a define here": "define",
+    "make may set a variable here that no edit finds": "assignment",
+    "make may set the recipe prefix here": "prefix",
+    "make may take nothing from this rule: another one has the recipe of its target": "bare_rule",
+}
+
+
+def caveats_objects(file, text, told):
+    """The objects on the lines of which the query in words tells: `told` is what it prints."""
+    numbers, sentences = zip(*(it.split(": ", 1) for it in told.decode().splitlines())) if told else ((), ())
+    caveats = dict(zip(map(int, numbers), sentences))
+    for line, place in standing(file, text):
+        sentence = caveats.pop(line.number, None)
+        if sentence is not None:
+            yield {**place, "kind": KINDS[sentence], "sentence": sentence}
+    if caveats:
+        raise ValueError(f"no line begins at {min(caveats)}")
+
+
 OBJECTS = {"vars": vars_objects, "rules": rules_objects, "recipes": recipes_objects, "check": check_objects}
 
 
@@ -111,6 +136,11 @@ def lines_of(objects):
     return "".join(lines).encode("utf-8")
 
 
+def caveats_text(file, text, told):
+    """The lines of JSON of `caveats`, where the query in words prints this."""
+    return lines_of(caveats_objects(file, text, told))
+
+
 def json_text(query, file, text, only=None):
-    """The lines of JSON of a query."""
+    """The lines of JSON of a query other than `caveats`."""
     return lines_of(OBJECTS[query](file, text, only) if only is not None else OBJECTS[query](file, text))

@@ -9,8 +9,9 @@ import json
 import re
 
 from tests import TOP
+from tests.lib import reading
 from tests.lib.checks import Outcome
-from tests.lib.json_lines import OBJECTS, json_text
+from tests.lib.json_lines import caveats_text, json_text
 from tests.lib.rooms import (
     ANSWERS,
     NO_MEMORY,
@@ -31,8 +32,17 @@ from .test_queries import makefiles
 EXAMPLES = TOP / "examples/makefiles"
 # Lines of conditionals that are long, one inside the other, and a line within.
 DEAR = b"".join(b"ifdef " + b"A" * 4000 + b"\n" for _ in range(200)) + b"X = 1\n" * 400
+# How many makefiles are asked in one call.
+MANY = 200
 # The bytes of memory with which the program reads DEAR, and does not have room for its lines of JSON.
 LITTLE = 64 << 20
+
+
+def told(query, file, text, only=None):
+    """The lines of JSON that a query has to print."""
+    if query == "caveats":
+        return caveats_text(file, text, reading.QUERIES[query](text))
+    return json_text(query, file, text, only)
 
 
 def joined(*parts):
@@ -74,6 +84,7 @@ LINES = {
     "rules": lambda it: f"{place(it)}{rule_line(it)}\n",
     "recipes": lambda it: f"{place(it)}{recipe_line(it)}\n",
     "check": check_lines,
+    "caveats": lambda it: f"{it['line']}: {it['sentence']}\n",
 }
 
 
@@ -83,47 +94,57 @@ def without_counts(query, text):
 
 
 class Json(RoomCase):
-    def objects(self, *words, **how):
-        """The objects that a query prints, which has to end well."""
-        got = self.room.run(*words, **how)
+    def lines(self, *words):
+        """The lines that a query prints, which has to end well."""
+        got = self.room.run(*words)
         self.assertEqual((got.stderr, got.status), (b"", 0), words)
-        return [json.loads(line) for line in got.stdout.decode().splitlines()]
+        return re.findall(rb".*\n", got.stdout)
+
+    def objects(self, *words):
+        """The objects that a query prints."""
+        return [json.loads(line) for line in self.lines(*words)]
 
     def test_each_makefile_of_the_tables_is_told_as_it_is_read(self):
-        for query in OBJECTS:
-            for text, name in makefiles().items():
-                with self.subTest(f"{query}, {name}"):
-                    self.room.write("Makefile", text)
-                    wanted = Outcome(json_text(query, b"Makefile", text), b"", 0)
-                    self.assert_run(wanted, query, "--json", "Makefile")
+        texts = {f"m{number}": text for number, text in enumerate(makefiles())}
+        for name, text in texts.items():
+            self.room.write(name, text)
+        for query, start in itertools.product(ANSWERS, range(0, len(texts), MANY)):
+            names = list(texts)[start : start + MANY]
+            with self.subTest(f"{query}, {MANY} makefiles from number {start} on"):
+                printed = {name: b"" for name in names}
+                for line in self.lines(query, "--json", *names):
+                    printed[json.loads(line)["file"]] += line
+                for name in names:
+                    wanted = told(query, name.encode(), texts[name])
+                    self.assertEqual(printed[name], wanted, (query, texts[name]))
 
     def test_each_example_is_told_as_it_is_for_a_person(self):
         for folder in sorted(it for it in EXAMPLES.iterdir() if it.is_dir()):
             name = f"{folder.name}/Makefile"
             for query, line_of in LINES.items():
                 with self.subTest(f"{query}, {name}"):
-                    told = self.objects(query, "--json", str(folder / "Makefile"))
+                    objects = self.objects(query, "--json", str(folder / "Makefile"))
                     plain = (folder / query).read_text(encoding="utf-8")
-                    self.assertEqual("".join(map(line_of, told)), without_counts(query, plain))
-                    self.assertEqual({it["file"] for it in told} - {str(folder / "Makefile")}, set())
+                    self.assertEqual("".join(map(line_of, objects)), without_counts(query, plain))
+                    self.assertEqual({it["file"] for it in objects} - {str(folder / "Makefile")}, set())
 
     def test_the_lines_are_those_of_one_name_or_target(self):
         for query, option in OPTIONS.items():
             for word, text in (("CC", TEXT), ("all", QUERIED), ("main.o", QUERIED), ("", QUERIED)):
                 self.room.write("asked", text)
-                wanted = Outcome(json_text(query, b"asked", text, word.encode()), b"", 0)
+                wanted = Outcome(told(query, b"asked", text, word.encode()), b"", 0)
                 self.assert_run(wanted, query, "--json", f"{option}={word}", "asked")
                 self.assert_run(wanted, query, option, word, "asked", "--json", "--notes")
 
     def test_standard_input_is_called_a_dash(self):
-        for query in OBJECTS:
-            wanted = Outcome(json_text(query, b"-", QUERIED), b"", 0)
+        for query in ANSWERS:
+            wanted = Outcome(told(query, b"-", QUERIED), b"", 0)
             self.assert_run(wanted, query, "--json", given=QUERIED)
             self.assert_run(wanted, query, "--json", "-", given=QUERIED)
 
     def test_several_files_have_their_names_in_the_objects_alone(self):
-        for query in OBJECTS:
-            parts = [json_text(query, name, QUERIED) for name in (b"./queried", b"a:b", b"-")]
+        for query in ANSWERS:
+            parts = [told(query, name, QUERIED) for name in (b"./queried", b"a:b", b"-")]
             self.room.write("a:b", QUERIED)
             wanted = Outcome(b"".join(parts), b"", 0)
             self.assert_run(wanted, query, "--json", "./queried", "a:b", "-", given=QUERIED)
@@ -132,18 +153,18 @@ class Json(RoomCase):
         name = 'a "b" \\ \t \u00e4 \u2028'
         text = 'X = "q" \\ \x01 \x7f \u00e4 \u2028\n'.encode()
         self.room.write(name, text)
-        self.assert_run(Outcome(json_text("vars", name.encode(), text), b"", 0), "vars", "--json", name)
-        (told,) = self.objects("vars", "--json", name)
-        self.assertEqual((told["file"], told["value"]), (name, text.decode()[4:-1].rstrip(" \t\r\v\f")))
+        self.assert_run(Outcome(told("vars", name.encode(), text), b"", 0), "vars", "--json", name)
+        (it,) = self.objects("vars", "--json", name)
+        self.assertEqual((it["file"], it["value"]), (name, text.decode()[4:-1].rstrip(" \t\r\v\f")))
 
     def test_a_text_that_is_not_utf_8_is_told_in_base64(self):
         self.room.write("latin", b"ifdef \xe4\nX\xff = \xe2\nendif\n")
-        (told,) = self.objects("vars", "--json", "latin")
-        self.assertEqual((told["name"], told["value"]), ({"base64": "WP8="}, {"base64": "4g=="}))
-        self.assertEqual(told["conditions"][0]["first"], {"line": 1, "text": {"base64": "aWZkZWYg5A=="}})
+        (it,) = self.objects("vars", "--json", "latin")
+        self.assertEqual((it["name"], it["value"]), ({"base64": "WP8="}, {"base64": "4g=="}))
+        self.assertEqual(it["conditions"][0]["first"], {"line": 1, "text": {"base64": "aWZkZWYg5A=="}})
 
     def test_a_file_that_cannot_be_read_stops_no_other(self):
-        line = json_text("vars", b"Makefile", TEXT)
+        line = told("vars", b"Makefile", TEXT)
         self.assert_run(Outcome(line, cannot_open("absent").stderr, 3), "vars", "--json", "absent", "Makefile")
         self.assert_run(cannot_open("absent"), "vars", "--json", "absent")
         self.assert_run(READ_FAULT, "vars", "--json", ".")
@@ -152,16 +173,16 @@ class Json(RoomCase):
         self.assert_run(TOO_DEEP, "check", "--json", "deep")
 
     def test_nothing_is_printed_where_there_is_nothing_to_tell(self):
-        for query in OBJECTS:
+        for query in ANSWERS:
             self.assert_run(silent(0), query, "--json", "empty")
 
     def test_a_fault_of_writing_is_told(self):
-        for query in OBJECTS:
+        for query in ANSWERS:
             with open("/dev/full", "wb") as full:
                 self.assert_run(WRITE_FAULT, query, "--json", "queried", stdout=full)
 
     def test_a_reader_that_leaves_is_no_fault(self):
-        for query in OBJECTS:
+        for query in ANSWERS:
             for names in (("queried",), ("queried", "queried")):
                 with nobody_reads() as pipe:
                     self.assert_run(silent(0), query, "--json", *names, stdout=pipe)
@@ -175,8 +196,8 @@ class Json(RoomCase):
     def test_other_commands_do_not_take_it(self):
         for words in (("get", "--json", "CC", "Makefile"), ("edit", "--json", "script", "Makefile"), ("explain", "--json", "4")):
             self.assert_bad_command_line(*words)
-            told = self.room.run(*words).stderr.decode()
-            self.assertRegex(told, r"^error: unexpected argument '--json' found\n")
+            said = self.room.run(*words).stderr.decode()
+            self.assertRegex(said, r"^error: unexpected argument '--json' found\n")
         for query in ANSWERS:
             self.assert_bad_command_line(query, "--json", "--json", "queried")
             self.assert_bad_command_line(query, "--json=yes", "queried")

@@ -7,9 +7,11 @@ the answers of a session without the option.
 import base64
 import json
 
-from tests.lib.json_lines import OBJECTS, json_text
-from tests.lib.rooms import QUERIED, TEXT, RoomCase
+from tests.lib.json_lines import json_text
+from tests.lib.rooms import ANSWERS, QUERIED, TEXT, RoomCase
 from tests.lib.talks import GREETING, Talk
+
+from .test_json import told
 
 
 def bytes_of(value):
@@ -37,8 +39,8 @@ class JsonSession(RoomCase):
 
     def test_queries_are_answered_as_the_program_answers_them(self):
         talk = self.talk("--json", "queried")
-        for query in OBJECTS:
-            self.assertEqual(talk.answer(query), json_text(query, b"queried", QUERIED), query)
+        for query in ANSWERS:
+            self.assertEqual(talk.answer(query), told(query, b"queried", QUERIED), query)
         for query, word in (("vars", "CC"), ("vars", "no"), ("rules", "all"), ("recipes", "all")):
             wanted = json_text(query, b"queried", QUERIED, word.encode())
             self.assertEqual(talk.answer(f"{query} {word}"), wanted, (query, word))

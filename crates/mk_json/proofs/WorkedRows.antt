@@ -2,7 +2,7 @@
 use Rattle.std.proofs.Common.{◌≡◌, refl, []}
 use Rattle.std.specs.Prelude.{Some, None, codes}
 use Rattle.mk_tree.specs.Documents.{document_lines}
-use Rattle.mk_json.specs.JsonLines.{check_lines, recipes_lines, rules_lines, vars_lines}
+use Rattle.mk_json.specs.JsonLines.{caveats_lines, check_lines, recipes_lines, rules_lines, vars_lines}
 use Rattle.mk_json.proofs.OnLiterals.{lines_on_literals}
 
 row_an_empty_makefile : vars_lines (codes "Makefile") None (document_lines []) ≡ []
@@ -160,3 +160,55 @@ row_recipe_lines_for_one_target = refl
 row_a_recipe_line_that_is_not_utf_8 : recipes_lines (codes "a") None (document_lines (codes "ÿ:\n\techo é\n")) ≡ (codes "{\"file\":\"a\",\"line\":2,\"depth\":0,\"conditions\":[],\"targets\":[{\"base64\":\"/w==\"}],\"number\":1,\"text\":{\"base64\":\"ZWNobyDp\"}}\n")
 unfolding lines_on_literals
 row_a_recipe_line_that_is_not_utf_8 = refl
+
+row_caveats_of_an_empty_makefile : caveats_lines (codes "Makefile") (document_lines []) ≡ []
+unfolding lines_on_literals
+row_caveats_of_an_empty_makefile = refl
+
+row_lines_that_make_reads_alike : caveats_lines (codes "a") (document_lines (codes "X = 1\nt: a\n\tb\n\n# c\n\td\nifdef X\nt2:\n\te\nendif\ninclude f\n")) ≡ []
+unfolding lines_on_literals
+row_lines_that_make_reads_alike = refl
+
+row_lines_below_one_that_is_empty_for_make : caveats_lines (codes "Makefile") (document_lines (codes "t:\n\ta\n\u{b} # c\n\tb\n\tc\n")) ≡ (codes "{\"file\":\"Makefile\",\"line\":4,\"depth\":0,\"conditions\":[],\"kind\":\"after_empty\",\"sentence\":\"make may take this for a recipe line: an opaque line above is empty for make\"}\n{\"file\":\"Makefile\",\"line\":5,\"depth\":0,\"conditions\":[],\"kind\":\"after_empty\",\"sentence\":\"make may take this for a recipe line: an opaque line above is empty for make\"}\n")
+unfolding lines_on_literals
+row_lines_below_one_that_is_empty_for_make = refl
+
+row_lines_below_a_conditional : caveats_lines (codes "a") (document_lines (codes "t:\nifdef Z\n$(info)\nendif\n\tb\n\n\t# c\n")) ≡ (codes "{\"file\":\"a\",\"line\":5,\"depth\":0,\"conditions\":[],\"kind\":\"after_conditional\",\"sentence\":\"make may take this for a recipe line: it may skip the conditional above\"}\n{\"file\":\"a\",\"line\":7,\"depth\":0,\"conditions\":[],\"kind\":\"after_conditional\",\"sentence\":\"make may take this for a recipe line: it may skip the conditional above\"}\n")
+unfolding lines_on_literals
+row_lines_below_a_conditional = refl
+
+row_a_define_after_a_form_feed : caveats_lines (codes "ÿ") (document_lines (codes "\u{c}define D\nX = 1\nendef\n")) ≡ (codes "{\"file\":{\"base64\":\"/w==\"},\"line\":1,\"depth\":0,\"conditions\":[],\"kind\":\"define\",\"sentence\":\"make may begin a define here\"}\n")
+unfolding lines_on_literals
+row_a_define_after_a_form_feed = refl
+
+row_a_define_below_a_folded_line : caveats_lines (codes "a") (document_lines (codes "X = a \\\n  b\n\u{c}define D\nX = 1\nendef\n")) ≡ (codes "{\"file\":\"a\",\"line\":3,\"depth\":0,\"conditions\":[],\"kind\":\"define\",\"sentence\":\"make may begin a define here\"}\n")
+unfolding lines_on_literals
+row_a_define_below_a_folded_line = refl
+
+row_an_assignment_below_an_opaque_line : caveats_lines (codes "a") (document_lines (codes "X = 2\n$(call f)\n\tX = 1\n")) ≡ (codes "{\"file\":\"a\",\"line\":3,\"depth\":0,\"conditions\":[],\"kind\":\"assignment\",\"sentence\":\"make may set a variable here that no edit finds\"}\n")
+unfolding lines_on_literals
+row_an_assignment_below_an_opaque_line = refl
+
+row_a_prefix_set_through_a_reference : caveats_lines (codes "a") (document_lines (codes "P = .RECIPEPREFIX\n$(P) = >\nt:\n>x\n")) ≡ (codes "{\"file\":\"a\",\"line\":2,\"depth\":0,\"conditions\":[],\"kind\":\"prefix\",\"sentence\":\"make may set the recipe prefix here\"}\n")
+unfolding lines_on_literals
+row_a_prefix_set_through_a_reference = refl
+
+row_an_else_inside_a_recipe_in_a_conditional : caveats_lines (codes "a") (document_lines (codes "W = 1\nifndef W\nt:\n\telse\nendif\n")) ≡ (codes "{\"file\":\"a\",\"line\":4,\"depth\":1,\"conditions\":[{\"branch\":{\"line\":2,\"text\":\"ifndef W\"},\"first\":{\"line\":2,\"text\":\"ifndef W\"}}],\"kind\":\"conditional\",\"sentence\":\"make may obey this as a line of a conditional\"}\n")
+unfolding lines_on_literals
+row_an_else_inside_a_recipe_in_a_conditional = refl
+
+row_an_endif_below_an_opaque_line : caveats_lines (codes "a") (document_lines (codes "ifdef Z\n$(info)\n\tendif # c\nX = 2\n")) ≡ (codes "{\"file\":\"a\",\"line\":3,\"depth\":1,\"conditions\":[{\"branch\":{\"line\":1,\"text\":\"ifdef Z\"},\"first\":{\"line\":1,\"text\":\"ifdef Z\"}}],\"kind\":\"conditional\",\"sentence\":\"make may obey this as a line of a conditional\"}\n")
+unfolding lines_on_literals
+row_an_endif_below_an_opaque_line = refl
+
+row_a_bare_rule_alone : caveats_lines (codes "a") (document_lines (codes "t:\nu:\n\tx\nt:\n")) ≡ []
+unfolding lines_on_literals
+row_a_bare_rule_alone = refl
+
+row_bare_rules_in_a_define_and_in_a_branch : caveats_lines (codes "a") (document_lines (codes "define D\nt:\nendef\nt:\n\tx\nifdef Z\nt:\nendif\n")) ≡ (codes "{\"file\":\"a\",\"line\":7,\"depth\":1,\"conditions\":[{\"branch\":{\"line\":6,\"text\":\"ifdef Z\"},\"first\":{\"line\":6,\"text\":\"ifdef Z\"}}],\"kind\":\"bare_rule\",\"sentence\":\"make may take nothing from this rule: another one has the recipe of its target\"}\n")
+unfolding lines_on_literals
+row_bare_rules_in_a_define_and_in_a_branch = refl
+
+row_bare_rules_among_other_lines : caveats_lines (codes "a") (document_lines (codes "\u{c}X = 1\na:\n\tx\nb: ; y\na:\n\u{c}X = 2\nb:\n")) ≡ (codes "{\"file\":\"a\",\"line\":1,\"depth\":0,\"conditions\":[],\"kind\":\"assignment\",\"sentence\":\"make may set a variable here that no edit finds\"}\n{\"file\":\"a\",\"line\":5,\"depth\":0,\"conditions\":[],\"kind\":\"bare_rule\",\"sentence\":\"make may take nothing from this rule: another one has the recipe of its target\"}\n{\"file\":\"a\",\"line\":6,\"depth\":0,\"conditions\":[],\"kind\":\"assignment\",\"sentence\":\"make may set a variable here that no edit finds\"}\n{\"file\":\"a\",\"line\":7,\"depth\":0,\"conditions\":[],\"kind\":\"bare_rule\",\"sentence\":\"make may take nothing from this rule: another one has the recipe of its target\"}\n")
+unfolding lines_on_literals
+row_bare_rules_among_other_lines = refl

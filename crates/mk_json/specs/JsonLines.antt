@@ -1,13 +1,15 @@
 -- Lines of JSON on the lines of a document: an object on each line of which a query says something.
 -- Told in docs/LIBRARY.md, "Lines of JSON".
-use Rattle.std.specs.Prelude.{ℕ, ◌==◌, if◌then◌else◌, ◌&&◌, List, [], ◌∷◌, ◌++◌, Option, Some, None}
+use Rattle.std.specs.Prelude.{ℕ, ◌==◌, if◌then◌else◌, ◌&&◌, List, [], ◌∷◌, ◌++◌, Option, Some, None, option_map}
 use Rattle.mk_class.specs.Contexts.{Context, start}
-use Rattle.mk_tree.specs.LocatedLines.{LocatedLine, context_after_located_lines}
+use Rattle.mk_tree.specs.LocatedLines.{LocatedLine, context_after_located_lines, located_text}
 use Rattle.mk_views.specs.Views.{conditional_of}
 use Rattle.mk_listing.specs.Listings.{RecipeSpot, RuleSpot, Standing, recipes_ahead, rules_ahead, standing, whole}
 use Rattle.mk_listing.specs.declared.position.Position.{Position}
+use Rattle.mk_queries.specs.Caveats.{line_caveats}
+use Rattle.mk_queries.specs.declared.caveat.Caveat.{Caveat}
 use Rattle.mk_json.specs.declared.conditional.OpenConditional.{OpenConditional}
-use Rattle.mk_json.specs.LineMembers.{end_members, place_members, recipe_members, unread_members, variable_members, wanted_rule_members}
+use Rattle.mk_json.specs.LineMembers.{caveat_members, end_members, place_members, recipe_members, unread_members, variable_members, wanted_rule_members}
 use Rattle.mk_json.specs.Members.{Member, object_line}
 use Rattle.mk_json.specs.OpenConditionals.{open_at, open_below}
 
@@ -25,6 +27,15 @@ module _ (file : List ℕ) (document : List LocatedLine) where
   said_of say os (s ∷ ss) =
       said_there os s.position (say s)
       ++ said_of say (open_below os s.position (conditional_of s.line)) ss
+
+  -- the lines of JSON on some lines that have these caveats; above them these conditionals are open
+  abbrev pub caveats_said : List OpenConditional → List Standing → (caveats : List (Option Caveat))
+      → List ℕ
+  caveats_said os [] ks = []
+  caveats_said os (s ∷ ss) [] = []
+  caveats_said os (s ∷ ss) (k ∷ ks) =
+      said_there os s.position (option_map caveat_members k)
+      ++ caveats_said (open_below os s.position (conditional_of s.line)) ss ks
 
   -- the lines of JSON on recipe lines of a rule with these targets
   abbrev pub recipes_said : (targets : List (List ℕ)) → List RecipeSpot → List ℕ
@@ -60,3 +71,8 @@ check_lines f ls =
 -- `recipes`: an object on each recipe line of each rule, for one target if one is asked for
 abbrev pub recipes_lines : (file : List ℕ) → (target : Option (List ℕ)) → List LocatedLine → List ℕ
 recipes_lines f t ls = rules_said f ls (rules_ahead t 1 (whole ls))
+
+-- `caveats`: an object on each line of which the query `caveats` in words tells, with the sentence that
+-- it has of it
+abbrev pub caveats_lines : (file : List ℕ) → List LocatedLine → List ℕ
+caveats_lines f ls = caveats_said f ls [] (standing (whole ls)) (line_caveats (located_text ls))

@@ -11,6 +11,9 @@ use Rattle.mk_tree.specs.LocatedLines.{LocatedLine, text_of_line}
 use Rattle.mk_views.specs.Views.{AssignmentView, RuleView, TargetAssignmentView, assignment_of, rule_of, target_assignment_of}
 use Rattle.mk_listing.specs.Listings.{RecipeSpot, is_for, is_of}
 use Rattle.mk_listing.specs.declared.position.Position.{Position}
+use Rattle.mk_queries.specs.Caveats.{sentence}
+use Rattle.mk_queries.specs.declared.caveat.Caveat.{Caveat}
+use Rattle.mk_queries.specs.declared.caveat.Caveat.TheVariants as caveats
 use Rattle.mk_json.specs.declared.conditional.OpenConditional.{OpenConditional}
 use Rattle.mk_json.specs.JsonValues.{number_value, text_value, texts_value}
 use Rattle.mk_json.specs.Members.{Member, members_of}
@@ -75,6 +78,21 @@ unread_in k = None
 -- `check`, of a line: what kind of line it is, if it is not read inside
 abbrev pub unread_members : LocatedLine → Option (List Member)
 unread_members l = unread_in l.class
+
+-- the kind of a caveat: a word for each sentence
+abbrev pub caveat_kind : Caveat → List ℕ
+caveat_kind caveats.AfterEmpty = codes "after_empty"
+caveat_kind caveats.AfterConditional = codes "after_conditional"
+caveat_kind caveats.Conditional = codes "conditional"
+caveat_kind caveats.Define = codes "define"
+caveat_kind caveats.Assignment = codes "assignment"
+caveat_kind caveats.Prefix = codes "prefix"
+caveat_kind caveats.BareRule = codes "bare_rule"
+
+-- `caveats`, of a line that has one: its kind, and its sentence
+abbrev pub caveat_members : Caveat → List Member
+caveat_members k =
+    (codes "kind", string (caveat_kind k)) ∷ (codes "sentence", string (sentence k)) ∷ []
 
 -- targets, and what stands after them
 abbrev pub target_members : (targets : List (List ℕ)) → Separator → List Member

@@ -2,7 +2,7 @@
 -- Told in docs/LIBRARY.md, "Lines of JSON".
 use Rattle.std.specs.Prelude.{ℕ, List, codes}
 use Rattle.mk_listing.specs.Items.{recipe_spot}
-use Rattle.mk_json.specs.LineMembers.{assignment_members, kind_members, recipe_members, rule_members, target_assignment_members}
+use Rattle.mk_json.specs.LineMembers.{assignment_members, caveat_members, kind_members, recipe_members, rule_members, target_assignment_members}
 use Rattle.mk_json.specs.Members.{Member}
 use Rattle.mk_json.specs.declared.parts.Parts.{Parts}
 use Rattle.mk_json.specs.declared.parts.Parts.TheVariants as parts
@@ -18,5 +18,6 @@ abbrev pub part_members : Parts → List Member
 part_members (parts.Assignment a) = assignment_members a
 part_members (parts.TargetAssignment t) = target_assignment_members t
 part_members (parts.Unread u) = kind_members (kind_text u)
+part_members (parts.Caveat k) = caveat_members k
 part_members (parts.Rule r) = rule_members r
 part_members (parts.Recipe r) = recipe_members r.rule.now.targets (recipe_spot r.line)

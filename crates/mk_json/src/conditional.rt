@@ -22,17 +22,17 @@ pub struct OpenConditional {
 ///
 /// [`AllocError`] if the list could not grow.
 pub(crate) fn pass<A: Allocator>(
-    open: &mut Vec<OpenConditional, A>,
+    conditionals: &mut Vec<OpenConditional, A>,
     position: Position,
     line: Option<Conditional>,
 ) -> Result<(), AllocError>
-    ensures { OnOk result (open.new.items ≡ open_below open.old.items position line) }
+    ensures { OnOk result (conditionals.new.items ≡ open_below conditionals.old.items position line) }
 {
     match line {
-        Some(Conditional::If) => begin_branch(open, position, position),
-        Some(Conditional::Else) => begin_other_branch(open, position),
+        Some(Conditional::If) => begin_branch(conditionals, position, position),
+        Some(Conditional::Else) => begin_other_branch(conditionals, position),
         Some(Conditional::Endif) => {
-            open.pop();
+            conditionals.pop();
             Ok(())
         }
         None => Ok(()),
@@ -41,26 +41,26 @@ pub(crate) fn pass<A: Allocator>(
 
 // Opens a conditional inside of those that are open, in a branch.
 fn begin_branch<A: Allocator>(
-    open: &mut Vec<OpenConditional, A>,
+    conditionals: &mut Vec<OpenConditional, A>,
     first: Position,
     branch: Position,
 ) -> Result<(), AllocError>
-    ensures { OnOk result (open.new.items
-        ≡ open.old.items ++ record { first = first; branch = branch } ∷ []) }
+    ensures { OnOk result (conditionals.new.items
+        ≡ conditionals.old.items ++ record { first = first; branch = branch } ∷ []) }
 {
-    open.push(OpenConditional { first, branch })?;
+    conditionals.push(OpenConditional { first, branch })?;
     Ok(())
 }
 
 // Begins another branch of the innermost conditional that is open.
 fn begin_other_branch<A: Allocator>(
-    open: &mut Vec<OpenConditional, A>,
+    conditionals: &mut Vec<OpenConditional, A>,
     branch: Position,
 ) -> Result<(), AllocError>
-    ensures { OnOk result (open.new.items ≡ in_branch branch open.old.items) }
+    ensures { OnOk result (conditionals.new.items ≡ in_branch branch conditionals.old.items) }
 {
-    match open.pop() {
-        Some(innermost) => begin_branch(open, innermost.first, branch),
+    match conditionals.pop() {
+        Some(innermost) => begin_branch(conditionals, innermost.first, branch),
         None => Ok(()),
     }
 }

@@ -4,6 +4,7 @@
 //! - [`rules`]: an object on the line of each rule, for one target if one is asked for.
 //! - [`recipes`]: an object on each recipe line of each rule, for one target if one is asked for.
 //! - [`check`]: an object on each line that is not read inside, and on what is open at the end.
+//! - [`caveats`]: an object on each line that make may read otherwise, as far as the lines show it.
 //! - [`push_text_line`]: an object on a line of any text.
 //!
 //! Each line of text is an object (JSON Lines). It says in which file and where the line of the
@@ -34,6 +35,7 @@ mod surroundings;
 mod text_line;
 mod value;
 
+pub use query::caveats::caveats;
 pub use query::check::check;
 pub use query::recipes::recipes;
 pub use query::rules::rules;

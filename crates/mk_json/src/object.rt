@@ -27,18 +27,26 @@ pub(crate) fn put_object<A: Allocator, B: Allocator + Copy>(
     alloc: B,
     file: &[u8],
     doc: &Doc<A>,
-    open: &[OpenConditional],
+    conditionals: &[OpenConditional],
     position: Position,
     parts: Option<Parts<'_>>,
 ) -> Result<Vec<u8, B>, AllocError>
     ensures { IfOk result (λ longer. longer.items ≡ text.items
-        ++ said_there file.now doc.now open.now position (option_map part_members parts.entry)) }
+        ++ said_there file.now doc.now conditionals.now position (option_map part_members parts.entry)) }
 {
     let Some(parts) = parts else {
         return Ok(text);
     };
     let mut writer = Writer::new(text);
-    put_members(&mut writer, alloc, file, doc, open, position, &parts)?;
+    put_members(
+        &mut writer,
+        alloc,
+        file,
+        doc,
+        conditionals,
+        position,
+        &parts,
+    )?;
     let mut longer = writer.into_inner();
     longer.push(b'\n')?;
     Ok(longer)
@@ -50,15 +58,15 @@ fn put_members<A: Allocator, B: Allocator + Copy>(
     alloc: B,
     file: &[u8],
     doc: &Doc<A>,
-    open: &[OpenConditional],
+    conditionals: &[OpenConditional],
     position: Position,
     parts: &Parts<'_>,
 ) -> Result<(), AllocError>
     ensures { PutsTokens result writer.old writer.new (json_tokens (object (members_of
-        (place_members file.now doc.now open.now position ++ part_members parts.now)))) }
+        (place_members file.now doc.now conditionals.now position ++ part_members parts.now)))) }
 {
     writer.begin_object()?;
-    put_place(writer, alloc, file, doc, open, position)?;
+    put_place(writer, alloc, file, doc, conditionals, position)?;
     put_parts(writer, alloc, parts)?;
     writer.end_object()
 }

@@ -1,7 +1,7 @@
 //! The parts of lines, as members of their objects.
 ghost use Rattle.std.specs.Prelude.{◌≡◌};
 ghost use Rattle.mk_listing.specs.Items.{recipe_spot};
-ghost use Rattle.mk_json.specs.LineMembers.{assignment_members, kind_members, prerequisite_members, recipe_members, rule_members, target_assignment_members, target_members};
+ghost use Rattle.mk_json.specs.LineMembers.{assignment_members, caveat_kind, caveat_members, kind_members, prerequisite_members, recipe_members, rule_members, target_assignment_members, target_members};
 ghost use Rattle.mk_json.specs.PartMembers.{kind_text, part_members};
 ghost use Rattle.mk_json.specs.Writing.{PutsTokens, tokens_of};
 
@@ -12,6 +12,7 @@ use crate::member::{
 use json::Writer;
 use mk_class::Separator;
 use mk_listing::RecipeLine;
+use mk_queries::Caveat;
 use mk_views::{AssignmentRef, RuleRef, TargetAssignmentRef, WordTexts};
 use std::alloc::{AllocError, Allocator};
 
@@ -28,6 +29,8 @@ pub(crate) enum Parts<'a> {
     Recipe(RecipeParts<'a>),
     /// That the line is kept and not read inside.
     Unread(Unread),
+    /// What make may read in the line otherwise.
+    Caveat(Caveat),
 }
 
 /// The parts of a recipe line.
@@ -78,6 +81,7 @@ pub(crate) fn put_parts<A: Allocator + Copy>(
         Parts::Rule(rule) => put_rule(writer, alloc, rule),
         Parts::Recipe(recipe) => put_recipe(writer, alloc, recipe),
         Parts::Unread(unread) => put_unread(writer, *unread),
+        Parts::Caveat(caveat) => put_caveat(writer, *caveat),
     }
 }
 
@@ -142,6 +146,29 @@ fn put_unread<A: Allocator>(writer: &mut Writer<A>, unread: Unread) -> Result<()
     ensures { PutsTokens result writer.old writer.new (tokens_of (kind_members (kind_text unread))) }
 {
     put_string_member(writer, "kind", unread.kind())
+}
+
+// Puts the kind of a caveat, and its sentence.
+fn put_caveat<A: Allocator>(writer: &mut Writer<A>, caveat: Caveat) -> Result<(), AllocError>
+    ensures { PutsTokens result writer.old writer.new (tokens_of (caveat_members caveat)) }
+{
+    put_string_member(writer, "kind", caveat_kind(caveat))?;
+    put_string_member(writer, "sentence", caveat.sentence())
+}
+
+// The kind of a caveat, as the object on its line has it.
+fn caveat_kind(caveat: Caveat) -> &'static str
+    ensures { result.now ≡ caveat_kind caveat }
+{
+    match caveat {
+        Caveat::AfterEmpty => "after_empty",
+        Caveat::AfterConditional => "after_conditional",
+        Caveat::Conditional => "conditional",
+        Caveat::Define => "define",
+        Caveat::Assignment => "assignment",
+        Caveat::Prefix => "prefix",
+        Caveat::BareRule => "bare_rule",
+    }
 }
 
 // Puts targets, and what stands after them.

@@ -25,16 +25,16 @@ pub(crate) fn put_place<A: Allocator, B: Allocator + Copy>(
     alloc: B,
     file: &[u8],
     doc: &Doc<A>,
-    open: &[OpenConditional],
+    conditionals: &[OpenConditional],
     position: Position,
 ) -> Result<(), AllocError>
     ensures { PutsTokens result writer.old writer.new
-        (tokens_of (place_members file.now doc.now open.now position)) }
+        (tokens_of (place_members file.now doc.now conditionals.now position)) }
 {
     put_text_member(writer, alloc, "file", file)?;
     put_number_member(writer, "line", position.number)?;
     put_number_member(writer, "depth", usize::from(position.conditionals))?;
-    put_conditions_member(writer, alloc, doc, open)
+    put_conditions_member(writer, alloc, doc, conditionals)
 }
 
 // Puts the member of the open conditionals.
@@ -42,13 +42,13 @@ fn put_conditions_member<A: Allocator, B: Allocator + Copy>(
     writer: &mut Writer<B>,
     alloc: B,
     doc: &Doc<A>,
-    open: &[OpenConditional],
+    conditionals: &[OpenConditional],
 ) -> Result<(), AllocError>
     ensures { PutsTokens result writer.old writer.new
-        (member_tokens (codes "conditions", array (condition_items doc.now open.now))) }
+        (member_tokens (codes "conditions", array (condition_items doc.now conditionals.now))) }
 {
     writer.key("conditions")?;
-    put_conditions(writer, alloc, doc, open)
+    put_conditions(writer, alloc, doc, conditionals)
 }
 
 // Puts open conditionals: an array that has each as an object.
@@ -56,13 +56,13 @@ fn put_conditions<A: Allocator, B: Allocator + Copy>(
     writer: &mut Writer<B>,
     alloc: B,
     doc: &Doc<A>,
-    open: &[OpenConditional],
+    conditionals: &[OpenConditional],
 ) -> Result<(), AllocError>
     ensures { PutsTokens result writer.old writer.new
-        (json_tokens (array (condition_items doc.now open.now))) }
+        (json_tokens (array (condition_items doc.now conditionals.now))) }
 {
     writer.begin_array()?;
-    put_items(writer, alloc, doc, open)
+    put_items(writer, alloc, doc, conditionals)
 }
 
 // Puts open conditionals, and the end of the array.
@@ -70,12 +70,12 @@ fn put_items<A: Allocator, B: Allocator + Copy>(
     writer: &mut Writer<B>,
     alloc: B,
     doc: &Doc<A>,
-    open: &[OpenConditional],
+    conditionals: &[OpenConditional],
 ) -> Result<(), AllocError>
     ensures { PutsTokens result writer.old writer.new
-        (items_tokens (condition_items doc.now open.now)) }
+        (items_tokens (condition_items doc.now conditionals.now)) }
 {
-    'conditions: for conditional in open {
+    'conditions: for conditional in conditionals {
         put_condition(writer, alloc, doc, *conditional)?;
     }
     writer.end_array()

@@ -1,7 +1,7 @@
 //! The queries by name.
 ghost use Rattle.mk_tree.specs.Documents.{IsFaithful};
 
-use mk_json::{check, recipes, rules, vars};
+use mk_json::{caveats, check, recipes, rules, vars};
 use mk_tree::Doc;
 use std::alloc::{AllocError, Allocator};
 
@@ -12,6 +12,7 @@ pub enum Query {
     Rules,
     Recipes,
     Check,
+    Caveats,
 }
 
 impl Query {
@@ -30,6 +31,7 @@ impl Query {
             Query::Rules => rules(alloc, file, doc, word),
             Query::Recipes => recipes(alloc, file, doc, word),
             Query::Check => check(alloc, file, doc),
+            Query::Caveats => caveats(alloc, file, doc),
         }
     }
 }

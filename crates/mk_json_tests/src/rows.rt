@@ -10,7 +10,7 @@ pub struct Row {
     pub text: &'static [u8],
 }
 
-pub static ROWS: [Row; 39] = [
+pub static ROWS: [Row; 52] = [
     // an empty makefile
     Row {
         query: Query::Vars,
@@ -322,5 +322,109 @@ pub static ROWS: [Row; 39] = [
         file: b"a",
         makefile: b"\xff:\n\techo \xe9\n",
         text: b"{\"file\":\"a\",\"line\":2,\"depth\":0,\"conditions\":[],\"targets\":[{\"base64\":\"/w==\"}],\"number\":1,\"text\":{\"base64\":\"ZWNobyDp\"}}\n",
+    },
+    // caveats of an empty makefile
+    Row {
+        query: Query::Caveats,
+        word: None,
+        file: b"Makefile",
+        makefile: b"",
+        text: b"",
+    },
+    // lines that make reads alike
+    Row {
+        query: Query::Caveats,
+        word: None,
+        file: b"a",
+        makefile: b"X = 1\nt: a\n\tb\n\n# c\n\td\nifdef X\nt2:\n\te\nendif\ninclude f\n",
+        text: b"",
+    },
+    // lines below one that is empty for make
+    Row {
+        query: Query::Caveats,
+        word: None,
+        file: b"Makefile",
+        makefile: b"t:\n\ta\n\x0b # c\n\tb\n\tc\n",
+        text: b"{\"file\":\"Makefile\",\"line\":4,\"depth\":0,\"conditions\":[],\"kind\":\"after_empty\",\"sentence\":\"make may take this for a recipe line: an opaque line above is empty for make\"}\n{\"file\":\"Makefile\",\"line\":5,\"depth\":0,\"conditions\":[],\"kind\":\"after_empty\",\"sentence\":\"make may take this for a recipe line: an opaque line above is empty for make\"}\n",
+    },
+    // lines below a conditional
+    Row {
+        query: Query::Caveats,
+        word: None,
+        file: b"a",
+        makefile: b"t:\nifdef Z\n$(info)\nendif\n\tb\n\n\t# c\n",
+        text: b"{\"file\":\"a\",\"line\":5,\"depth\":0,\"conditions\":[],\"kind\":\"after_conditional\",\"sentence\":\"make may take this for a recipe line: it may skip the conditional above\"}\n{\"file\":\"a\",\"line\":7,\"depth\":0,\"conditions\":[],\"kind\":\"after_conditional\",\"sentence\":\"make may take this for a recipe line: it may skip the conditional above\"}\n",
+    },
+    // a define after a form feed
+    Row {
+        query: Query::Caveats,
+        word: None,
+        file: b"\xff",
+        makefile: b"\x0cdefine D\nX = 1\nendef\n",
+        text: b"{\"file\":{\"base64\":\"/w==\"},\"line\":1,\"depth\":0,\"conditions\":[],\"kind\":\"define\",\"sentence\":\"make may begin a define here\"}\n",
+    },
+    // a define below a folded line
+    Row {
+        query: Query::Caveats,
+        word: None,
+        file: b"a",
+        makefile: b"X = a \\\n  b\n\x0cdefine D\nX = 1\nendef\n",
+        text: b"{\"file\":\"a\",\"line\":3,\"depth\":0,\"conditions\":[],\"kind\":\"define\",\"sentence\":\"make may begin a define here\"}\n",
+    },
+    // an assignment below an opaque line
+    Row {
+        query: Query::Caveats,
+        word: None,
+        file: b"a",
+        makefile: b"X = 2\n$(call f)\n\tX = 1\n",
+        text: b"{\"file\":\"a\",\"line\":3,\"depth\":0,\"conditions\":[],\"kind\":\"assignment\",\"sentence\":\"make may set a variable here that no edit finds\"}\n",
+    },
+    // a prefix set through a reference
+    Row {
+        query: Query::Caveats,
+        word: None,
+        file: b"a",
+        makefile: b"P = .RECIPEPREFIX\n$(P) = >\nt:\n>x\n",
+        text: b"{\"file\":\"a\",\"line\":2,\"depth\":0,\"conditions\":[],\"kind\":\"prefix\",\"sentence\":\"make may set the recipe prefix here\"}\n",
+    },
+    // an else inside a recipe in a conditional
+    Row {
+        query: Query::Caveats,
+        word: None,
+        file: b"a",
+        makefile: b"W = 1\nifndef W\nt:\n\telse\nendif\n",
+        text: b"{\"file\":\"a\",\"line\":4,\"depth\":1,\"conditions\":[{\"branch\":{\"line\":2,\"text\":\"ifndef W\"},\"first\":{\"line\":2,\"text\":\"ifndef W\"}}],\"kind\":\"conditional\",\"sentence\":\"make may obey this as a line of a conditional\"}\n",
+    },
+    // an endif below an opaque line
+    Row {
+        query: Query::Caveats,
+        word: None,
+        file: b"a",
+        makefile: b"ifdef Z\n$(info)\n\tendif # c\nX = 2\n",
+        text: b"{\"file\":\"a\",\"line\":3,\"depth\":1,\"conditions\":[{\"branch\":{\"line\":1,\"text\":\"ifdef Z\"},\"first\":{\"line\":1,\"text\":\"ifdef Z\"}}],\"kind\":\"conditional\",\"sentence\":\"make may obey this as a line of a conditional\"}\n",
+    },
+    // a bare rule alone
+    Row {
+        query: Query::Caveats,
+        word: None,
+        file: b"a",
+        makefile: b"t:\nu:\n\tx\nt:\n",
+        text: b"",
+    },
+    // bare rules in a define and in a branch
+    Row {
+        query: Query::Caveats,
+        word: None,
+        file: b"a",
+        makefile: b"define D\nt:\nendef\nt:\n\tx\nifdef Z\nt:\nendif\n",
+        text: b"{\"file\":\"a\",\"line\":7,\"depth\":1,\"conditions\":[{\"branch\":{\"line\":6,\"text\":\"ifdef Z\"},\"first\":{\"line\":6,\"text\":\"ifdef Z\"}}],\"kind\":\"bare_rule\",\"sentence\":\"make may take nothing from this rule: another one has the recipe of its target\"}\n",
+    },
+    // bare rules among other lines
+    Row {
+        query: Query::Caveats,
+        word: None,
+        file: b"a",
+        makefile: b"\x0cX = 1\na:\n\tx\nb: ; y\na:\n\x0cX = 2\nb:\n",
+        text: b"{\"file\":\"a\",\"line\":1,\"depth\":0,\"conditions\":[],\"kind\":\"assignment\",\"sentence\":\"make may set a variable here that no edit finds\"}\n{\"file\":\"a\",\"line\":5,\"depth\":0,\"conditions\":[],\"kind\":\"bare_rule\",\"sentence\":\"make may take nothing from this rule: another one has the recipe of its target\"}\n{\"file\":\"a\",\"line\":6,\"depth\":0,\"conditions\":[],\"kind\":\"assignment\",\"sentence\":\"make may set a variable here that no edit finds\"}\n{\"file\":\"a\",\"line\":7,\"depth\":0,\"conditions\":[],\"kind\":\"bare_rule\",\"sentence\":\"make may take nothing from this rule: another one has the recipe of its target\"}\n",
     },
 ];

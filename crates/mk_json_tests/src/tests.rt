@@ -1,6 +1,6 @@
 use crate::rows::{ROWS, Row};
 use mk_class::Meter;
-use mk_json::{check, recipes, rules, vars};
+use mk_json::{caveats, check, recipes, rules, vars};
 use mk_lines::Fault;
 use mk_tree::Doc;
 use std::test::Fail;
@@ -73,5 +73,22 @@ fn check_ends_where_a_growth_is_refused(rt: HostRuntime) -> Result<(), Fail> {
         assert!(rt; is_refused == heap.has_refused());
         assert!(rt; is_refused || 4 < admitted);
     }
+    Ok(())
+}
+
+// A makefile with a caveat of each kind, the last of them inside of a conditional.
+const CAVEATS: &[u8] =
+    b"s:\n\tx\nt:\n\x0c\n\ty\nu:\nifdef A\nB = 1\nendif\n\tC = 2\nD = 3\n\x0cdefine E\n\x0cF = 4\n$(G) = h\nifdef \xff\ns:\n\x0celse\nendif\n";
+
+#[test]
+fn caveats_ends_where_a_growth_is_refused(rt: HostRuntime) -> Result<(), Fail> {
+    let doc = Doc::parse(rt.alloc(), CAVEATS, &mut Meter::new())?;
+    for admitted in 0..GROWTHS {
+        let heap = Watched::refusing_one_after(rt.alloc(), admitted);
+        let is_refused = caveats(&heap, b"\xff", &doc).is_err();
+        assert!(rt; is_refused == heap.has_refused());
+        assert!(rt; is_refused || 4 < admitted);
+    }
+    assert!(rt; caveats(rt.alloc(), b"\xff", &doc).is_ok());
     Ok(())
 }

@@ -1,16 +1,13 @@
 -- What walks over the lines of a document say of the lines ahead.
-use Rattle.std.specs.Prelude.{ℕ, ◌+◌, nat_le, Option, List, [], ◌∷◌, ◌++◌, option_map}
+use Rattle.std.specs.Prelude.{ℕ, ◌+◌, Option, List, [], ◌∷◌, ◌++◌, option_map}
 use Rattle.std.specs.Borrow.{Bor}
-use Rattle.std.specs.Option.{option_or}
 use Rattle.mk_class.specs.Contexts.{Context, context_after_located}
 use Rattle.mk_class.specs.declared.class.Class.{Class}
 use Rattle.mk_tree.specs.LocatedLines.{LocatedLine, text_of_line}
-use Rattle.mk_queries.specs.declared.seen.Seen.{Seen}
-use Rattle.mk_queries.specs.Caveats.{bare_caveat, caveat_of, caveat_text}
-use Rattle.mk_queries.specs.BareRules.{left_below}
-use Rattle.mk_queries.specs.BareRuleWalks.{looked_ahead}
+use Rattle.mk_queries.specs.declared.caveat.Caveat.{Caveat}
+use Rattle.mk_queries.specs.Caveats.{caveat_text}
 use Rattle.mk_queries.specs.LocatedTexts.{variable_located, count_located, rule_located, counted_after}
-use Rattle.mk_queries.specs.QueryWalks.{line_feeds, seen_after, unread_located}
+use Rattle.mk_queries.specs.QueryWalks.{line_feeds, unread_located}
 use Rattle.mk_queries.specs.RecipeWalks.{recipe_located, targets_after, passed_after}
 use Rattle.mk_queries.specs.WantedLines.{named_class, target_class}
 
@@ -66,13 +63,10 @@ recipes_ahead w n c g o (l ∷ ls) =
     ++ recipes_ahead w (n + line_feeds l.bytes) (context_after_located c l.class)
     (targets_after g (text_of_line l) l.class) (passed_after o (class_for w l)) ls
 
--- what is said of some lines of this text, which has `size` bytes; the first of them has this number
--- and stands in this context, below lines that leave these flags; looks may go through `left` bytes
-abbrev pub caveats_ahead : (text : List ℕ) → (size left : ℕ) → (number : ℕ) → Context → Seen
-    → List LocatedLine → List ℕ
-caveats_ahead t size left n c s [] = []
-caveats_ahead t size left n c s (l ∷ ls) =
-    let target = looked_ahead (nat_le size left) l ls in
-    caveat_text n (option_or (caveat_of c s l) (bare_caveat t target))
-    ++ caveats_ahead t size (left_below size left target) (n + line_feeds l.bytes)
-    (context_after_located c l.class) (seen_after c s l) ls
+-- what is said of some lines, the first of which has this number, where these are their caveats
+abbrev pub caveats_said : (number : ℕ) → List LocatedLine → (caveats : List (Option Caveat))
+    → List ℕ
+caveats_said n [] ks = []
+caveats_said n (l ∷ ls) [] = []
+caveats_said n (l ∷ ls) (k ∷ ks) =
+    caveat_text n k ++ caveats_said (n + line_feeds l.bytes) ls ks

@@ -109,6 +109,10 @@ row_caveats_of_a_define_after_returns : caveats_text (codes "\r\rdefine D\nX = 1
 unfolding digits
 row_caveats_of_a_define_after_returns = refl
 
+row_caveats_of_a_define_below_a_folded_line : caveats_text (codes "X = a \\\n  b\n\u{c}define D\nX = 1\nendef\n") ≡ (codes "3: make may begin a define here\n")
+unfolding digits
+row_caveats_of_a_define_below_a_folded_line = refl
+
 row_caveats_of_a_define_below_an_opaque_line : caveats_text (codes "$(info)\n\tdefine D\nX = 1\nendef\n") ≡ (codes "2: make may begin a define here\n")
 unfolding digits
 row_caveats_of_a_define_below_an_opaque_line = refl

@@ -224,14 +224,23 @@ caveat_at t target s =
     option_or (caveat_of (context_of s.above) (seen_above s.above) (located_line s.line))
     (bare_caveat t target)
 
--- a line of text on the caveat of each of some lines of a text; looks may go through `left` bytes
-abbrev pub caveat_lines : (text : List ℕ) → (left : ℕ) → List StandingLine → List ℕ
-caveat_lines t left [] = []
-caveat_lines t left (s ∷ ss) =
+-- the caveats of some lines of a text, of each in order; looks may go through `left` bytes
+abbrev pub caveats_from : (text : List ℕ) → (left : ℕ) → List StandingLine → List (Option Caveat)
+caveats_from t left [] = []
+caveats_from t left (s ∷ ss) =
     let target = looked_at (length t) left s in
-    caveat_text (line_number s) (caveat_at t target s)
-    ++ caveat_lines t (left_below (length t) left target) ss
+    caveat_at t target s ∷ caveats_from t (left_below (length t) left target) ss
+
+-- the caveats of the lines of a text, of each in order
+abbrev pub line_caveats : List ℕ → List (Option Caveat)
+line_caveats t = caveats_from t max_text (standing_lines t)
+
+-- a line of text on the caveat of each of some lines
+abbrev pub caveat_lines : List StandingLine → (caveats : List (Option Caveat)) → List ℕ
+caveat_lines [] ks = []
+caveat_lines (s ∷ ss) [] = []
+caveat_lines (s ∷ ss) (k ∷ ks) = caveat_text (line_number s) k ++ caveat_lines ss ks
 
 -- the text of `caveats`
 abbrev pub caveats_text : List ℕ → List ℕ
-caveats_text t = caveat_lines t max_text (standing_lines t)
+caveats_text t = caveat_lines (standing_lines t) (line_caveats t)

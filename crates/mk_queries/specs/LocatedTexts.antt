@@ -1,12 +1,12 @@
 -- What `vars` and `rules` say of a line, by the offsets of its parts in its joined text.
 -- Told in docs/DECISIONS.md, "mk_queries".
-use Rattle.std.specs.Prelude.{◌≡◌, ℕ, ◌+◌, ◌-◌, ◌≤◌, if◌then◌else◌, List, [], ◌++◌, Option, Some, None, codes}
+use Rattle.std.specs.Prelude.{◌≡◌, ℕ, ◌+◌, ◌-◌, ◌≤◌, if◌then◌else◌, List, [], ◌∷◌, ◌++◌, Option, Some, None, codes}
 use Rattle.mk_lines.specs.Cells.{joined_byte}
 use Rattle.mk_lines.specs.Ranges.{text_at}
 use Rattle.mk_lines.specs.declared.split.Span.{Span}
 use Rattle.mk_lines.specs.Words.{words_in}
 use Rattle.mk_class.specs.Separators.{separator_length}
-use Rattle.mk_class.specs.Contexts.{Context}
+use Rattle.mk_class.specs.Contexts.{Context, context_after_located}
 use Rattle.mk_class.specs.ClassTable.{class_of}
 use Rattle.mk_class.specs.LocatedClasses.{located_class}
 use Rattle.mk_class.specs.declared.assignment.Assignment as assignment
@@ -24,6 +24,11 @@ use Rattle.mk_queries.specs.ItemLines.{position_text}
 -- a line has the class that it has in a context
 abbrev pub IsClassedIn : Context → LocatedLine → Type 0
 IsClassedIn c l = l.class ≡ located_class joined_byte (class_of c l.bytes)
+
+-- each of some lines has its class in its context; the first line stands in this context
+abbrev pub AreClassedIn : Context → List LocatedLine → Type 0
+AreClassedIn c [] = Unit {0}
+AreClassedIn c (l ∷ ls) = IsClassedIn c l × AreClassedIn (context_after_located c l.class) ls
 
 -- the words of a part of a text
 abbrev pub words_at : List ℕ → (start end : ℕ) → List (List ℕ)

@@ -19,8 +19,8 @@ use mk_tree::part::{part, text_of_line};
 use std::alloc::Allocator;
 
 /// What make may read in a line otherwise than it is read here.
-#[derive(Clone, Copy)]
-pub(crate) enum Caveat {
+#[derive(Clone, Copy, Debug, PartialEq, Eq)]
+pub enum Caveat {
     /// A recipe line, since make takes an opaque line above for empty.
     AfterEmpty,
     /// A recipe line, since make may skip the lines of the conditional above.
@@ -38,8 +38,8 @@ pub(crate) enum Caveat {
 }
 
 impl Caveat {
-    /// What is said of it.
-    pub(crate) fn sentence(self) -> &'static str
+    /// What is said of it, as [`caveats`](crate::caveats) writes it behind the number of the line.
+    pub fn sentence(self) -> &'static str
         ensures { result.now ≡ sentence self }
     {
         match self {

@@ -6,7 +6,7 @@ use Rattle.std.specs.Borrow.{Bor}
 use Rattle.mk_tree.specs.Documents.{document_lines}
 use Rattle.mk_queries.specs.Queries.{vars_text, vars_named_text, rules_text, rules_for_text, recipes_text, recipes_for_text, check_text}
 use Rattle.mk_queries.specs.Caveats.{caveats_text}
-use Rattle.mk_json.specs.JsonLines.{check_lines, recipes_lines, rules_lines, vars_lines}
+use Rattle.mk_json.specs.JsonLines.{caveats_lines, check_lines, recipes_lines, rules_lines, vars_lines}
 use Rattle.mk_edit_language.specs.declared.refusal.Refusal.{Refusal}
 use Rattle.mk_lookup.specs.Lookups.{looked_up}
 use Rattle.mk_run.specs.declared.outcome.Outcome.{Outcome}
@@ -42,7 +42,7 @@ json_text file (Vars name) text = vars_lines file (word_asked name) (document_li
 json_text file (Rules target) text = rules_lines file (word_asked target) (document_lines text)
 json_text file (Recipes target) text = recipes_lines file (word_asked target) (document_lines text)
 json_text file Check text = check_lines file (document_lines text)
-json_text file Caveats text = check_lines file (document_lines text)
+json_text file Caveats text = caveats_lines file (document_lines text)
 
 -- what is printed for a query, in a form
 abbrev pub text_in_form : Form → (file : List ℕ) → Query → List ℕ → List ℕ

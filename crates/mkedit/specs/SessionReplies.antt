@@ -18,7 +18,7 @@ use Rattle.mk_queries.specs.Queries.{check_text, recipes_for_text, recipes_text,
 use Rattle.mk_tree.specs.Documents.{document_lines}
 use Rattle.mk_command_line.specs.declared.request.Form.{Form}
 use Rattle.mk_command_line.specs.declared.request.Form.TheVariants as form
-use Rattle.mk_json.specs.JsonLines.{check_lines, recipes_lines, rules_lines, vars_lines}
+use Rattle.mk_json.specs.JsonLines.{caveats_lines, check_lines, recipes_lines, rules_lines, vars_lines}
 use Rattle.mkedit.specs.SessionFaults.{fault_text}
 use Rattle.mkedit.specs.SessionForms.{text_lines}
 use Rattle.mkedit.specs.declared.session.desk.Opened.{Opened}
@@ -62,7 +62,7 @@ answer_in_json file text (Word word.Vars) = Some (vars_lines file None (document
 answer_in_json file text (Word word.Rules) = Some (rules_lines file None (document_lines text))
 answer_in_json file text (Word word.Recipes) = Some (recipes_lines file None (document_lines text))
 answer_in_json file text (Word word.Check) = Some (check_lines file (document_lines text))
-answer_in_json file text (Word word.Caveats) = Some (check_lines file (document_lines text))
+answer_in_json file text (Word word.Caveats) = Some (caveats_lines file (document_lines text))
 answer_in_json file text (Of of.Vars name) = Some (vars_lines file (Some name) (document_lines text))
 answer_in_json file text (Of of.Rules target) =
     Some (rules_lines file (Some target) (document_lines text))

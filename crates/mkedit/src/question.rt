@@ -138,7 +138,7 @@ pub(crate) fn json_lines<'a, A: Allocator, B: Allocator + Copy>(
         Query::Rules(target) => json::rules(alloc, file, doc, bytes_of(target)),
         Query::Recipes(target) => json::recipes(alloc, file, doc, bytes_of(target)),
         Query::Check => json::check(alloc, file, doc),
-        Query::Caveats => json::check(alloc, file, doc),
+        Query::Caveats => json::caveats(alloc, file, doc),
     }
 }
 

@@ -45,11 +45,11 @@ pub fn check<A: Allocator, B: Allocator + Copy>(
     ensures { IfOk result (λ text. text.items ≡ check_lines file.now doc.now) }
 {
     let mut text = Vec::new(alloc);
-    let mut open = Vec::new(alloc);
+    let mut conditionals = Vec::new(alloc);
     'lines: for (position, line) in numbered(doc) {
         let parts = unread_parts(line);
-        text = put_object(text, alloc, file, doc, &open, position, parts)?;
-        pass(&mut open, position, line.conditional())?;
+        text = put_object(text, alloc, file, doc, &conditionals, position, parts)?;
+        pass(&mut conditionals, position, line.conditional())?;
     }
     put_end(text, alloc, file, doc.end_context())
 }

@@ -40,11 +40,11 @@ pub fn vars<A: Allocator, B: Allocator + Copy>(
         ≡ vars_lines file.now (option_map (λ word. word.now) name.entry) doc.now) }
 {
     let mut text = Vec::new(alloc);
-    let mut open = Vec::new(alloc);
+    let mut conditionals = Vec::new(alloc);
     'lines: for (position, line) in numbered(doc) {
         let parts = variable_parts(name, line);
-        text = put_object(text, alloc, file, doc, &open, position, parts)?;
-        pass(&mut open, position, line.conditional())?;
+        text = put_object(text, alloc, file, doc, &conditionals, position, parts)?;
+        pass(&mut conditionals, position, line.conditional())?;
     }
     Ok(text)
 }

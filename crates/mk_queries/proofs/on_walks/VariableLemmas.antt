@@ -9,7 +9,7 @@ use Rattle.mk_tree.specs.LocatedLines.{LocatedLine, located_lines, located_text}
 use Rattle.mk_tree.specs.TreeWalks.{LinesInContext}
 use Rattle.mk_tree.proofs.on_documents.LinesInText.{AreClassed, AreClassed-class, AreClassed-tail, AreClassed-lines}
 use Rattle.mk_queries.specs.StandingLines.{line_number, depth}
-use Rattle.mk_queries.specs.LocatedTexts.{IsClassedIn}
+use Rattle.mk_queries.specs.LocatedTexts.{AreClassedIn, IsClassedIn}
 use Rattle.mk_queries.specs.Wanted.{is_assignment_of, said_if}
 use Rattle.mk_queries.specs.WantedLines.{vars_wanted}
 use Rattle.mk_queries.specs.Queries.{say_variable}
@@ -18,11 +18,6 @@ use Rattle.mk_queries.proofs.WalksAhead.{variable_at, variables_ahead}
 use Rattle.mk_queries.proofs.on_parts.AssignmentPartLemmas.{named-item, variable-item}
 use Rattle.mk_queries.proofs.SaidSoFar.{said-next}
 use Rattle.mk_queries.proofs.on_walks.SaidLemmas.{said-document}
-
--- each of some lines has its class in its context; the first line stands in this context
-abbrev pub AreClassedIn : Context → List LocatedLine → Type 0
-AreClassedIn c [] = Unit {0}
-AreClassedIn c (l ∷ ls) = IsClassedIn c l × AreClassedIn (context_after_located c l.class) ls
 
 lines-classed : (c : Context) (ls : List ClassedLine) → AreClassed c ls → AreClassedIn c (located_lines ls)
 lines-classed c [] h = tt

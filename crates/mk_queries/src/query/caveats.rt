@@ -1,19 +1,17 @@
 //! The query `caveats`: the lines that make may read otherwise.
-ghost use Rattle.std.specs.Prelude.{◌≡◌, false, option_map};
+ghost use Rattle.std.specs.Prelude.{◌≡◌, false};
 ghost use Rattle.mk_lines.specs.Device.{Writes};
 ghost use Rattle.mk_tree.specs.Documents.{IsFaithful};
 ghost use Rattle.mk_tree.specs.LocatedLines.{located_text};
 ghost use Rattle.mk_tree.specs.Printing.{Gathers};
-ghost use Rattle.mk_queries.specs.Caveats.{bare_caveat, caveat_text, caveats_text};
+ghost use Rattle.mk_queries.specs.Caveats.{caveat_text, caveats_text};
 
-use crate::bare_rule::{has_recipe_for, left_below, looked_at};
-use crate::caveat::{Caveat, caveat_of};
+use crate::caveat::Caveat;
 use crate::gathering::put_parts;
 use crate::position::line_feeds;
-use crate::seen::Seen;
+use crate::walk::line_caveats;
 use mk_lines::Fault;
 use mk_lines::sink::{ByteSink, write_all};
-use mk_lines::source::MAX_TEXT;
 use mk_tree::Doc;
 use mk_tree::gathering::Gathered;
 use std::alloc::Allocator;
@@ -40,19 +38,6 @@ fn put_caveat<W: ByteSink>(
         out,
         &[number, b": ", caveat.sentence().as_bytes(), b"\n"],
     )
-}
-
-// The caveat of a bare rule of this target that is looked at, if there is one.
-fn bare_caveat<A: Allocator>(doc: &Doc<A>, target: Option<&[u8]>) -> Option<Caveat>
-    requires { IsFaithful doc.now }
-    ensures { result
-        ≡ bare_caveat (located_text doc.now) (option_map (λ word. word.now) target.entry) }
-{
-    if has_recipe_for(doc, target?) {
-        Some(Caveat::BareRule)
-    } else {
-        None
-    }
 }
 
 /// Writes a line of text on each line of the makefile that make may read otherwise than it is read
@@ -85,21 +70,13 @@ pub fn caveats<A: Allocator, W: ByteSink>(doc: &Doc<A>, out: &mut W) -> Result<(
     ensures { Writes W.contents W.failed W.flushes out.old out.new result
         (caveats_text (located_text doc.now)) }
 {
-    let size = doc.size(); // its contract bounds the text, and so each number here
+    let _size = doc.size(); // its contract bounds the text, and so each number here
     let mut gathered = Gathered::new();
     let mut number = 1;
-    // The index of the next line, and the bytes through which looks for recipes may still go.
-    let mut below = 0;
-    let mut left = MAX_TEXT;
-    let mut seen = Seen::start();
-    'lines: for (context, line) in doc.lines_with_contexts() {
-        let class = line.class();
-        below += 1;
-        let target = looked_at(doc, below, size <= left, context, &class, line);
-        let caveat = caveat_of(context, seen, &class, line).or(bare_caveat(doc, target));
+    let mut caveats = line_caveats(doc);
+    'lines: for line in doc.iter() {
+        let caveat = caveats.next().unwrap_or(None);
         put_caveat(&mut gathered, out, number, caveat)?;
-        seen = seen.below(context, &class, line);
-        left = left_below(size, left, target);
         number += line_feeds(line.bytes());
     }
     write_all(out, &gathered)

@@ -8,7 +8,7 @@ use Rattle.mk_json.proofs.object.put_members.Goals as goal
 
 pub returns : goal.returns
 returns g c =
-    let place = place_members c.args.file.now c.args.doc.now c.args.open.now c.args.position in
+    let place = place_members c.args.file.now c.args.doc.now c.args.conditionals.now c.args.position in
     let parts = part_members c.args.parts.now in
     let last = c.end_object.new.self in
     let after_parts = puts-then c.end_object.result c.put_place.new.writer c.put_parts.new.writer last (tokens_of parts) (end_object ∷ []) c.in_ok-put_parts.ensures (puts-token c.end_object.result c.put_parts.new.writer last end_object c.end_object.ensures) in

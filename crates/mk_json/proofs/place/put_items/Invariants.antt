@@ -7,4 +7,4 @@ use Rattle.mk_json.proofs.place.put_items.Given as goal
 abbrev pub invariant-conditions : goal.invariant-conditions
 invariant-conditions g l =
     (l.writer.before ≡ l.initial.writer.before)
-    × (l.writer.tokens ++ items_tokens (condition_items l.doc (drop l.conditional-index l.open)) ≡ l.initial.writer.tokens ++ items_tokens (condition_items l.doc l.open))
+    × (l.writer.tokens ++ items_tokens (condition_items l.doc (drop l.conditional-index l.conditionals)) ≡ l.initial.writer.tokens ++ items_tokens (condition_items l.doc l.conditionals))

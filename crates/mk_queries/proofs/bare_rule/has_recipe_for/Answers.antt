@@ -2,9 +2,10 @@ use Rattle.std.proofs.Common.{◌≡◌, ◌∙◌, ap, sym, subst, false}
 use Rattle.mk_class.specs.Contexts.{start}
 use Rattle.mk_tree.specs.Trees.{line_view}
 use Rattle.mk_tree.specs.TreeWalks.{LinesInContext}
+use Rattle.mk_queries.specs.LocatedTexts.{AreClassedIn}
 use Rattle.mk_queries.specs.BareRuleWalks.{recipe_for_ahead}
 use Rattle.mk_queries.proofs.on_walks.BareRuleLemmas.{found-here, found-next, recipe-found}
-use Rattle.mk_queries.proofs.on_walks.VariableLemmas.{AreClassedIn, document-classed, first-classed, rest-classed}
+use Rattle.mk_queries.proofs.on_walks.VariableLemmas.{document-classed, first-classed, rest-classed}
 use Rattle.mk_queries.proofs.bare_rule.has_recipe_for.Goals as goal
 
 pub lines-init : goal.lines-init

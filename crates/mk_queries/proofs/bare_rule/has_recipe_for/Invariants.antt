@@ -1,7 +1,7 @@
 -- What the lines ahead say is what all lines say. Each line ahead has its class in its context.
 use Rattle.std.proofs.Common.{◌≡◌, false}
 use Rattle.mk_queries.specs.BareRuleWalks.{recipe_for_ahead}
-use Rattle.mk_queries.proofs.on_walks.VariableLemmas.{AreClassedIn}
+use Rattle.mk_queries.specs.LocatedTexts.{AreClassedIn}
 use Rattle.mk_queries.proofs.bare_rule.has_recipe_for.Given as goal
 
 abbrev pub invariant-lines : goal.invariant-lines

@@ -7,4 +7,4 @@ use Rattle.mk_json.proofs.query.check.check.Given as goal
 
 abbrev pub invariant-lines : goal.invariant-lines
 invariant-lines g l =
-    l.text.items ++ said_of l.file l.doc (λ s. unread_members s.line) l.open.items (standing l.position-iterator) ≡ said_of l.file l.doc (λ s. unread_members s.line) [] (standing (whole l.doc))
+    l.text.items ++ said_of l.file l.doc (λ s. unread_members s.line) l.conditionals.items (standing l.position-iterator) ≡ said_of l.file l.doc (λ s. unread_members s.line) [] (standing (whole l.doc))

@@ -8,4 +8,4 @@ use Rattle.mk_json.proofs.query.rules.rules.Given as goal
 abbrev pub invariant-lines : goal.invariant-lines
 invariant-lines g l =
     let target = option_map (λ word. word.now) l.target in
-    l.text.items ++ said_of l.file l.doc (λ s. wanted_rule_members target s.line) l.open.items (standing l.position-iterator) ≡ rules_lines l.file target l.doc
+    l.text.items ++ said_of l.file l.doc (λ s. wanted_rule_members target s.line) l.conditionals.items (standing l.position-iterator) ≡ rules_lines l.file target l.doc

@@ -8,4 +8,4 @@ use Rattle.mk_json.proofs.query.vars.vars.Given as goal
 abbrev pub invariant-lines : goal.invariant-lines
 invariant-lines g l =
     let name = option_map (λ word. word.now) l.name in
-    l.text.items ++ said_of l.file l.doc (λ s. variable_members name s.line) l.open.items (standing l.position-iterator) ≡ vars_lines l.file name l.doc
+    l.text.items ++ said_of l.file l.doc (λ s. variable_members name s.line) l.conditionals.items (standing l.position-iterator) ≡ vars_lines l.file name l.doc

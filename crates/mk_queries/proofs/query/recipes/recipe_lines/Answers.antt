@@ -6,13 +6,13 @@ use Rattle.mk_tree.specs.LocatedLines.{size_of, text_of_line}
 use Rattle.mk_tree.specs.Trees.{line_view}
 use Rattle.mk_tree.specs.TreeWalks.{LinesInContext}
 use Rattle.mk_tree.proofs.Prefixes.{gathers-nothing, gathers-then, gathers-front, gathers-answers, writes-gathered, writes-fails}
-use Rattle.mk_queries.specs.LocatedTexts.{count_of}
+use Rattle.mk_queries.specs.LocatedTexts.{AreClassedIn, count_of}
 use Rattle.mk_queries.specs.QueryWalks.{line_feeds}
 use Rattle.mk_queries.specs.RecipeWalks.{passed_after, recipe_located, targets_after}
 use Rattle.mk_queries.proofs.WalksAhead.{asked, class_for, recipes_ahead}
 use Rattle.mk_queries.proofs.SaidSoFar.{said-end}
 use Rattle.mk_queries.proofs.on_walks.RecipeLemmas.{recipes-next, recipes-walk, passed-next}
-use Rattle.mk_queries.proofs.on_walks.VariableLemmas.{AreClassedIn, document-classed, first-classed, rest-classed}
+use Rattle.mk_queries.proofs.on_walks.VariableLemmas.{document-classed, first-classed, rest-classed}
 use Rattle.mk_queries.proofs.query.recipes.recipe_lines.Goals as goal
 
 pub lines-init : goal.lines-init

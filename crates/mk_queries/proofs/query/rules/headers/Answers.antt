@@ -6,11 +6,11 @@ use Rattle.mk_tree.specs.LocatedLines.{size_of, text_of_line}
 use Rattle.mk_tree.specs.Trees.{line_view}
 use Rattle.mk_tree.specs.TreeWalks.{LinesInContext}
 use Rattle.mk_tree.proofs.Prefixes.{gathers-nothing, gathers-then, gathers-front, gathers-answers, writes-gathered, writes-fails}
-use Rattle.mk_queries.specs.LocatedTexts.{count_of, counted_after, rule_located}
+use Rattle.mk_queries.specs.LocatedTexts.{AreClassedIn, count_of, counted_after, rule_located}
 use Rattle.mk_queries.specs.QueryWalks.{line_feeds}
 use Rattle.mk_queries.proofs.WalksAhead.{asked, class_for, rules_ahead}
 use Rattle.mk_queries.proofs.on_walks.RuleLemmas.{rules-next, rules-end, rules-walk, count-next}
-use Rattle.mk_queries.proofs.on_walks.VariableLemmas.{AreClassedIn, document-classed, first-classed, rest-classed}
+use Rattle.mk_queries.proofs.on_walks.VariableLemmas.{document-classed, first-classed, rest-classed}
 use Rattle.mk_queries.proofs.query.rules.headers.Goals as goal
 
 pub lines-init : goal.lines-init

@@ -8,7 +8,7 @@ use Rattle.mk_tree.specs.LocatedLines.{size_of}
 use Rattle.mk_tree.specs.Printing.{Gathers}
 use Rattle.mk_queries.specs.LocatedTexts.{count_of}
 use Rattle.mk_queries.proofs.WalksAhead.{asked, rules_ahead}
-use Rattle.mk_queries.proofs.on_walks.VariableLemmas.{AreClassedIn}
+use Rattle.mk_queries.specs.LocatedTexts.{AreClassedIn}
 use Rattle.mk_queries.proofs.query.rules.headers.Given as goal
 
 abbrev pub invariant-lines : goal.invariant-lines

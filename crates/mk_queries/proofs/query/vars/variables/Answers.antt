@@ -5,10 +5,11 @@ use Rattle.mk_tree.specs.LocatedLines.{size_of}
 use Rattle.mk_tree.specs.Trees.{line_view}
 use Rattle.mk_tree.specs.TreeWalks.{LinesInContext}
 use Rattle.mk_tree.proofs.Prefixes.{gathers-nothing, gathers-then, gathers-front, writes-gathered, writes-fails}
+use Rattle.mk_queries.specs.LocatedTexts.{AreClassedIn}
 use Rattle.mk_queries.specs.QueryWalks.{line_feeds}
 use Rattle.mk_queries.proofs.WalksAhead.{asked, variable_at, variables_ahead}
 use Rattle.mk_queries.proofs.SaidSoFar.{said-end}
-use Rattle.mk_queries.proofs.on_walks.VariableLemmas.{AreClassedIn, document-classed, first-classed, rest-classed, variables-next, vars-walk}
+use Rattle.mk_queries.proofs.on_walks.VariableLemmas.{document-classed, first-classed, rest-classed, variables-next, vars-walk}
 use Rattle.mk_queries.proofs.query.vars.variables.Goals as goal
 
 pub lines-init : goal.lines-init

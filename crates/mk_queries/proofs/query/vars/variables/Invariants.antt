@@ -7,7 +7,7 @@ use Rattle.mk_class.specs.Contexts.{start}
 use Rattle.mk_tree.specs.LocatedLines.{size_of}
 use Rattle.mk_tree.specs.Printing.{Gathers}
 use Rattle.mk_queries.proofs.WalksAhead.{asked, variables_ahead}
-use Rattle.mk_queries.proofs.on_walks.VariableLemmas.{AreClassedIn}
+use Rattle.mk_queries.specs.LocatedTexts.{AreClassedIn}
 use Rattle.mk_queries.proofs.query.vars.variables.Given as goal
 
 abbrev pub invariant-lines : goal.invariant-lines
