@@ -6,6 +6,7 @@ pub mod Members
 pub mod OpenConditionals
 pub mod LineMembers
 pub mod JsonLines
+pub mod JsonLaws
 -- # Vocabulary of private contracts
 -- Parts of lines, and JSON that is being written
 pub mod PartMembers

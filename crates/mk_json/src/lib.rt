@@ -21,9 +21,11 @@
 //! - `parts`: the parts of lines.
 //! - `object`: the object on a line.
 //! - `query`: the queries, each in the module of its name.
+//! - [`laws`]: lines have the same numbers in JSON and in words.
 #![tactic(auto)]
 
 pub mod conditional;
+pub mod laws;
 mod member;
 mod object;
 mod parts;
