@@ -8,6 +8,7 @@ pub mod LineMembers
 pub mod JsonLines
 -- Lines of any text
 pub mod TextLines
+pub mod JsonLaws
 -- # Vocabulary of private contracts
 -- Parts of lines, and JSON that is being written
 pub mod PartMembers
