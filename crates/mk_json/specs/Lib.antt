@@ -6,9 +6,9 @@ pub mod Members
 pub mod OpenConditionals
 pub mod LineMembers
 pub mod JsonLines
+pub mod JsonLaws
 -- Lines of any text
 pub mod TextLines
-pub mod JsonLaws
 -- # Vocabulary of private contracts
 -- Parts of lines, and JSON that is being written
 pub mod PartMembers

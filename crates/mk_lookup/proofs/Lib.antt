@@ -1,3 +1,4 @@
 -- Lemmas on lookups
 mod LookupLemmas
 mod LawLemmas
+mod IndexLemmas
