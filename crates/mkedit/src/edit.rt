@@ -112,9 +112,9 @@ where
     run_to(alloc, words, makefile, script, out, report, witness)
 }
 
-// How the diff of a makefile is shown that goes to a terminal, or to something else; None where the
-// text goes there.
-fn form_of<'a>(
+/// How the diff of a makefile is shown that goes to a terminal, or to something else; None where the
+/// text goes there.
+pub(crate) fn form_of<'a>(
     rt: &HostRuntime,
     words: &EditWords<'_>,
     file: Input<'a>,

@@ -12,6 +12,8 @@ ghost use Rattle.mkedit.specs.NamedLines.{named_lines};
 ghost use Rattle.mkedit.specs.Notes.{notes_of};
 
 use crate::destination::{Destination, destination_of, name_of};
+use crate::diff::{DiffForm, run_steps_diff};
+use crate::edit::form_of;
 use crate::ending::{CANNOT_OPEN, End, Statuses, ended, not_opened, tell_not_opened};
 use crate::files::{CannotOpen, open};
 use crate::in_place::InPlaceFile;
@@ -19,7 +21,7 @@ use crate::kept::Kept;
 use crate::mistakes::COMMAND_LINES;
 use crate::named::named_lines;
 use crate::noted::Noted;
-use crate::notes::{STANDARD_INPUT, STANDARD_OUTPUT, SystemFault, put_notes};
+use crate::notes::{Cause, STANDARD_INPUT, STANDARD_OUTPUT, SystemFault, put_notes};
 use crate::out_file::OutFile;
 use crate::refused::{Names, NotesKept};
 use mk_command_line::{EditWords, Input, Script};
@@ -28,13 +30,13 @@ use mk_lines::sink::write_all;
 use mk_lines::{ByteSink, ByteSource, Fault, StdSink, StdSource};
 use mk_run::{Outcome, Step, Witness, message, read_script, run_steps, status};
 use std::alloc::{Allocator, Global};
-use std::io::Read;
+use std::io::{ErrorKind, IsTerminal, Read};
 use std::mem;
 use std::process::ExitCode;
 
-// Runs steps over a makefile, with the depth and the keep-going of the words. The session is not given
-// up: the program ends soon.
-fn run_steps_to<A, R, W, P, T>(
+/// Runs steps over a makefile, with the depth and the keep-going of the words. The session is not given
+/// up: the program ends soon.
+pub(crate) fn run_steps_to<A, R, W, P, T>(
     alloc: A,
     words: &EditWords<'_>,
     steps: &[Step<A>],
@@ -145,10 +147,11 @@ fn notes_below<'a>(witness: &'a Option<NotesKept<'_, Global>>) -> &'a [Vec<u8>] 
     }
 }
 
-// Runs steps over a makefile, with the report into memory.
+// Runs steps over a makefile, with the text or the diff to a sink, and the report into memory.
 fn run_kept<R: ByteSource, W: ByteSink>(
     alloc: Global,
     words: &EditWords<'_>,
+    form: Option<DiffForm<'_>>,
     steps: &[Step<Global>],
     makefile: &mut R,
     out: &mut W,
@@ -160,7 +163,14 @@ fn run_kept<R: ByteSource, W: ByteSink>(
     requires depth { IsBadDepth words.now.depth → ⊥ }
 {
     let mut lines = StdSink::new(report);
-    let outcome = run_steps_to(alloc, words, steps, makefile, out, &mut lines, witness);
+    let outcome = match form {
+        Some(form) => {
+            run_steps_diff(
+                alloc, words, form, steps, makefile, out, &mut lines, witness,
+            )
+        }
+        None => run_steps_to(alloc, words, steps, makefile, out, &mut lines, witness),
+    };
     kept_outcome(outcome, lines.failed())
 }
 
@@ -171,7 +181,8 @@ fn keep_message(outcome: Outcome, report: &mut Vec<u8>) -> Outcome {
     kept_outcome(outcome, lines.failed())
 }
 
-// Runs steps over a makefile, with the text to where the words say, and the report into memory.
+// Runs steps over a makefile, with the text or the diff to where the words say, and the report into
+// memory.
 fn run_over<'a, R: ByteSource>(
     rt: &'a HostRuntime,
     words: &EditWords<'a>,
@@ -188,20 +199,28 @@ fn run_over<'a, R: ByteSource>(
     match destination_of(words.output, file) {
         Destination::File(name) => {
             let mut out = OutFile::new(rt, name);
-            let outcome = run_kept(alloc, words, steps, makefile, &mut out, report, witness);
+            let form = form_of(rt, words, file, false);
+            let outcome = run_kept(
+                alloc, words, form, steps, makefile, &mut out, report, witness,
+            );
             End::of(outcome).with_fault(out.fault())
         }
         Destination::InPlace(name, backup) => {
             let mut out = InPlaceFile::new(rt, name, backup);
-            let outcome = run_kept(alloc, words, steps, makefile, &mut out, report, witness);
+            let outcome = run_kept(
+                alloc, words, None, steps, makefile, &mut out, report, witness,
+            );
             let end = End::of(outcome).with_fault(out.fault());
             out.close();
             end
         }
         Destination::Standard => {
+            let form = form_of(rt, words, file, rt.stdout().is_terminal());
             let mut device = Noted::new(rt.stdout());
             let mut out = StdSink::new(&mut device);
-            let outcome = run_kept(alloc, words, steps, makefile, &mut out, report, witness);
+            let outcome = run_kept(
+                alloc, words, form, steps, makefile, &mut out, report, witness,
+            );
             End::of(outcome).with_fault(device.fault(STANDARD_OUTPUT))
         }
     }
@@ -284,13 +303,34 @@ pub fn tell_named(
     }
 }
 
-// Runs steps over one of several makefiles, and answers the status.
+// What is known of a run over one of several makefiles: its status, and whether nobody reads standard
+// output any more.
+#[derive(Clone, Copy)]
+struct Ran {
+    status: u8,
+    is_left: bool,
+}
+
+// Whether a run ended since nobody reads the diffs any more.
+fn is_left(words: &EditWords<'_>, end: &End<'_>) -> bool {
+    match end.fault {
+        Some(
+            SystemFault {
+                cause: Cause::System(ErrorKind::BrokenPipe),
+                ..
+            },
+        ) => words.is_diff && end.outcome == Outcome::Write,
+        _ => false,
+    }
+}
+
+// Runs steps over one of several makefiles, and says how that ended.
 fn edit_one<'a>(
     rt: &'a HostRuntime,
     words: &EditWords<'a>,
     steps: &[Step<Global>],
     file: Input<'a>,
-) -> u8
+) -> Ran
     requires { IsBadDepth words.now.depth → ⊥ }
 {
     let mut report = Vec::new(rt.alloc());
@@ -299,11 +339,17 @@ fn edit_one<'a>(
         Ok(end) => {
             put_before(rt, &witness);
             let below = notes_below(&witness);
-            tell_named(rt, file, &mut report, below, &end, words.notes)
+            Ran {
+                status: tell_named(rt, file, &mut report, below, &end, words.notes),
+                is_left: is_left(words, &end),
+            }
         }
         Err(file) => {
             tell_not_opened(rt, &file, words.notes);
-            CANNOT_OPEN
+            Ran {
+                status: CANNOT_OPEN,
+                is_left: false,
+            }
         }
     }
 }
@@ -352,8 +398,8 @@ fn steps_of<'a>(
 }
 
 /// Reads the script once, and runs it over each of several makefiles in turn. Each makefile is a run by
-/// itself: where one ends early, the others go on. Answers the greatest of their statuses. Where the
-/// script is none, no makefile is opened.
+/// itself: where one ends early, the others go on, unless nobody reads their diffs any more. Answers the
+/// greatest of their statuses. Where the script is none, no makefile is opened.
 pub fn edit_each<'a>(rt: &'a HostRuntime, words: &EditWords<'a>, files: &[Input<'a>]) -> ExitCode {
     if is_bad_depth(words.depth) {
         return ended(rt, &End::of(Outcome::BadDepth), words.notes);
@@ -365,7 +411,11 @@ pub fn edit_each<'a>(rt: &'a HostRuntime, words: &EditWords<'a>, files: &[Input<
     };
     let mut statuses = Statuses::new();
     for file in files {
-        statuses.add(edit_one(rt, words, steps.as_slice(), *file));
+        let ran = edit_one(rt, words, steps.as_slice(), *file);
+        statuses.add(ran.status);
+        if ran.is_left {
+            break;
+        }
     }
     statuses.code()
 }
