@@ -12,7 +12,8 @@
 //! - `help`: what a command of a script does; `script_command` has the commands, `command_texts` the texts.
 //! - `files`: files beside the standard streams.
 //! - `noted`: readers and writers that remember why they failed.
-//! - `kept`: a source whose bytes are kept; `mistakes`: the note on a line of a script that is no command.
+//! - `kept`: a source whose bytes are kept; `mistakes`: the notes on a line of a script that is no command;
+//!   `exchanged`: whether script and makefile may be exchanged.
 //! - `named`: lines that begin with the name of a file.
 //! - `notes`: what is said of that below a message.
 //! - `refused`: the notes below the lines on refusals, by [`mk_notes`].
@@ -29,6 +30,7 @@ mod destination;
 mod diff;
 mod edit;
 mod ending;
+mod exchanged;
 mod explain;
 mod explanations;
 mod files;

@@ -15,6 +15,7 @@ use crate::destination::{Destination, destination_of, name_of};
 use crate::diff::{DiffForm, run_steps_diff};
 use crate::edit::form_of;
 use crate::ending::{CANNOT_OPEN, End, Statuses, ended, not_opened, tell_not_opened};
+use crate::exchanged::with_exchanged;
 use crate::files::{CannotOpen, open};
 use crate::in_place::InPlaceFile;
 use crate::kept::Kept;
@@ -406,7 +407,10 @@ pub fn edit_each<'a>(rt: &'a HostRuntime, words: &EditWords<'a>, files: &[Input<
     }
     let steps = match steps_of(rt, words) {
         Ok(Ok(steps)) => steps,
-        Ok(Err(end)) => return ended(rt, &end, words.notes),
+        Ok(Err(end)) => {
+            let end = with_exchanged(rt, words, end, files.first());
+            return ended(rt, &end, words.notes);
+        }
         Err(file) => return not_opened(rt, &file, words.notes),
     };
     let mut statuses = Statuses::new();
