@@ -19,6 +19,7 @@
 //! - `refused`: the notes below the lines on refusals, by [`mk_notes`].
 //! - `out_file`: the file that a text goes to; `in_place`: the makefile itself.
 //! - `ending`: the message and the status.
+//! - `progress`: how many of several makefiles are done, at a terminal.
 //! - `session`: a makefile that is edited step by step, by [`mk_prompt`].
 #![tactic(auto)]
 
@@ -42,6 +43,7 @@ mod named;
 mod noted;
 mod notes;
 mod out_file;
+mod progress;
 mod query;
 mod question;
 mod refused;

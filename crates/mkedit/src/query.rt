@@ -17,6 +17,7 @@ use crate::ending::{CANNOT_OPEN, End, Statuses, finished, tell_not_opened};
 use crate::files::{CannotOpen, open};
 use crate::noted::Noted;
 use crate::notes::{STANDARD_INPUT, STANDARD_OUTPUT};
+use crate::progress::Progress;
 use crate::question::{Found, Question, found_for, put_found};
 use crate::several::{kept_outcome, put_named, tell_named};
 use mk_command_line::Input;
@@ -332,22 +333,34 @@ fn ask_each(
     files: &[Input<'_>],
     notes: bool,
 ) -> ExitCode {
+    let mut progress = Progress::new(rt, files.len(), true);
     let mut statuses = Statuses::new();
-    for file in files {
+    for (done, file) in files.iter().enumerate() {
+        progress.show(done);
         let mut lines = Vec::new(rt.alloc());
         match ask_kept(rt, question, *file, &mut lines) {
             Ok(asked) => {
-                statuses.add(tell_named(rt, *file, &mut lines, &[], &asked.end, notes));
+                statuses.add(tell_named(
+                    rt,
+                    &mut progress,
+                    *file,
+                    &mut lines,
+                    &[],
+                    &asked.end,
+                    notes,
+                ));
                 if asked.is_left {
                     break;
                 }
             }
             Err(cannot) => {
+                progress.wipe();
                 tell_not_opened(rt, &cannot, notes);
                 statuses.add(CANNOT_OPEN);
             }
         }
     }
+    progress.wipe();
     statuses.code()
 }
 

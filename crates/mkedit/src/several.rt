@@ -24,8 +24,9 @@ use crate::named::named_lines;
 use crate::noted::Noted;
 use crate::notes::{Cause, STANDARD_INPUT, STANDARD_OUTPUT, SystemFault, put_notes};
 use crate::out_file::OutFile;
+use crate::progress::Progress;
 use crate::refused::{Names, NotesKept};
-use mk_command_line::{EditWords, Input, Script};
+use mk_command_line::{EditWords, Input, Output, Script};
 use mk_history::history::is_bad_depth;
 use mk_lines::sink::write_all;
 use mk_lines::{ByteSink, ByteSource, Fault, StdSink, StdSource};
@@ -132,10 +133,17 @@ fn notes_kept<'a>(
     }
 }
 
-// Writes the notes that a witness has kept before the first line of a report. A write that fails is that
-// of the report too, which is written behind them.
-fn put_before(rt: &HostRuntime, witness: &Option<NotesKept<'_, Global>>) {
+// Writes the notes that a witness has kept before the first line of a report, and wipes the line on the
+// progress before. A write that fails is that of the report too, which is written behind them.
+fn put_before(
+    rt: &HostRuntime,
+    progress: &mut Progress<'_>,
+    witness: &Option<NotesKept<'_, Global>>,
+) {
     if let Some(witness) = witness {
+        if !witness.before.is_empty() {
+            progress.wipe();
+        }
         let _ = write_all(&mut StdSink::new(rt.stderr()), witness.before.as_slice());
     }
 }
@@ -278,10 +286,11 @@ fn run_by<'a>(
 }
 
 /// Says on standard error how a run over one of several makefiles, or a query of it, ended, and answers
-/// its status. `below` are the notes below the lines of the report. Where that cannot be said, the status
-/// is that of the fault.
+/// its status. `below` are the notes below the lines of the report. Where something is said, the line on
+/// the progress is wiped before. Where it cannot be said, the status is that of the fault.
 pub fn tell_named(
     rt: &HostRuntime,
+    progress: &mut Progress<'_>,
     file: Input<'_>,
     report: &mut Vec<u8>,
     below: &[Vec<u8>],
@@ -290,6 +299,9 @@ pub fn tell_named(
 ) -> u8 {
     let outcome = keep_message(end.outcome, report);
     let fault = end.told_fault(notes);
+    if !report.is_empty() || fault.is_some() {
+        progress.wipe();
+    }
     let mut errors = StdSink::new(rt.stderr());
     match put_named(
         rt.alloc(),
@@ -330,6 +342,7 @@ fn edit_one<'a>(
     rt: &'a HostRuntime,
     words: &EditWords<'a>,
     steps: &[Step<Global>],
+    progress: &mut Progress<'_>,
     file: Input<'a>,
 ) -> Ran
     requires { IsBadDepth words.now.depth → ⊥ }
@@ -338,14 +351,15 @@ fn edit_one<'a>(
     let mut witness = notes_kept(rt, words, file);
     match run_by(rt, words, steps, file, &mut report, &mut witness) {
         Ok(end) => {
-            put_before(rt, &witness);
+            put_before(rt, progress, &witness);
             let below = notes_below(&witness);
             Ran {
-                status: tell_named(rt, file, &mut report, below, &end, words.notes),
+                status: tell_named(rt, progress, file, &mut report, below, &end, words.notes),
                 is_left: is_left(words, &end),
             }
         }
         Err(file) => {
+            progress.wipe();
             tell_not_opened(rt, &file, words.notes);
             Ran {
                 status: CANNOT_OPEN,
@@ -413,13 +427,17 @@ pub fn edit_each<'a>(rt: &'a HostRuntime, words: &EditWords<'a>, files: &[Input<
         }
         Err(file) => return not_opened(rt, &file, words.notes),
     };
+    let is_printing = !matches!(words.output, Output::InPlace(_));
+    let mut progress = Progress::new(rt, files.len(), is_printing);
     let mut statuses = Statuses::new();
-    for file in files {
-        let ran = edit_one(rt, words, steps.as_slice(), *file);
+    for (done, file) in files.iter().enumerate() {
+        progress.show(done);
+        let ran = edit_one(rt, words, steps.as_slice(), &mut progress, *file);
         statuses.add(ran.status);
         if ran.is_left {
             break;
         }
     }
+    progress.wipe();
     statuses.code()
 }
