@@ -12,18 +12,20 @@ PROGRAMS = {
 }
 
 
-def led(room, words, diff, name, old, new):
-    """What is wrong with a file over which these words have led a diff."""
-    room.write(name, old)
+def led(room, words, diff, old, new):
+    """What is wrong with files, texts by their names, over which these words have led a diff."""
+    for name, text in old.items():
+        (room.folder / name).parent.mkdir(parents=True, exist_ok=True)
+        room.write(name, text)
     room.write("diff", diff)
     got = subprocess.run([*words, "diff"], cwd=room.folder, capture_output=True, timeout=SECONDS)
     if got.returncode:
         return [f"{words} fails: {(got.stdout + got.stderr).decode(errors='replace')}"]
-    return room.holds(name, new)
+    return [problem for name, text in new.items() for problem in room.holds(name, text)]
 
 
-def wrong_ways(diff, old, new, name="Makefile", programs=tuple(PROGRAMS)):
-    """What is wrong with a diff that has to lead from one text to another, and back."""
+def wrong_trees(diff, old, new, programs=tuple(PROGRAMS)):
+    """What is wrong with a diff that has to lead from some files, texts by their names, to others, and back."""
     if (old == new) != (not diff):
         yield f"the diff is {diff!r}"
     if old == new:
@@ -32,4 +34,9 @@ def wrong_ways(diff, old, new, name="Makefile", programs=tuple(PROGRAMS)):
         forwards, backwards = PROGRAMS[program]
         for words, before, after in ((forwards, old, new), (backwards, new, old)):
             with Room(None) as room:
-                yield from led(room, words, diff, name, before, after)
+                yield from led(room, words, diff, before, after)
+
+
+def wrong_ways(diff, old, new, name="Makefile", programs=tuple(PROGRAMS)):
+    """What is wrong with a diff that has to lead from one text to another, and back."""
+    return wrong_trees(diff, {name: old}, {name: new}, programs)

@@ -138,6 +138,40 @@ class Notes(RoomCase):
             with self.subTest(words):
                 self.assert_noted(NO_COMMAND, note, *words, given=given)
 
+    def test_exchanged_files_are_told(self):
+        self.room.write("config.mk", b"CC := gcc\nall:\n\tcc\n")
+        self.room.write("use-clang", b"# a comment\n\nset CC clang\n")
+        told = "config.mk:1:1: note: there is no such command\n"
+        told += "config.mk: note: this is no script, and use-clang is one: they may be exchanged"
+        for words in (
+            ("edit", "config.mk", "use-clang"),
+            ("edit", "-i", "config.mk", "use-clang"),
+            ("edit", "-i", "config.mk", "use-clang", "Makefile"),
+            ("edit", "--diff", "config.mk", "use-clang"),
+            ("edit", "--diff", "config.mk", "use-clang", "absent"),
+        ):
+            with self.subTest(words):
+                self.assert_noted(NO_COMMAND, told, *words)
+        given = (self.room.folder / "config.mk").read_bytes()
+        told = told.replace("config.mk:", "standard input:")
+        self.assert_noted(NO_COMMAND, told, "edit", "-", "use-clang", given=given)
+
+    def test_files_that_are_not_exchanged_have_no_such_note(self):
+        self.room.write("config.mk", b"CC := gcc\n")
+        self.room.write("comments", b"# set CC clang\n\n")
+        self.room.write("half", b"set CC clang\nCC = gcc\n")
+        self.room.write("long", b"undo\n" + b"\n" * 16_777_212)
+        os.mkfifo(self.room.folder / "pipe")
+        note = "config.mk:1:1: note: there is no such command"
+        for name in ("Makefile", "empty", "comments", "half", "long", "."):
+            with self.subTest(name):
+                self.assert_noted(NO_COMMAND, note, "edit", "config.mk", name)
+        self.assert_noted(NO_COMMAND, note, "edit", "-i", "config.mk", "Makefile", "script")
+        self.assert_noted(NO_COMMAND, note, "edit", "-i", "config.mk", "pipe", "script")
+        self.assert_noted(NO_COMMAND, note, "edit", "config.mk", given=b"set CC clang\n")
+        self.assert_noted(NO_COMMAND, note.replace("config.mk", "-e"), "edit", "-e", "CC := gcc", "script")
+        self.assert_run(EDITED, "edit", "--notes", "script", "Makefile")
+
     def test_notes_stand_beside_files_that_are_read_alone(self):
         self.assert_bad_command_line("explain", "--notes", "4")
         self.assert_bad_command_line("--notes", "vars", "Makefile")

@@ -159,16 +159,21 @@ class SeveralFiles(RoomCase):
             self.assertEqual(process.stderr.read(), b"")
         self.assertEqual(process.returncode, 0)
 
-    def test_several_files_stand_beside_in_place_alone(self):
+    def test_the_texts_of_several_files_go_to_no_one_output(self):
         for words in (
             ("edit", "script", "Makefile", "copy"),
             ("edit", "-o", "out", "script", "Makefile", "copy"),
             ("edit", "-e", "undo", "Makefile", "copy"),
             ("edit", "--backup", "~", "script", "Makefile", "copy"),
+            ("edit", "--backup", "~", "--diff", "script", "Makefile", "copy"),
+            ("edit", "--diff", "-o", "out", "script", "Makefile", "copy"),
+            ("edit", "--color=always", "script", "Makefile", "copy"),
         ):
             self.assert_bad_command_line(*words)
-        got = self.room.run("edit", "script", "Makefile", "copy")
-        self.assertIn(b"several FILEs may stand beside '--in-place' alone", got.stderr)
+        for words in (("script",), ("--diff", "-o", "out", "script")):
+            got = self.room.run("edit", *words, "Makefile", "copy")
+            told = b"several FILEs may stand beside '--in-place', or beside '--diff' without '--output'"
+            self.assertIn(told, got.stderr)
         self.assert_holds("out", None)
 
     def test_standard_input_is_not_edited_in_place(self):

@@ -125,16 +125,24 @@ is_alone [] = true
 is_alone (_ ∷ []) = true
 is_alone (_ ∷ _ ∷ _) = false
 
--- The values of -o and --backup, and the makefiles. With -i the text of each makefile goes to it, and
--- each is a file. Without it there is one makefile, and no --backup.
-abbrev pub GoesTo : Bool → (out backup : Option Text) → List Input → Output → Type 0
-GoesTo false None None files output.Standard = is_alone files ≡ true
-GoesTo false (Some out) None files (output.File name) =
-    (name.now ≡ out) × (is_alone files ≡ true)
-GoesTo true out backup files (output.InPlace kept) =
+-- Whether the texts of these makefiles may go there without -i: there is one makefile, or the diff of
+-- each goes to standard output.
+abbrev pub fits_output : (is_diff : Bool) → (out : Option Text) → List Input → Bool
+fits_output true None files = true
+fits_output is_diff out files = is_alone files
+
+-- Whether there is --diff, the values of -o and --backup, and the makefiles. With -i the text of each
+-- makefile goes to it, and each is a file. Without it there is no --backup; several makefiles are
+-- taken there where the diff of each goes to standard output.
+abbrev pub GoesTo : (in_place is_diff : Bool) → (out backup : Option Text) → List Input → Output
+    → Type 0
+GoesTo false is_diff None None files output.Standard = fits_output is_diff None files ≡ true
+GoesTo false is_diff (Some out) None files (output.File name) =
+    (name.now ≡ out) × (fits_output is_diff (Some out) files ≡ true)
+GoesTo true is_diff out backup files (output.InPlace kept) =
     (list_all is_named files ≡ true) × (option_map (λ suffix. suffix.now) kept.0 ≡ backup)
     × IsBackup backup
-GoesTo _ _ _ _ _ = ⊥
+GoesTo _ _ _ _ _ _ = ⊥
 
 pub record AsksEdit (rows : List Row) (words : EditWords) : Type 0 where
   pub keep_going : IsFlag (codes "keep-going") rows words.keep_going
@@ -146,8 +154,8 @@ pub record AsksEdit (rows : List Row) (words : EditWords) : Type 0 where
   pub diff : IsFlag (codes "diff") rows words.is_diff
   pub color : IsColor (first_of (codes "color") rows) words.color
   pub to : (in_place : Bool) × IsFlag (codes "in-place") rows in_place
-      × GoesTo in_place (first_of (codes "output") rows) (first_of (codes "backup") rows)
-      words.files.items words.output
+      × GoesTo in_place words.is_diff (first_of (codes "output") rows)
+      (first_of (codes "backup") rows) words.files.items words.output
 
 -- ---- the words of a query
 

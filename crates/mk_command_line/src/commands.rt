@@ -21,8 +21,8 @@ const VERSION: &str = "0.1.0 (commit not recorded)";
 // How `edit` is called.
 const EDIT_USAGE: &str = "mkedit edit [OPTIONS] SCRIPT [FILE]
        mkedit edit [OPTIONS] -e COMMAND [-e COMMAND ...] [FILE]
-       mkedit edit [OPTIONS] -i SCRIPT FILE...
-       mkedit edit [OPTIONS] -i -e COMMAND [-e COMMAND ...] FILE...";
+       mkedit edit [OPTIONS] (-i | --diff) SCRIPT FILE...
+       mkedit edit [OPTIONS] (-i | --diff) -e COMMAND [-e COMMAND ...] FILE...";
 
 // A command with its texts, and no argument yet.
 fn titled<'a>(alloc: Global, name: CommandName) -> Command<'a>

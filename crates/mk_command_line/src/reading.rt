@@ -8,7 +8,7 @@ ghost use Rattle.clap.specs.declared.error.kind.ErrorKind.TheVariants.{OutOfMemo
 ghost use Rattle.mk_command_line.specs.Commands.{program_for};
 ghost use Rattle.mk_command_line.specs.Requests.{AreApart, Asks, AsksEdit, AsksGet, AsksQuery, AsksSession, GoesTo, IsDepth, IsFlag};
 ghost use Rattle.mk_command_line.specs.Requests.{AreMakefiles, ReadsFrom, file_named, file_of, words_from};
-ghost use Rattle.mk_command_line.specs.Requests.{IsAsked, IsBackup, IsColor, IsNth, IsNumber, is_alone, is_json, is_named, is_query, is_suffix};
+ghost use Rattle.mk_command_line.specs.Requests.{IsAsked, IsBackup, IsColor, IsNth, IsNumber, fits_output, is_alone, is_json, is_named, is_query, is_suffix};
 
 use crate::arguments::{
     BACKUP, COLOR, DEPTH, DIFF, EXPRESSION, FILE, IN_PLACE, JSON, KEEP_GOING, NAME, NEW, NOTES,
@@ -37,7 +37,8 @@ const NO_NAME: &str = "a NAME is required";
 
 const NO_COMMAND: &str = "a command is required";
 
-const SEVERAL_FILES: &str = "several FILEs may stand beside '--in-place' alone";
+const SEVERAL_FILES: &str =
+    "several FILEs may stand beside '--in-place', or beside '--diff' without '--output'";
 
 const NO_FILE: &str =
     "with '--in-place' FILE has to be the name of a file, and neither '-' nor left out";
@@ -280,11 +281,26 @@ fn color_of(matches: &ArgMatches<'_>) -> Result<Color, &'static str>
     }
 }
 
+// Whether the texts of these makefiles may go there without -i: the diffs of several go to standard
+// output alone.
+fn fits_output(is_diff: bool, out: Option<&str>, files: &[Input<'_>]) -> bool
+    ensures { result ≡ fits_output is_diff (option_map (λ name. name.now) out.entry) files.now }
+{
+    match (is_diff, out) {
+        (true, None) => true,
+        _ => is_alone(files),
+    }
+}
+
 // Where the text goes; or why it cannot go there.
-fn output_of<'a>(matches: &ArgMatches<'a>, files: &[Input<'a>]) -> Result<Output<'a>, &'static str>
+fn output_of<'a>(
+    matches: &ArgMatches<'a>,
+    is_diff: bool,
+    files: &[Input<'a>],
+) -> Result<Output<'a>, &'static str>
     ensures { IfOk result (λ output. (in_place : Bool)
         × IsFlag (codes "in-place") (rows_of (found_of matches.now)) in_place
-        × GoesTo in_place (first_of (codes "output") (rows_of (found_of matches.now)))
+        × GoesTo in_place is_diff (first_of (codes "output") (rows_of (found_of matches.now)))
         (first_of (codes "backup") (rows_of (found_of matches.now))) files.now output) }
 {
     let backup = backup_of(matches)?;
@@ -293,19 +309,27 @@ fn output_of<'a>(matches: &ArgMatches<'a>, files: &[Input<'a>]) -> Result<Output
         (true, backup) if is_named => Ok(Output::InPlace(Backup(backup))),
         (true, _) => Err(NO_FILE),
         (false, Some(_)) => Err(BACKUP_ALONE),
-        (false, None) => one_output(matches, files),
+        (false, None) => standard_or_file(matches, is_diff, files),
     }
 }
 
-// Where the text of one makefile goes.
-fn one_output<'a>(matches: &ArgMatches<'a>, files: &[Input<'a>]) -> Result<Output<'a>, &'static str>
-    ensures { IfOk result (λ output. GoesTo false
+// Where the text of one makefile goes, or the diff of each; or that there are several where one alone
+// may stand.
+fn standard_or_file<'a>(
+    matches: &ArgMatches<'a>,
+    is_diff: bool,
+    files: &[Input<'a>],
+) -> Result<Output<'a>, &'static str>
+    ensures to { IfOk result (λ output. GoesTo false is_diff
         (first_of (codes "output") (rows_of (found_of matches.now))) None files.now output) }
+    ensures several { IfErr result (λ _. fits_output is_diff
+        (first_of (codes "output") (rows_of (found_of matches.now))) files.now ≡ false) }
 {
-    if !is_alone(files) {
+    let out = value(matches, OUTPUT);
+    if !fits_output(is_diff, out, files) {
         return Err(SEVERAL_FILES);
     }
-    match value(matches, OUTPUT) {
+    match out {
         Some(name) => Ok(Output::File(name)),
         None => Ok(Output::Standard),
     }
@@ -328,7 +352,8 @@ fn edit_words<'a>(
     if are_both_standard(&script, files.as_slice()) {
         return Err(command.error(ErrorKind::ArgumentConflict, BOTH_STANDARD)?);
     }
-    let output = match output_of(matches, files.as_slice()) {
+    let is_diff = is_set(matches, DIFF);
+    let output = match output_of(matches, is_diff, files.as_slice()) {
         Ok(output) => output,
         Err(fault) => return Err(command.error(ErrorKind::ArgumentConflict, fault)?),
     };
@@ -341,7 +366,7 @@ fn edit_words<'a>(
         depth,
         notes: is_set(matches, NOTES),
         output,
-        is_diff: is_set(matches, DIFF),
+        is_diff,
         color,
         script,
         files,
@@ -491,7 +516,7 @@ where
 /// What `clap` finds wrong with them, which has its text, and help or the version where one is
 /// asked for; a depth that is not written in decimal digits alone, or is not from 1 to 10,000;
 /// a script and a makefile that are both standard input; a
-/// word that calls no refusal; a number of an assignment that is none; several makefiles without `-i`; `-i` beside `-o` or without the name of
+/// word that calls no refusal; a number of an assignment that is none; several makefiles without `-i` and without `--diff` to standard output; `-i` beside `-o` or without the name of
 /// a file; a suffix that is empty or has a `/`, or that
 /// stands without `-i`; a session over `-`. A query that `clap` takes fails for want of memory alone.
 pub fn read_request<'a, R: FromStr + Drop>(

@@ -90,7 +90,8 @@ pub struct EditWords<'a> {
     /// Where the commands come from.
     pub script: Script<'a>,
     /// The makefiles, one or more. Several stand only beside an output in place, beside which each is
-    /// the name of a file. None is standard input where the script is.
+    /// the name of a file, and beside diffs to standard output. None is standard input where the
+    /// script is.
     pub files: Vec<Input<'a>>,
 }
 

@@ -8,6 +8,7 @@ pub mod Notes
 pub mod MistakeNotes
 pub mod Endings
 pub mod NamedLines
+pub mod ProgressLines
 pub mod Settled
 pub mod DiffRuns
 pub mod SessionFaults

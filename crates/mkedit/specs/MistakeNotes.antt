@@ -1,10 +1,12 @@
 -- The note on a line of a script that is no command.
 -- Told in docs/EDITS.md, "If a line is not a command".
-use Rattle.std.specs.Prelude.{ℕ, List, [], ◌++◌, Option, Some, None, option_map, codes, decimal}
+use Rattle.std.specs.Prelude.{ℕ, List, [], ◌∷◌, ◌++◌, Option, Some, None, option_map, codes, decimal}
 use Rattle.std.specs.Option.{option_copied}
+use Rattle.mk_run.specs.RunEnds.{HasText}
 use Rattle.mk_run.specs.declared.outcome.Outcome as o
 use Rattle.mk_run.specs.declared.outcome.Outcome.TheVariants.{NotACommand}
 use Rattle.mk_script.specs.Mistakes.{mistake_at, nearest_at}
+use Rattle.mk_script.specs.Scripts.{Step, IsScript}
 use Rattle.mk_script.specs.declared.mistake.FieldName.{FieldName}
 use Rattle.mk_script.specs.declared.mistake.FieldName.TheVariants as field
 use Rattle.mk_script.specs.declared.mistake.MistakeCause.{MistakeCause}
@@ -13,12 +15,14 @@ use Rattle.mk_script.specs.declared.mistake.Mistake.{Mistake}
 use Rattle.mkedit.specs.declared.mistakes.ScriptMistake.{ScriptMistake}
 
 -- what is wrong with a line of a script: what the script is called, the number of the line, the
--- mistake, and the word of a command that is spelled like the word there
+-- mistake, the word of a command that is spelled like the word there, and the makefile's name where
+-- the makefile is a script
 pub record Mistaken : Type 0 where
   pub script : List ℕ
   pub line : ℕ
   pub mistake : Mistake
   pub nearest : Option (List ℕ)
+  pub exchanged : Option (List ℕ)
 
 abbrev pub seen_mistake : ScriptMistake → Mistaken
 seen_mistake m =
@@ -27,6 +31,7 @@ seen_mistake m =
       line = m.line;
       mistake = m.mistake;
       nearest = option_copied m.nearest;
+      exchanged = option_copied m.exchanged;
     }
 
 -- the word of a command that is spelled like the word of a mistake, if that is no command's
@@ -41,9 +46,23 @@ nearest_to text line m = nearest_by m.cause text line m.column
 abbrev pub script_mistake : (script text : List ℕ) → o.Outcome → Option Mistaken
 script_mistake script text (NotACommand line) =
     option_map
-    (λ m. record { script = script; line = line; mistake = m; nearest = nearest_to text line m })
+    (λ m. record {
+      script = script;
+      line = line;
+      mistake = m;
+      nearest = nearest_to text line m;
+      exchanged = None;
+    })
     (mistake_at text line)
 script_mistake script text other = None
+
+-- the makefile is a script: its bytes, which a reader gave, are one that has a command
+pub record IsExchanged (makefile : Option (List ℕ)) : Type 0 where
+  pub text : List ℕ
+  pub first : Step
+  pub steps : List Step
+  pub has_text : HasText makefile text
+  pub is_script : IsScript text (first ∷ steps)
 
 -- what is said of a field that is missing
 abbrev pub missing_field : FieldName → List ℕ
@@ -97,7 +116,14 @@ place_text script line m =
 abbrev pub mistake_line : Mistaken → List ℕ
 mistake_line m = place_text m.script m.line m.mistake ++ nearest_text m.nearest
 
--- the notes that are told: one, or none
+-- the note on a script that may be exchanged with the makefile, which is one
+abbrev pub exchanged_note : (script : List ℕ) → (makefile : Option (List ℕ)) → List ℕ
+exchanged_note script None = []
+exchanged_note script (Some makefile) =
+    script
+    ++ (codes ": note: this is no script, and " ++ (makefile ++ codes " is one: they may be exchanged\n"))
+
+-- the notes that are told: none, or the one on the line, and below it that the files may be exchanged
 abbrev pub mistake_notes : Option Mistaken → List ℕ
-mistake_notes (Some m) = mistake_line m
+mistake_notes (Some m) = mistake_line m ++ exchanged_note m.script m.exchanged
 mistake_notes None = []

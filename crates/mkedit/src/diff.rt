@@ -1,23 +1,27 @@
 //! `mkedit edit --diff`: the diff of a makefile and of the text that a script makes of it, in place
 //! of that text.
-ghost use Rattle.std.specs.Prelude.{◌≡◌, ◌≢◌, ◌||◌, ◌≤◌, List, Some, false, true, is_err, length, IfOk, IfErr, OnOk};
+ghost use Rattle.std.specs.Prelude.{◌≡◌, ◌≢◌, ◌||◌, ◌≤◌, List, Option, Some, false, true, is_err, length, map, IfOk, IfErr, OnOk, ℕ};
 ghost use Rattle.std.specs.Io.KnownBytes.{Appends, Keeps};
 ghost use Rattle.mk_lines.specs.Device.{AppendsPrefix};
 ghost use Rattle.mk_run.specs.Outcome.{is_printed};
-ghost use Rattle.mk_run.specs.RunEnds.{written};
+ghost use Rattle.mk_run.specs.RunEnds.{IsOut, written};
+ghost use Rattle.mk_run.specs.RunSteps.{GivesSteps};
+ghost use Rattle.mk_script.specs.Scripts.{step_of};
+ghost use Rattle.mk_session.specs.Sessions.{IsBadDepth};
 ghost use Rattle.mk_lines.specs.PhysicalLines.{physical_lines};
 ghost use Rattle.mk_diff.specs.HunkTexts.{diff_text};
 ghost use Rattle.mk_diff.specs.Hunks.{Hunk, IsDiff};
 ghost use Rattle.mkedit.specs.DiffRuns.{IsDiffRun, shown_diff};
 
 use crate::edit::run_to;
+use crate::several::run_steps_to;
 use mk_command_line::{EditWords, Input};
 use mk_diff::{diff, painted};
 use mk_lines::sink::write_all;
 use mk_lines::source::read_all;
 use mk_lines::{ByteSink, ByteSource, Fault, StdSource};
 use mk_prompt::TextSink;
-use mk_run::{Outcome, Witness};
+use mk_run::{Outcome, Step, Witness};
 use std::alloc::Allocator;
 
 // The makefile where it could not be read to its end: a source that fails at once, or that never
@@ -160,6 +164,44 @@ where
     outcome
 }
 
+// Puts out the diff of a makefile and of the text that a run wrote into memory, where a run that ended
+// so puts its text out; and says how it ends then.
+fn put_diff<A, W>(
+    alloc: A,
+    keep_going: bool,
+    form: DiffForm<'_>,
+    old: &[u8],
+    sink: &TextSink<A>,
+    outcome: Outcome,
+    out: &mut W,
+) -> Outcome
+where
+    A: Allocator + Copy,
+    W: ByteSink,
+    requires { W.failed out.old ≡ false }
+    ensures same { is_printed result keep_going ≡ true → result ≡ outcome }
+    ensures is_out { is_printed result keep_going ≡ true → (hunks : List Hunk)
+        × IsDiff (physical_lines old.now) (physical_lines sink.now.text.items) hunks
+        × IsOut (written (W.contents out.old) (W.contents out.new))
+        (shown_diff form.entry.has_color (diff_text form.entry.name.now hunks)) }
+    ensures unprinted { is_printed result keep_going ≡ false → result ≢ Outcome.Write
+        → out.new ≡ out.old }
+{
+    if sink.is_failed {
+        return Outcome::NoMemory;
+    }
+    if !is_printed(&outcome, keep_going) {
+        return outcome;
+    }
+    let Ok(text) = shown_diff(alloc, old, &sink.text, form) else {
+        return Outcome::NoMemory;
+    };
+    match put_out(out, &text) {
+        Ok(()) => outcome,
+        Err(_) => Outcome::Write,
+    }
+}
+
 /// Runs the script over the makefile as the words say, and puts the diff of the makefile and the text
 /// out in place of the text. Where the text would not go out, nothing does.
 pub(crate) fn run_diff<A, R, S, W, P, T>(
@@ -206,17 +248,46 @@ where
         report,
         witness,
     );
-    if sink.is_failed {
-        return Outcome::NoMemory;
-    }
-    if !is_printed(&outcome, words.keep_going) {
-        return outcome;
-    }
-    let Ok(text) = shown_diff(alloc, &old, &sink.text, form) else {
-        return Outcome::NoMemory;
+    put_diff(alloc, words.keep_going, form, &old, &sink, outcome, out)
+}
+
+/// Runs steps over a makefile as the words say, and puts the diff of the makefile and the text out in
+/// place of the text. Where the text would not go out, nothing does.
+pub(crate) fn run_steps_diff<A, R, W, P, T>(
+    alloc: A,
+    words: &EditWords<'_>,
+    form: DiffForm<'_>,
+    steps: &[Step<A>],
+    makefile: &mut R,
+    out: &mut W,
+    report: &mut P,
+    witness: &mut T,
+) -> Outcome
+where
+    A: Allocator + Copy,
+    R: ByteSource,
+    P: ByteSink,
+    W: ByteSink,
+    T: Witness<A>,
+    requires makefile_works { R.failed makefile.old ≡ false }
+    requires report_works { P.failed report.old ≡ false }
+    requires out_works { W.failed out.old ≡ false }
+    requires depth { IsBadDepth words.now.depth → ⊥ }
+    ensures law { is_printed result words.now.keep_going ≡ true
+        → (script : Option (List ℕ)) → GivesSteps script (map step_of steps.now)
+        → IsDiffRun (R.remaining makefile.old) script words.now.depth
+        words.now.keep_going form.entry.name.now form.entry.has_color result (P.failed report.new)
+        (written (P.contents report.old) (P.contents report.new))
+        (written (W.contents out.old) (W.contents out.new)) }
+    ensures unprinted { is_printed result words.now.keep_going ≡ false → result ≢ Outcome.Write
+        → out.new ≡ out.old }
+{
+    let old = match read_all(alloc, makefile) {
+        Ok(old) => old,
+        Err(fault) => return Outcome::from(fault),
     };
-    match put_out(out, &text) {
-        Ok(()) => outcome,
-        Err(_) => Outcome::Write,
-    }
+    let mut sink = TextSink::new(alloc);
+    let mut source = StdSource::new(old.as_slice());
+    let outcome = run_steps_to(alloc, words, steps, &mut source, &mut sink, report, witness);
+    put_diff(alloc, words.keep_going, form, &old, &sink, outcome, out)
 }

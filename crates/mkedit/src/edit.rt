@@ -6,6 +6,7 @@ use crate::color::has_color;
 use crate::destination::{Destination, destination_of};
 use crate::diff::{DiffForm, diff_name, run_diff};
 use crate::ending::{End, finished};
+use crate::exchanged::with_exchanged;
 use crate::files::{CannotOpen, open};
 use crate::in_place::InPlaceFile;
 use crate::kept::Kept;
@@ -112,9 +113,9 @@ where
     run_to(alloc, words, makefile, script, out, report, witness)
 }
 
-// How the diff of a makefile is shown that goes to a terminal, or to something else; None where the
-// text goes there.
-fn form_of<'a>(
+/// How the diff of a makefile is shown that goes to a terminal, or to something else; None where the
+/// text goes there.
+pub(crate) fn form_of<'a>(
     rt: &HostRuntime,
     words: &EditWords<'_>,
     file: Input<'a>,
@@ -207,7 +208,8 @@ fn run_kept<'a, S: ByteSource + Drop>(
 {
     let mut script = Kept::new(rt.alloc(), script, words.notes);
     let end = run_by(rt, words, file, &mut script)?;
-    Ok(end.with_mistake(script.mistake(name, end.outcome)))
+    let end = end.with_mistake(script.mistake(name, end.outcome));
+    Ok(with_exchanged(rt, words, end, Some(&file)))
 }
 
 // The same, of a reader.

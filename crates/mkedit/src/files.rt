@@ -4,7 +4,7 @@ ghost use Rattle.std.specs.IoError.{error_kind};
 
 use crate::notes::{Cause, SystemFault};
 use std::fs::{File, OpenOptions};
-use std::io;
+use std::{fs, io};
 
 /// A file that cannot be opened, by its name, and why.
 #[derive(Clone, Copy)]
@@ -36,6 +36,14 @@ pub fn open<'a>(rt: &HostRuntime, name: &'a str) -> Result<File, CannotOpen<'a>>
     match File::open(rt, name).and_then(beside_standard_streams) {
         Ok(file) => Ok(file),
         Err(error) => Err(cannot_open(name, error)),
+    }
+}
+
+/// Whether a name is that of a regular file: to open another, such as a pipe, may wait without end.
+pub(crate) fn is_regular(rt: &HostRuntime, name: &str) -> bool {
+    match fs::metadata(rt, name) {
+        Ok(metadata) => metadata.is_file(),
+        Err(_) => false,
     }
 }
 

@@ -12,12 +12,14 @@
 //! - `help`: what a command of a script does; `script_command` has the commands, `command_texts` the texts.
 //! - `files`: files beside the standard streams.
 //! - `noted`: readers and writers that remember why they failed.
-//! - `kept`: a source whose bytes are kept; `mistakes`: the note on a line of a script that is no command.
+//! - `kept`: a source whose bytes are kept; `mistakes`: the notes on a line of a script that is no command;
+//!   `exchanged`: whether script and makefile may be exchanged.
 //! - `named`: lines that begin with the name of a file.
 //! - `notes`: what is said of that below a message.
 //! - `refused`: the notes below the lines on refusals, by [`mk_notes`].
 //! - `out_file`: the file that a text goes to; `in_place`: the makefile itself.
 //! - `ending`: the message and the status.
+//! - `progress`: how many of several makefiles are done, at a terminal.
 //! - `session`: a makefile that is edited step by step, by [`mk_prompt`].
 #![tactic(auto)]
 
@@ -29,6 +31,7 @@ mod destination;
 mod diff;
 mod edit;
 mod ending;
+mod exchanged;
 mod explain;
 mod explanations;
 mod files;
@@ -40,6 +43,7 @@ mod named;
 mod noted;
 mod notes;
 mod out_file;
+mod progress;
 mod query;
 mod question;
 mod refused;

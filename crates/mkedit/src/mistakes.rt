@@ -1,13 +1,14 @@
 //! The note on a line of a script that is no command: where in the line a mistake is, and what is wrong.
-ghost use Rattle.std.specs.Prelude.{◌≡◌, false, option_map};
+ghost use Rattle.std.specs.Prelude.{◌≡◌, Some, false, option_map, true};
 ghost use Rattle.std.specs.Option.{option_copied};
 ghost use Rattle.mk_lines.specs.Device.{Writes};
-ghost use Rattle.mkedit.specs.MistakeNotes.{mistake_line, mistake_notes, missing_field, nearest_text, nearest_to, place_text, said_of, script_mistake, seen_mistake};
+ghost use Rattle.mkedit.specs.MistakeNotes.{IsExchanged, exchanged_note, mistake_line, mistake_notes, missing_field, nearest_text, nearest_to, place_text, said_of, script_mistake, seen_mistake};
 
 use mk_lines::sink::{write_all, write_parts};
-use mk_lines::{ByteSink, Fault};
-use mk_run::Outcome;
+use mk_lines::{ByteSink, ByteSource, Fault};
+use mk_run::{Outcome, read_script};
 use mk_script::{FieldName, Mistake, MistakeCause, mistake_at, nearest_at};
+use std::alloc::Allocator;
 
 /// What the lines of the command line are called, where they are the script.
 pub const COMMAND_LINES: &str = "-e";
@@ -23,6 +24,8 @@ pub struct ScriptMistake<'a> {
     pub mistake: Mistake,
     /// The word of a command that is spelled like the word there, where that is no command's.
     pub nearest: Option<&'a str>,
+    /// The name of the makefile, where that is a script: the two may be exchanged.
+    pub exchanged: Option<&'a str>,
 }
 
 /// What is wrong with a script of this name and text, if a run over it ended at a line that is no
@@ -43,8 +46,21 @@ pub fn script_mistake<'a>(
             line,
             mistake,
             nearest: nearest_to(text, line, mistake),
+            exchanged: None,
         }),
         None => None,
+    }
+}
+
+/// Whether the bytes of a source are a script that has a command. Where they cannot be read to their end,
+/// that is not known.
+pub fn is_script<A: Allocator + Copy, S: ByteSource>(alloc: A, source: &mut S) -> bool
+    requires { S.failed source.old ≡ false }
+    ensures { result ≡ true → IsExchanged (S.remaining source.old) }
+{
+    match read_script(alloc, source) {
+        Ok(steps) => !steps.is_empty(),
+        Err(_) => false,
     }
 }
 
@@ -151,18 +167,56 @@ fn put_line<W: ByteSink>(found: ScriptMistake<'_>, out: &mut W) -> Result<(), Fa
     put_nearest(found.nearest, out)
 }
 
-/// Writes the note on a mistake, if there is one.
+// Writes the note that a script may be exchanged with the makefile, where that is a script.
+fn put_exchanged<W: ByteSink>(
+    script: &str,
+    makefile: Option<&str>,
+    out: &mut W,
+) -> Result<(), Fault>
+    requires { W.failed out.old ≡ false }
+    ensures { Writes W.contents W.failed W.flushes out.old out.new result
+        (exchanged_note script.now (option_copied makefile.entry)) }
+{
+    match makefile {
+        Some(makefile) => {
+            let script = script.as_bytes();
+            let makefile = makefile.as_bytes();
+            write_parts(
+                out,
+                &[
+                    script,
+                    b": note: this is no script, and ",
+                    makefile,
+                    b" is one: they may be exchanged\n",
+                ],
+            )
+        }
+        None => write_all(out, b""),
+    }
+}
+
+// Writes the notes on a mistake.
+fn put_notes_on<W: ByteSink>(found: ScriptMistake<'_>, out: &mut W) -> Result<(), Fault>
+    requires { W.failed out.old ≡ false }
+    ensures { Writes W.contents W.failed W.flushes out.old out.new result
+        (mistake_notes (Some (seen_mistake found.entry))) }
+{
+    put_line(found, out)?;
+    put_exchanged(found.script, found.exchanged, out)
+}
+
+/// Writes the notes on a mistake, if there is one.
 ///
 /// # Errors
 ///
-/// [`Fault::Write`] where the sink failed. A prefix of the note is out then.
+/// [`Fault::Write`] where the sink failed. A prefix of the notes is out then.
 pub fn put_mistake<W: ByteSink>(found: Option<ScriptMistake<'_>>, out: &mut W) -> Result<(), Fault>
     requires { W.failed out.old ≡ false }
     ensures { Writes W.contents W.failed W.flushes out.old out.new result
         (mistake_notes (option_map seen_mistake found.entry)) }
 {
     match found {
-        Some(found) => put_line(found, out),
+        Some(found) => put_notes_on(found, out),
         None => write_all(out, b""),
     }
 }

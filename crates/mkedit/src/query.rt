@@ -18,6 +18,7 @@ use crate::ending::{CANNOT_OPEN, End, Statuses, finished, tell_not_opened};
 use crate::files::{CannotOpen, open};
 use crate::noted::Noted;
 use crate::notes::{STANDARD_INPUT, STANDARD_OUTPUT};
+use crate::progress::Progress;
 use crate::question::{Found, Inquiry, Question, Unanswered, found_for, put_found};
 use crate::several::{kept_outcome, put_named, tell_named};
 use mk_command_line::{Form, Input};
@@ -326,22 +327,34 @@ fn ask_kept<'a>(
 
 // Answers what several makefiles are asked for, in turn, until nobody reads the output any more.
 fn ask_each(rt: &HostRuntime, inquiry: Inquiry<'_>, files: &[Input<'_>], notes: bool) -> ExitCode {
+    let mut progress = Progress::new(rt, files.len(), true);
     let mut statuses = Statuses::new();
-    for file in files {
+    for (done, file) in files.iter().enumerate() {
+        progress.show(done);
         let mut lines = Vec::new(rt.alloc());
         match ask_kept(rt, inquiry, *file, &mut lines) {
             Ok(asked) => {
-                statuses.add(tell_named(rt, *file, &mut lines, &[], &asked.end, notes));
+                statuses.add(tell_named(
+                    rt,
+                    &mut progress,
+                    *file,
+                    &mut lines,
+                    &[],
+                    &asked.end,
+                    notes,
+                ));
                 if asked.is_left {
                     break;
                 }
             }
             Err(cannot) => {
+                progress.wipe();
                 tell_not_opened(rt, &cannot, notes);
                 statuses.add(CANNOT_OPEN);
             }
         }
     }
+    progress.wipe();
     statuses.code()
 }
 

@@ -12,29 +12,33 @@ ghost use Rattle.mkedit.specs.NamedLines.{named_lines};
 ghost use Rattle.mkedit.specs.Notes.{notes_of};
 
 use crate::destination::{Destination, destination_of, name_of};
+use crate::diff::{DiffForm, run_steps_diff};
+use crate::edit::form_of;
 use crate::ending::{CANNOT_OPEN, End, Statuses, ended, not_opened, tell_not_opened};
+use crate::exchanged::with_exchanged;
 use crate::files::{CannotOpen, open};
 use crate::in_place::InPlaceFile;
 use crate::kept::Kept;
 use crate::mistakes::COMMAND_LINES;
 use crate::named::named_lines;
 use crate::noted::Noted;
-use crate::notes::{STANDARD_INPUT, STANDARD_OUTPUT, SystemFault, put_notes};
+use crate::notes::{Cause, STANDARD_INPUT, STANDARD_OUTPUT, SystemFault, put_notes};
 use crate::out_file::OutFile;
+use crate::progress::Progress;
 use crate::refused::{Names, NotesKept};
-use mk_command_line::{EditWords, Input, Script};
+use mk_command_line::{EditWords, Input, Output, Script};
 use mk_history::history::is_bad_depth;
 use mk_lines::sink::write_all;
 use mk_lines::{ByteSink, ByteSource, Fault, StdSink, StdSource};
 use mk_run::{Outcome, Step, Witness, message, read_script, run_steps, status};
 use std::alloc::{Allocator, Global};
-use std::io::Read;
+use std::io::{ErrorKind, IsTerminal, Read};
 use std::mem;
 use std::process::ExitCode;
 
-// Runs steps over a makefile, with the depth and the keep-going of the words. The session is not given
-// up: the program ends soon.
-fn run_steps_to<A, R, W, P, T>(
+/// Runs steps over a makefile, with the depth and the keep-going of the words. The session is not given
+/// up: the program ends soon.
+pub(crate) fn run_steps_to<A, R, W, P, T>(
     alloc: A,
     words: &EditWords<'_>,
     steps: &[Step<A>],
@@ -129,10 +133,17 @@ fn notes_kept<'a>(
     }
 }
 
-// Writes the notes that a witness has kept before the first line of a report. A write that fails is that
-// of the report too, which is written behind them.
-fn put_before(rt: &HostRuntime, witness: &Option<NotesKept<'_, Global>>) {
+// Writes the notes that a witness has kept before the first line of a report, and wipes the line on the
+// progress before. A write that fails is that of the report too, which is written behind them.
+fn put_before(
+    rt: &HostRuntime,
+    progress: &mut Progress<'_>,
+    witness: &Option<NotesKept<'_, Global>>,
+) {
     if let Some(witness) = witness {
+        if !witness.before.is_empty() {
+            progress.wipe();
+        }
         let _ = write_all(&mut StdSink::new(rt.stderr()), witness.before.as_slice());
     }
 }
@@ -145,10 +156,11 @@ fn notes_below<'a>(witness: &'a Option<NotesKept<'_, Global>>) -> &'a [Vec<u8>] 
     }
 }
 
-// Runs steps over a makefile, with the report into memory.
+// Runs steps over a makefile, with the text or the diff to a sink, and the report into memory.
 fn run_kept<R: ByteSource, W: ByteSink>(
     alloc: Global,
     words: &EditWords<'_>,
+    form: Option<DiffForm<'_>>,
     steps: &[Step<Global>],
     makefile: &mut R,
     out: &mut W,
@@ -160,7 +172,14 @@ fn run_kept<R: ByteSource, W: ByteSink>(
     requires depth { IsBadDepth words.now.depth → ⊥ }
 {
     let mut lines = StdSink::new(report);
-    let outcome = run_steps_to(alloc, words, steps, makefile, out, &mut lines, witness);
+    let outcome = match form {
+        Some(form) => {
+            run_steps_diff(
+                alloc, words, form, steps, makefile, out, &mut lines, witness,
+            )
+        }
+        None => run_steps_to(alloc, words, steps, makefile, out, &mut lines, witness),
+    };
     kept_outcome(outcome, lines.failed())
 }
 
@@ -171,7 +190,8 @@ fn keep_message(outcome: Outcome, report: &mut Vec<u8>) -> Outcome {
     kept_outcome(outcome, lines.failed())
 }
 
-// Runs steps over a makefile, with the text to where the words say, and the report into memory.
+// Runs steps over a makefile, with the text or the diff to where the words say, and the report into
+// memory.
 fn run_over<'a, R: ByteSource>(
     rt: &'a HostRuntime,
     words: &EditWords<'a>,
@@ -188,20 +208,28 @@ fn run_over<'a, R: ByteSource>(
     match destination_of(words.output, file) {
         Destination::File(name) => {
             let mut out = OutFile::new(rt, name);
-            let outcome = run_kept(alloc, words, steps, makefile, &mut out, report, witness);
+            let form = form_of(rt, words, file, false);
+            let outcome = run_kept(
+                alloc, words, form, steps, makefile, &mut out, report, witness,
+            );
             End::of(outcome).with_fault(out.fault())
         }
         Destination::InPlace(name, backup) => {
             let mut out = InPlaceFile::new(rt, name, backup);
-            let outcome = run_kept(alloc, words, steps, makefile, &mut out, report, witness);
+            let outcome = run_kept(
+                alloc, words, None, steps, makefile, &mut out, report, witness,
+            );
             let end = End::of(outcome).with_fault(out.fault());
             out.close();
             end
         }
         Destination::Standard => {
+            let form = form_of(rt, words, file, rt.stdout().is_terminal());
             let mut device = Noted::new(rt.stdout());
             let mut out = StdSink::new(&mut device);
-            let outcome = run_kept(alloc, words, steps, makefile, &mut out, report, witness);
+            let outcome = run_kept(
+                alloc, words, form, steps, makefile, &mut out, report, witness,
+            );
             End::of(outcome).with_fault(device.fault(STANDARD_OUTPUT))
         }
     }
@@ -258,10 +286,11 @@ fn run_by<'a>(
 }
 
 /// Says on standard error how a run over one of several makefiles, or a query of it, ended, and answers
-/// its status. `below` are the notes below the lines of the report. Where that cannot be said, the status
-/// is that of the fault.
+/// its status. `below` are the notes below the lines of the report. Where something is said, the line on
+/// the progress is wiped before. Where it cannot be said, the status is that of the fault.
 pub fn tell_named(
     rt: &HostRuntime,
+    progress: &mut Progress<'_>,
     file: Input<'_>,
     report: &mut Vec<u8>,
     below: &[Vec<u8>],
@@ -270,6 +299,9 @@ pub fn tell_named(
 ) -> u8 {
     let outcome = keep_message(end.outcome, report);
     let fault = end.told_fault(notes);
+    if !report.is_empty() || fault.is_some() {
+        progress.wipe();
+    }
     let mut errors = StdSink::new(rt.stderr());
     match put_named(
         rt.alloc(),
@@ -284,26 +316,55 @@ pub fn tell_named(
     }
 }
 
-// Runs steps over one of several makefiles, and answers the status.
+// What is known of a run over one of several makefiles: its status, and whether nobody reads standard
+// output any more.
+#[derive(Clone, Copy)]
+struct Ran {
+    status: u8,
+    is_left: bool,
+}
+
+// Whether a run ended since nobody reads the diffs any more.
+fn is_left(words: &EditWords<'_>, end: &End<'_>) -> bool {
+    match end.fault {
+        Some(
+            SystemFault {
+                cause: Cause::System(ErrorKind::BrokenPipe),
+                ..
+            },
+        ) => words.is_diff && end.outcome == Outcome::Write,
+        _ => false,
+    }
+}
+
+// Runs steps over one of several makefiles, and says how that ended.
 fn edit_one<'a>(
     rt: &'a HostRuntime,
     words: &EditWords<'a>,
     steps: &[Step<Global>],
+    progress: &mut Progress<'_>,
     file: Input<'a>,
-) -> u8
+) -> Ran
     requires { IsBadDepth words.now.depth → ⊥ }
 {
     let mut report = Vec::new(rt.alloc());
     let mut witness = notes_kept(rt, words, file);
     match run_by(rt, words, steps, file, &mut report, &mut witness) {
         Ok(end) => {
-            put_before(rt, &witness);
+            put_before(rt, progress, &witness);
             let below = notes_below(&witness);
-            tell_named(rt, file, &mut report, below, &end, words.notes)
+            Ran {
+                status: tell_named(rt, progress, file, &mut report, below, &end, words.notes),
+                is_left: is_left(words, &end),
+            }
         }
         Err(file) => {
+            progress.wipe();
             tell_not_opened(rt, &file, words.notes);
-            CANNOT_OPEN
+            Ran {
+                status: CANNOT_OPEN,
+                is_left: false,
+            }
         }
     }
 }
@@ -352,20 +413,31 @@ fn steps_of<'a>(
 }
 
 /// Reads the script once, and runs it over each of several makefiles in turn. Each makefile is a run by
-/// itself: where one ends early, the others go on. Answers the greatest of their statuses. Where the
-/// script is none, no makefile is opened.
+/// itself: where one ends early, the others go on, unless nobody reads their diffs any more. Answers the
+/// greatest of their statuses. Where the script is none, no makefile is opened.
 pub fn edit_each<'a>(rt: &'a HostRuntime, words: &EditWords<'a>, files: &[Input<'a>]) -> ExitCode {
     if is_bad_depth(words.depth) {
         return ended(rt, &End::of(Outcome::BadDepth), words.notes);
     }
     let steps = match steps_of(rt, words) {
         Ok(Ok(steps)) => steps,
-        Ok(Err(end)) => return ended(rt, &end, words.notes),
+        Ok(Err(end)) => {
+            let end = with_exchanged(rt, words, end, files.first());
+            return ended(rt, &end, words.notes);
+        }
         Err(file) => return not_opened(rt, &file, words.notes),
     };
+    let is_printing = !matches!(words.output, Output::InPlace(_));
+    let mut progress = Progress::new(rt, files.len(), is_printing);
     let mut statuses = Statuses::new();
-    for file in files {
-        statuses.add(edit_one(rt, words, steps.as_slice(), *file));
+    for (done, file) in files.iter().enumerate() {
+        progress.show(done);
+        let ran = edit_one(rt, words, steps.as_slice(), &mut progress, *file);
+        statuses.add(ran.status);
+        if ran.is_left {
+            break;
+        }
     }
+    progress.wipe();
     statuses.code()
 }

@@ -2,21 +2,13 @@
 ghost use Rattle.std.specs.Prelude.{◌≡◌, false};
 
 use super::not_done::NotDone;
-use crate::files::open;
+use crate::files::{is_regular, open};
 use crate::in_place::{InPlaceFile, same_bytes};
 use mk_lines::sink::write_all;
 use mk_lines::{ByteSink, StdSource};
 use std::fs;
 use std::fs::OpenOptions;
 use std::io::ErrorKind;
-
-// Whether a name is that of a regular file: to open another, such as a pipe, may wait without end.
-fn is_regular(rt: &HostRuntime, name: &str) -> bool {
-    match fs::metadata(rt, name) {
-        Ok(metadata) => metadata.is_file(),
-        Err(_) => false,
-    }
-}
 
 /// Looks whether the file of this name has these bytes.
 ///

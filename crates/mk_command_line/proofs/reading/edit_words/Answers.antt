@@ -11,7 +11,7 @@ returns c =
       notes = c.is_set-2.ensures;
       from = rw c.in-Some-2.is at c.in_ok-script.ensures;
       apart = rw apart at (c.are_both_standard.ensures c.if-are_both_standard.false);
-      diff = c.is_set-3.ensures;
+      diff = c.is_set-is_diff.ensures;
       to = rw to at c.in-Ok.ensures;
       color = c.in-Ok-color_of.ensures;
     }

@@ -1,0 +1,45 @@
+//! Whether SCRIPT and FILE may be exchanged: SCRIPT is no script, and FILE is one.
+ghost use Rattle.std.specs.Prelude.{◌≡◌};
+
+use crate::ending::End;
+use crate::files::{is_regular, open};
+use crate::mistakes::{ScriptMistake, is_script};
+use mk_command_line::{EditWords, Input, Script};
+use mk_lines::StdSource;
+
+// Whether the file of a name is a script that has a command. It is opened for this alone, and another
+// file than a regular one is not: to open a pipe may wait without end.
+fn is_script_file(rt: &HostRuntime, name: &str) -> bool {
+    if !is_regular(rt, name) {
+        return false;
+    }
+    match open(rt, name) {
+        Ok(file) => is_script(rt.alloc(), &mut StdSource::new(file)),
+        Err(_) => false,
+    }
+}
+
+/// The same end; where it knows a mistake of the script, and this makefile is a script, with the
+/// makefile's name. Standard input is not read for it, and commands of the command line are exchanged
+/// with nothing.
+pub fn with_exchanged<'a>(
+    rt: &HostRuntime,
+    words: &EditWords<'a>,
+    end: End<'a>,
+    file: Option<&Input<'a>>,
+) -> End<'a>
+    ensures outcome { result.outcome ≡ end.entry.outcome }
+    ensures fault { result.fault ≡ end.entry.fault }
+{
+    let (Script::From(_), Some(found), Some(Input::File(name))) = (&words.script, end.mistake, file)
+    else {
+        return end;
+    };
+    if !is_script_file(rt, name) {
+        return end;
+    }
+    end.with_mistake(Some(ScriptMistake {
+        exchanged: Some(*name),
+        ..found
+    }))
+}
