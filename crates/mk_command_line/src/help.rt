@@ -43,8 +43,8 @@ standard error says which one and why, and no text goes out, unless -k is given.
 or `mkedit explain NoSuch`, says more on the refusal 4 NoSuch, and what to do. --notes shows the lines
 that are the cause, and also what is wrong with a line of the script that is not a command.
 
-Several FILEs may stand with -i: each is edited by itself. One in which a command is refused stays as it
-was, the others go on, and each line on standard error begins with the name of its file.
+Several FILEs may stand with -i or --diff: each is edited by itself. One in which a command is refused
+stays as it was, the others go on, and each line on standard error begins with the name of its file.
 
 Example: with `CC = gcc # c` in config.mk, and `set CC clang` in use-clang,
     mkedit edit use-clang config.mk
