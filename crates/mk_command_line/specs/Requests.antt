@@ -207,7 +207,7 @@ pub record AsksSession (rows : List Row) (words : SessionWords) : Type 0 where
 
 module _ {R E : Type 0} (reads : Text → Result R E → Type 0) where
   -- what a command asks for; `reads` tells what refusal a word calls
-  abbrev AsksByCommand : Option CommandName → List Row → Request R → Type 0
+  abbrev pub AsksByCommand : Option CommandName → List Row → Request R → Type 0
   AsksByCommand (Some Edit) rows (request.Edit words) = AsksEdit rows words
   AsksByCommand (Some (Query query)) rows (request.Query words) = AsksQuery query rows words
   AsksByCommand (Some Get) rows (request.Get words) = AsksGet rows words

@@ -186,7 +186,9 @@ pub(crate) fn notes<'a>(alloc: Global) -> Arg<'a>
     Arg::new(alloc, NOTES)
         .long("notes")
         .action(ArgAction::SetTrue)
-        .help("Says below a refusal or a message what is wrong, and where; at a terminal it always does")
+        .help(
+            "Says below a refusal or a message what is wrong, and where; at a terminal it always does",
+        )
 }
 
 /// The one name whose assignments are asked for.

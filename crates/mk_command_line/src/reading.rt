@@ -6,7 +6,7 @@ ghost use Rattle.clap.specs.Words.{all_of, app_of, first_of, found_of, kind_of, 
 ghost use Rattle.clap.specs.Words.{subcommand_of, subcommand_rows_of, takes};
 ghost use Rattle.clap.specs.declared.error.kind.ErrorKind.TheVariants.{OutOfMemory};
 ghost use Rattle.mk_command_line.specs.Commands.{program_for};
-ghost use Rattle.mk_command_line.specs.Requests.{AreApart, Asks, AsksEdit, AsksGet, AsksQuery, AsksSession, GoesTo, IsDepth, IsFlag};
+ghost use Rattle.mk_command_line.specs.Requests.{AreApart, Asks, AsksByCommand, AsksEdit, AsksGet, AsksQuery, AsksSession, GoesTo, IsDepth, IsFlag};
 ghost use Rattle.mk_command_line.specs.Requests.{AreMakefiles, ReadsFrom, file_named, file_of, words_from};
 ghost use Rattle.mk_command_line.specs.Requests.{IsAsked, IsBackup, IsColor, IsNth, IsNumber, fits_output, is_alone, is_json, is_named, is_query, is_suffix};
 
@@ -286,10 +286,7 @@ fn color_of(matches: &ArgMatches<'_>) -> Result<Color, &'static str>
 fn fits_output(is_diff: bool, out: Option<&str>, files: &[Input<'_>]) -> bool
     ensures { result ≡ fits_output is_diff (option_map (λ name. name.now) out.entry) files.now }
 {
-    match (is_diff, out) {
-        (true, None) => true,
-        _ => is_alone(files),
-    }
+    (is_diff && out.is_none()) || is_alone(files)
 }
 
 // Where the text goes; or why it cannot go there.
@@ -481,6 +478,74 @@ where
     Err(command.error(ErrorKind::InvalidValue, NO_REFUSAL)?)
 }
 
+// What the words of a query ask for, as a request.
+fn query_request<'a, R: FromStr + Drop>(
+    alloc: Global,
+    query: QueryName,
+    matches: &ArgMatches<'a>,
+) -> Result<Request<'a, R>, clap::Error>
+    ensures asks { IfOk result (AsksByCommand R.from_str_gives (Some (CommandName.Query query))
+        (rows_of (found_of matches.now))) }
+    ensures fault { IfErr result (λ error. kind_of error ≡ OutOfMemory) }
+{
+    Ok(Request::Query(query_words(alloc, query, matches)?))
+}
+
+// What the words of `get` ask for, as a request.
+fn get_request<'a, R: FromStr + Drop>(
+    alloc: Global,
+    command: &mut Command<'a>,
+    matches: &ArgMatches<'a>,
+) -> Result<Request<'a, R>, clap::Error>
+    ensures { IfOk result (AsksByCommand R.from_str_gives (Some CommandName.Get)
+        (rows_of (found_of matches.now))) }
+{
+    Ok(Request::Get(get_words(alloc, command, matches)?))
+}
+
+// What the words of `explain` ask for, as a request.
+fn explain_request<'a, R: FromStr + Drop>(
+    command: &mut Command<'a>,
+    matches: &ArgMatches<'a>,
+) -> Result<Request<'a, R>, clap::Error>
+where
+    R::Err: Drop,
+    ensures { IfOk result (AsksByCommand R.from_str_gives (Some CommandName.Explain)
+        (rows_of (found_of matches.now))) }
+{
+    Ok(Request::Explain(explained(command, matches)?))
+}
+
+// What the words of `edit` ask for, as a request.
+fn edit_request<'a, R: FromStr + Drop>(
+    alloc: Global,
+    command: &mut Command<'a>,
+    matches: &ArgMatches<'a>,
+) -> Result<Request<'a, R>, clap::Error>
+    ensures { IfOk result (AsksByCommand R.from_str_gives (Some CommandName.Edit)
+        (rows_of (found_of matches.now))) }
+{
+    Ok(Request::Edit(edit_words(alloc, command, matches)?))
+}
+
+// What the words of `session` ask for, as a request.
+fn session_request<'a, R: FromStr + Drop>(
+    command: &mut Command<'a>,
+    matches: &ArgMatches<'a>,
+) -> Result<Request<'a, R>, clap::Error>
+    ensures { IfOk result (AsksByCommand R.from_str_gives (Some CommandName.Session)
+        (rows_of (found_of matches.now))) }
+{
+    Ok(Request::Session(session_words(command, matches)?))
+}
+
+// Words that name no command are refused.
+fn no_request<'a, R: Drop>(command: &mut Command<'a>) -> Result<Request<'a, R>, clap::Error>
+    ensures { IfOk result (λ _. ⊥) }
+{
+    Err(command.error(ErrorKind::MissingSubcommand, NO_COMMAND)?)
+}
+
 // What the words ask for, by what clap found in them.
 fn request_of<'a, R: FromStr + Drop>(
     alloc: Global,
@@ -494,17 +559,15 @@ where
         → kind_of error ≡ OutOfMemory) }
 {
     let Some((name, matches)) = matches.subcommand() else {
-        return Err(command.error(ErrorKind::MissingSubcommand, NO_COMMAND)?);
+        return no_request(command);
     };
     match command_named(name) {
-        Some(CommandName::Query(query)) => {
-            Ok(Request::Query(query_words(alloc, query, matches)?))
-        }
-        Some(CommandName::Get) => Ok(Request::Get(get_words(alloc, command, matches)?)),
-        Some(CommandName::Explain) => Ok(Request::Explain(explained(command, matches)?)),
-        Some(CommandName::Edit) => Ok(Request::Edit(edit_words(alloc, command, matches)?)),
-        Some(CommandName::Session) => Ok(Request::Session(session_words(command, matches)?)),
-        None => Err(command.error(ErrorKind::MissingSubcommand, NO_COMMAND)?),
+        Some(CommandName::Query(query)) => query_request(alloc, query, matches),
+        Some(CommandName::Get) => get_request(alloc, command, matches),
+        Some(CommandName::Explain) => explain_request(command, matches),
+        Some(CommandName::Edit) => edit_request(alloc, command, matches),
+        Some(CommandName::Session) => session_request(command, matches),
+        None => no_request(command),
     }
 }
 
