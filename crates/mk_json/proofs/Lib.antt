@@ -4,6 +4,7 @@ mod ConditionalLemmas
 mod SurroundingsLemmas
 mod WritingLemmas
 mod PartLemmas
+mod NumberLemmas
 -- Definitions computed
 mod OnLiterals
 mod WorkedRows

@@ -6,6 +6,7 @@ pub mod Members
 pub mod OpenConditionals
 pub mod LineMembers
 pub mod JsonLines
+pub mod JsonLaws
 -- Lines of any text
 pub mod TextLines
 -- # Vocabulary of private contracts

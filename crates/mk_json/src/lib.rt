@@ -23,9 +23,11 @@
 //! - `object`: the object on a line.
 //! - `query`: the queries, each in the module of its name.
 //! - `text_line`: the object on a line of any text.
+//! - [`laws`]: lines have the same numbers in JSON and in words.
 #![tactic(auto)]
 
 pub mod conditional;
+pub mod laws;
 mod member;
 mod object;
 mod parts;

@@ -3,11 +3,14 @@ use Rattle.std.proofs.Common.{◌≡◌, refl, [], List, ℕ}
 use Rattle.std.specs.Prelude.{codes}
 use Rattle.std.specs.Fmt.{digits}
 use Rattle.mk_queries.specs.StandingLines.{standing_lines}
-use Rattle.mk_queries.specs.Caveats.{caveat_lines}
+use Rattle.mk_queries.specs.Caveats.{caveat_lines, caveats_from}
+
+abbrev text : List ℕ
+text = codes "a:\n\tx\na:\na:\n"
 
 -- what is said of the text, where looks may go through so many bytes
 abbrev said_within : (left : ℕ) → List ℕ
-said_within left = caveat_lines (codes "a:\n\tx\na:\na:\n") left (standing_lines (codes "a:\n\tx\na:\na:\n"))
+said_within left = caveat_lines (standing_lines text) (caveats_from text left (standing_lines text))
 
 row_no_bare_rule_is_looked_at : said_within 11 ≡ []
 unfolding digits

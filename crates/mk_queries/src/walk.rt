@@ -33,19 +33,21 @@ impl<'a, A: Allocator> Model for LineCaveats<'a, A> {
     ghost use Rattle.std.specs.Prelude.{◌≡◌, List, Option, drop};
     ghost use Rattle.mk_tree.specs.Documents.{IsFaithful};
     ghost use Rattle.mk_tree.specs.LocatedLines.{located_text};
+    ghost use Rattle.mk_queries.specs.Caveats.{line_caveats};
     ghost use Rattle.mk_queries.specs.LocatedTexts.{AreClassedIn};
     ghost use Rattle.mk_queries.specs.QueryWalks.{caveats_ahead};
     ghost use Rattle.mk_queries.specs.declared.caveat.Caveat.{Caveat};
 
     ghost Value = { List (Option Caveat) };
 
-    ghost view = { λ w.
-        caveats_ahead (located_text w.doc.now) w.left w.lines.context w.seen w.lines.lines };
+    ghost view = { λ w. drop w.next (line_caveats (located_text w.doc.now)) };
 
     ghost invariant = { λ w.
         IsFaithful w.doc.now
         × AreClassedIn w.lines.context w.lines.lines
-        × (drop w.next w.doc.now ≡ w.lines.lines) };
+        × (drop w.next w.doc.now ≡ w.lines.lines)
+        × (caveats_ahead (located_text w.doc.now) w.left w.lines.context w.seen w.lines.lines
+        ≡ drop w.next (line_caveats (located_text w.doc.now))) };
 }
 
 /// The caveat of each line of a document, in order; none of a line that make reads alike, as far as

@@ -4,6 +4,7 @@ ghost use Rattle.mk_tree.specs.Documents.{IsFaithful};
 use crate::rows::{Query, ROWS, Row};
 use mk_class::Meter;
 use mk_lines::Fault;
+use mk_queries::{Caveat, line_caveats};
 use mk_tree::Doc;
 use std::alloc::AllocError;
 use std::test::Fail;
@@ -186,5 +187,25 @@ fn looks_go_through_the_bytes_of_the_longest_text(rt: HostRuntime) -> Result<(),
         [first, second].concat(rt.alloc())?.as_slice()
     );
     assert_eq!(rt; of_two_bare_rules(&rt, 8_388_609)?.as_slice(), first);
+    Ok(())
+}
+
+// Each line has its caveat or none, and then comes nothing.
+#[test]
+fn each_line_has_its_caveat(rt: HostRuntime) -> Result<(), Fail> {
+    let doc = document(&rt, b"t:\n\tx \\\n y\n\nt:\n\x0cdefine D\n")?;
+    let mut caveats = line_caveats(&doc);
+    let wanted = [
+        None,
+        None,
+        None,
+        Some(Caveat::BareRule),
+        Some(Caveat::Define),
+    ];
+    for caveat in wanted {
+        assert_eq!(rt; caveats.next(), Some(caveat));
+    }
+    assert_eq!(rt; caveats.next(), None);
+    assert_eq!(rt; caveats.next(), None);
     Ok(())
 }

@@ -12,16 +12,11 @@ use Rattle.mk_queries.proofs.walk.line_caveats.Goals as goal
 pub invariant_of-result : goal.invariant_of-result
 invariant_of-result g c =
     let doc = c.args.doc.now in
+    let t = located_text doc in
     let all : c.lines_with_contexts.result ≡ record { context = start; lines = doc } = c.lines_with_contexts.ensures in (
       c.requires.faithful,
       subst (λ (w : LinesInContext). AreClassedIn w.context w.lines) (sym all) (document-classed doc c.requires.faithful),
       sym (ap (λ (w : LinesInContext). w.lines) all),
+      ap (λ (w : LinesInContext). caveats_ahead t max_text w.context c.start.result w.lines) all
+      ∙ (ap (λ s. caveats_ahead t max_text start s doc) c.start.ensures ∙ caveats-found doc c.requires.faithful),
     )
-
-pub returns : goal.returns
-returns g c =
-    let doc = c.args.doc.now in
-    let t = located_text doc in
-    let all : c.lines_with_contexts.result ≡ record { context = start; lines = doc } = c.lines_with_contexts.ensures in
-    ap (λ (w : LinesInContext). caveats_ahead t max_text w.context c.start.result w.lines) all
-    ∙ (ap (λ s. caveats_ahead t max_text start s doc) c.start.ensures ∙ caveats-found doc c.requires.faithful)

@@ -1,12 +1,9 @@
-use Rattle.std.proofs.Common.{◌≡◌, ◌∙◌, ◌++◌, [], length, arith, rules, ap, refl, sym, subst}
-use Rattle.std.specs.Option.{unwrap_or}
-use Rattle.std.specs.Prelude.{None}
+use Rattle.std.proofs.Common.{◌≡◌, ◌∙◌, ◌++◌, [], length, arith, rules, ap, refl, subst}
 use Rattle.mk_lines.specs.Device.{Writes}
-use Rattle.mk_tree.specs.LocatedLines.{located_text, size_of}
+use Rattle.mk_tree.specs.LocatedLines.{size_of}
 use Rattle.mk_tree.specs.Trees.{line_view}
-use Rattle.mk_tree.specs.Printing.{Gathers}
 use Rattle.mk_tree.proofs.Prefixes.{gathers-nothing, gathers-then, gathers-front, writes-gathered, writes-fails}
-use Rattle.mk_queries.specs.Caveats.{caveat_text, line_caveats}
+use Rattle.mk_queries.specs.Caveats.{caveat_text}
 use Rattle.mk_queries.specs.QueryWalks.{line_feeds}
 use Rattle.mk_queries.proofs.WalksAhead.{caveats_said}
 use Rattle.mk_queries.proofs.SaidSoFar.{said-end}
