@@ -16,7 +16,7 @@ feeds-append x y = sum_by-append (λ b. cond (b == 10) 1 0) x y
 
 -- the line feeds of some lines and one more
 feeds-more : (above : List LocatedLine) (l : LocatedLine) → count_by (λ b. b == 10) (located_text (above ++ l ∷ [])) ≡ count_by (λ b. b == 10) (located_text above) + line_feeds l.bytes
-feeds-more [] l = ap (count_by (λ b. b == 10)) (append-nil l.bytes) ∙ sym (line_feeds-counted l.bytes)
+feeds-more [] l = omega (arith, ap (count_by (λ b. b == 10)) (append-nil l.bytes), line_feeds-counted l.bytes)
 feeds-more (k ∷ above) l = omega (arith, feeds-append k.bytes (located_text (above ++ l ∷ [])), feeds-append k.bytes (located_text above), feeds-more above l)
 
 number-more : (above : List LocatedLine) (l : LocatedLine) → (position_below above).number + line_feeds l.bytes ≡ (position_below (above ++ l ∷ [])).number

@@ -7,5 +7,4 @@ ghost use Rattle.mk_json.specs.JsonLaws.{LinesHaveTheirNumbers};
 /// `Doc::parse` makes it and a session lends it.
 pub fn lines_have_the_numbers_of_the_queries()
     ensures { LinesHaveTheirNumbers }
-{
-}
+{}

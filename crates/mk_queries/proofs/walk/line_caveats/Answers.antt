@@ -18,5 +18,5 @@ invariant_of-result g c =
       subst (λ (w : LinesInContext). AreClassedIn w.context w.lines) (sym all) (document-classed doc c.requires.faithful),
       sym (ap (λ (w : LinesInContext). w.lines) all),
       ap (λ (w : LinesInContext). caveats_ahead t max_text w.context c.start.result w.lines) all
-      ∙ (ap (λ s. caveats_ahead t max_text start s doc) c.start.ensures ∙ caveats-found doc c.requires.faithful),
+          ∙ (ap (λ s. caveats_ahead t max_text start s doc) c.start.ensures ∙ caveats-found doc c.requires.faithful),
     )
