@@ -1,7 +1,7 @@
 -- What a query prints of the text of a makefile, for a person and as JSON, and how it ends where nobody
 -- reads on; the value that `get` prints, and how it is refused.
 -- Told in docs/EDITS.md, "Queries".
-use Rattle.std.specs.Prelude.{ℕ, List, [], ◌++◌, Bool, true, false, Option, Some, None, Result, Ok, Err, Vec, codes, option_map}
+use Rattle.std.specs.Prelude.{ℕ, List, [], ◌++◌, Bool, true, false, Option, Some, None, Result, Ok, Err, codes, option_map}
 use Rattle.std.specs.Borrow.{Bor}
 use Rattle.mk_tree.specs.Documents.{document_lines}
 use Rattle.mk_queries.specs.Queries.{vars_text, vars_named_text, rules_text, rules_for_text, recipes_text, recipes_for_text, check_text}

@@ -1,6 +1,6 @@
 -- The answers of a session in the form that is asked for.
 -- Told in docs/PROTOCOL.md, "Answers in JSON".
-use Rattle.std.specs.Prelude.{ℕ, ◌-◌, ◌==◌, ◌||◌, if◌then◌else◌, Bool, true, false, List, ◌++◌, length, take, Option, Some, None, slice_get}
+use Rattle.std.specs.Prelude.{ℕ, ◌-◌, ◌==◌, ◌||◌, if◌then◌else◌, Bool, true, false, List, length, take, Option, Some, None, slice_get}
 use Rattle.std.specs.List.{flat_map}
 use Rattle.mk_lines.specs.PhysicalLines.{physical_lines}
 use Rattle.mk_command_line.specs.Requests.{is_json}
@@ -10,17 +10,16 @@ use Rattle.mk_command_line.specs.declared.request.SessionWords.{SessionWords}
 use Rattle.mk_json.specs.Members.{object_line}
 use Rattle.mk_json.specs.TextLines.{text_line_members}
 
--- whether a byte that may be there is a line feed
-abbrev is_line_feed : Option ℕ → Bool
-is_line_feed None = false
-is_line_feed (Some b) = b == 10
-
--- a line of an answer as a line of JSON: its text without its line feed; or its text, and that it is open
-abbrev pub text_line : List ℕ → List ℕ
-text_line line =
-    if is_line_feed (slice_get line (length line - 1))
-    then object_line (text_line_members (take (length line - 1) line) false)
+-- a line of an answer as a line of JSON, by its last byte: its text without its line feed; or its text,
+-- and that it is open
+abbrev text_line_by : (last : Option ℕ) → List ℕ → List ℕ
+text_line_by None line = object_line (text_line_members line true)
+text_line_by (Some b) line =
+    if b == 10 then object_line (text_line_members (take (length line - 1) line) false)
     else object_line (text_line_members line true)
+
+abbrev pub text_line : List ℕ → List ℕ
+text_line line = text_line_by (slice_get line (length line - 1)) line
 
 -- the lines of an answer as lines of JSON
 abbrev pub text_lines : List ℕ → List ℕ
