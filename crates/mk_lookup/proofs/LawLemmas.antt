@@ -4,17 +4,18 @@ use Rattle.std.specs.Prelude.{Ok, Err}
 use Rattle.mk_class.specs.Arguments.{is_name, is_value}
 use Rattle.mk_class.specs.ClassedLines.{classed_lines}
 use Rattle.mk_tree.specs.LineTexts.{StandingLine}
-use Rattle.mk_edit_language.specs.Edits.{SetValue}
+use Rattle.mk_edit_language.specs.Edits.{Edit, SetValue, RemoveAssign, RemoveRule}
 use Rattle.mk_edit_language.specs.EditSpans.{spans_of}
-use Rattle.mk_edit_language.specs.Addresses.{Variable, found}
+use Rattle.mk_edit_language.specs.Addresses.{Variable, Rule, found}
 use Rattle.mk_edit_language.specs.ArgumentCauses.{Tested, bad_argument, first_failed, reserved}
 use Rattle.mk_edit_language.specs.AddressCauses.{unread_prefix, no_such, ambiguous}
 use Rattle.mk_edit_language.specs.LineCauses.{too_long}
-use Rattle.mk_edit_language.specs.Refusals.{causes, first_cause, unless_refused}
+use Rattle.mk_edit_language.specs.Refusals.{causes, first_cause, spans, unless_refused}
 use Rattle.mk_edit_language.specs.declared.refusal.Field.TheVariants as field
 use Rattle.mk_edit_language.specs.declared.refusal.Refusal.{Refusal}
 use Rattle.mk_lookup.specs.Lookups.{first_causes, value_unless}
-use Rattle.mk_lookup.specs.LookupLaws.{IsFoundWhereSet, IsRefusedAsSet}
+use Rattle.mk_lookup.specs.Indices.{index_unless}
+use Rattle.mk_lookup.specs.LookupLaws.{IsFoundWhereSet, IsRefusedAsSet, IsRefusedAsUnset, IsRefusedAsUnrule}
 
 -- the first of five causes is the first of more
 five-first : (a b c d e : Option Refusal) (cs : List (Option Refusal)) (r : Refusal) → first_cause (a ∷ b ∷ c ∷ d ∷ e ∷ []) ≡ Some r
@@ -74,3 +75,22 @@ found-where_set t nth n v w i h =
     let long = too_long t (spans_of t ls e) in
     let all : first_cause (causes t ls e) ≡ long = five-passed (bad_argument e) (reserved e) (unread_prefix ls) (no_such ls e) (ambiguous ls e) _ same ∙ only-long long in
     ap (λ z. unless_refused z (spans_of t ls e)) all
+
+-- ---- the index of a line
+
+no_index-by : (o : Option Refusal) (s : Option StandingLine) (r : Refusal) → index_unless o s ≡ Err r → o ≡ Some r
+no_index-by None s r h = absurd (cc)
+no_index-by (Some x) s r h = let e : x ≡ r = cc in ap (λ z. Some z) e
+
+first-refused : (t : List ℕ) (e : Edit) (s : Option StandingLine) (r : Refusal) → index_unless (first_cause (first_causes (classed_lines t) e)) s ≡ Err r → spans t e ≡ Err r
+first-refused t e s r h =
+    let ls = classed_lines t in
+    let all : first_cause (causes t ls e) ≡ Some r =
+    five-first (bad_argument e) (reserved e) (unread_prefix ls) (no_such ls e) (ambiguous ls e) _ r (no_index-by (first_cause (first_causes ls e)) s r h) in
+    ap (λ z. unless_refused z (spans_of t ls e)) all
+
+pub refused-as_unset : IsRefusedAsUnset
+refused-as_unset t nth n r h = first-refused t (RemoveAssign nth n) (found (classed_lines t) (Variable nth n)) r h
+
+pub refused-as_unrule : IsRefusedAsUnrule
+refused-as_unrule t nth g r h = first-refused t (RemoveRule nth g) (found (classed_lines t) (Rule nth g)) r h

@@ -4,7 +4,7 @@ ghost use Rattle.mk_class.specs.ClassedLines.{ClassedLine};
 ghost use Rattle.mk_tree.specs.Documents.{IsFaithful};
 ghost use Rattle.mk_tree.specs.LocatedLines.{located_text};
 ghost use Rattle.mk_tree.specs.Trees.{line_view};
-ghost use Rattle.mk_edit_language.specs.Addresses.{Variable};
+ghost use Rattle.mk_edit_language.specs.Addresses.{Rule, Variable};
 ghost use Rattle.mk_edit_parts.specs.Found.{IsNotPicked, IsPicked};
 ghost use Rattle.mk_edit_parts.specs.Seeking.{IsSought};
 ghost use Rattle.mk_views.specs.Views.{assignment_of};
@@ -63,14 +63,21 @@ pub fn get<'a, A: Allocator>(
     }
 }
 
-// The assignment that a number means among those that were sought: without one, the only one.
-fn meant(nth: Option<u32>, sought: Sought) -> Result<Found, Refusal>
+// The assignment, or the rule, that a number means among those that were sought: without one, the only
+// one.
+pub(crate) fn meant(nth: Option<u32>, sought: Sought) -> Result<Found, Refusal>
     ensures found { (lines : List ClassedLine) (name : List ℕ)
         → IsSought lines (Some (Variable nth name)) sought
         → IfOk result (λ found. IsPicked lines (Some (Variable nth name)) found) }
     ensures refused { (lines : List ClassedLine) (name : List ℕ)
         → IsSought lines (Some (Variable nth name)) sought
         → IfErr result (λ refusal. IsNotPicked lines (Some (Variable nth name)) refusal) }
+    ensures rule_found { (lines : List ClassedLine) (target : List ℕ)
+        → IsSought lines (Some (Rule nth target)) sought
+        → IfOk result (λ found. IsPicked lines (Some (Rule nth target)) found) }
+    ensures rule_refused { (lines : List ClassedLine) (target : List ℕ)
+        → IsSought lines (Some (Rule nth target)) sought
+        → IfErr result (λ refusal. IsNotPicked lines (Some (Rule nth target)) refusal) }
 {
     let nth_found = sought.found;
     let Some(found) = nth_found else {

@@ -3,7 +3,8 @@
 //! - [`command`]: the calls of a session as values, which `mk_command` has, done.
 //! - [`laws`]: what holds for a session over any list of calls.
 //! - [`session`]: the session; its module `group` has the call that makes edits as one, `dry_run` the one
-//!   that tells whether they can be made, and `shown` what `{:?}` shows of it.
+//!   that tells whether they can be made, `finding` those that say where the lines stand that edits take,
+//!   and `shown` what `{:?}` shows of it.
 //!
 //! `mk_history` has the machine of a session over anything that is changed, `mk_edit` has the edits
 //! of makefiles. This crate puts them together; it is the only crate that knows both.

@@ -12,6 +12,7 @@ ghost use Rattle.mk_history.specs.Machine as machine;
 ghost use Rattle.mk_session.specs.Sessions.{IsBadDepth, IsBeginRefusal, IsEditRefusal, IsOpeningFault, IsRefusedBy, answer, seen_opened};
 
 mod dry_run;
+mod finding;
 mod group;
 mod shown;
 

@@ -15,6 +15,7 @@
 //!   are refused; the memory that edits take.
 //! - `long_documents`, `index_and_walk`: sessions over documents that are long enough for an index;
 //!   each edit by an index, beside the same edit by a walk over all lines.
+//! - `found_lines`: where the lines stand that edits take.
 //! - `told_steps`: what a session tells of its steps.
 //! - `whole_groups`: groups of edits that are one call.
 //! - `shown`: how sessions are shown.
@@ -26,6 +27,8 @@ mod any_command;
 mod copied_edits;
 #[cfg(test)]
 mod counted_growths;
+#[cfg(test)]
+mod found_lines;
 #[cfg(test)]
 mod growths;
 #[cfg(test)]
