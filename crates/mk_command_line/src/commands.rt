@@ -117,7 +117,8 @@ fn session_options<'a>(alloc: Global) -> Result<Command<'a>, AllocError>
     titled(alloc, CommandName::Session)
         .arg(depth(alloc))?
         .arg(protocol(alloc))?
-        .arg(new_makefile(alloc))
+        .arg(new_makefile(alloc))?
+        .arg(color(alloc))
 }
 
 // `session`: a makefile that is edited step by step.

@@ -18,6 +18,7 @@ mod protocol;
 mod sentences;
 mod terminal;
 
+use crate::color::has_color;
 use crate::ending::{End, finished};
 use crate::files::{CannotOpen, open};
 use crate::noted::Noted;
@@ -71,10 +72,29 @@ fn open_desk<'a>(
     }
 }
 
+// To whom a session replies.
+#[derive(Clone, Copy)]
+enum Asker {
+    // A program, by the protocol.
+    Program,
+    // A person at a terminal, who sees what changes in colours or not.
+    Person { has_color: bool },
+}
+
+// To whom a session replies whose standard streams are terminals or not.
+fn asker(rt: &HostRuntime, words: SessionWords<'_>) -> Asker {
+    if words.by_protocol || !rt.stdin().is_terminal() {
+        return Asker::Program;
+    }
+    Asker::Person {
+        has_color: has_color(rt, words.color, rt.stdout().is_terminal()),
+    }
+}
+
 // Replies to the lines of a source. The session is not given up: the program ends soon.
 fn reply<S: ByteSource, W: ByteSink>(
     rt: &HostRuntime,
-    at_terminal: bool,
+    asker: Asker,
     mut desk: Desk<'_>,
     source: &mut S,
     out: &mut W,
@@ -82,8 +102,8 @@ fn reply<S: ByteSource, W: ByteSink>(
     requires source_works { S.failed source.old ≡ false }
     requires out_works { W.failed out.old ≡ false }
 {
-    if at_terminal {
-        return converse_at_terminal(desk, source, out);
+    if let Asker::Person { has_color } = asker {
+        return converse_at_terminal(desk, has_color, source, out);
     }
     let talked = converse(rt.alloc(), source, &mut desk, out);
     mem::forget(desk);
@@ -91,19 +111,19 @@ fn reply<S: ByteSource, W: ByteSink>(
 }
 
 // Replies to the lines of standard input, on standard output.
-fn talk<'a>(rt: &'a HostRuntime, by_protocol: bool, desk: Desk<'a>) -> End<'a> {
-    let at_terminal = !by_protocol && rt.stdin().is_terminal();
+fn talk<'a>(rt: &'a HostRuntime, words: SessionWords<'a>, desk: Desk<'a>) -> End<'a> {
+    let asker = asker(rt, words);
     let mut source = StdSource::new(rt.stdin());
     let mut device = Noted::new(rt.stdout());
     let mut out = StdSink::new(&mut device);
-    let talked = reply(rt, at_terminal, desk, &mut source, &mut out);
+    let talked = reply(rt, asker, desk, &mut source, &mut out);
     End::of(outcome_of(talked)).with_fault(device.fault(STANDARD_OUTPUT))
 }
 
 // Opens the makefile, and replies to the lines of standard input.
 fn over_file<'a>(rt: &'a HostRuntime, words: SessionWords<'a>) -> Result<End<'a>, CannotOpen<'a>> {
     match open_desk(rt, words)? {
-        Ok(desk) => Ok(talk(rt, words.by_protocol, desk)),
+        Ok(desk) => Ok(talk(rt, words, desk)),
         Err(fault) => Ok(End::of(Outcome::from(fault))),
     }
 }

@@ -6,11 +6,13 @@ pub returns-clause-app : goal.returns-clause-app
 returns-clause-app c =
     let one = with_argument _ _ _ _ _ c.in_ok-arg.ensures c.depth.ensures.local c.titled.ensures.app c.depth.ensures.rule in
     let two = with_argument _ _ _ _ _ c.in_ok-arg-2.ensures c.protocol.ensures.local one c.protocol.ensures.rule in
-    IfOk-weaker c.arg-3.result _ _
-    (λ session added. with_argument _ session _ _ _ added c.new_makefile.ensures.local two c.new_makefile.ensures.rule) c.arg-3.ensures
+    let three = with_argument _ _ _ _ _ c.in_ok-arg-3.ensures c.new_makefile.ensures.local two c.new_makefile.ensures.rule in
+    IfOk-weaker c.arg-4.result _ _
+    (λ session added. with_argument _ session _ _ _ added c.color.ensures.local three c.color.ensures.rule) c.arg-4.ensures
 
 pub returns-clause-local : goal.returns-clause-local
 returns-clause-local c =
     let one = stays_local _ _ _ c.in_ok-arg.ensures c.depth.ensures.local c.titled.ensures.local in
     let two = stays_local _ _ _ c.in_ok-arg-2.ensures c.protocol.ensures.local one in
-    IfOk-weaker c.arg-3.result _ _ (λ session added. stays_local _ session _ added c.new_makefile.ensures.local two) c.arg-3.ensures
+    let three = stays_local _ _ _ c.in_ok-arg-3.ensures c.new_makefile.ensures.local two in
+    IfOk-weaker c.arg-4.result _ _ (λ session added. stays_local _ session _ added c.color.ensures.local three) c.arg-4.ensures
