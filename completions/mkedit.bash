@@ -9,7 +9,7 @@ _mkedit_options() {
         vars) echo "--name --json --notes -h --help" ;;
         rules | recipes) echo "--target --json --notes -h --help" ;;
         check | caveats) echo "--json --notes -h --help" ;;
-        session) echo "-d --depth --protocol --json --new -h --help" ;;
+        session) echo "-d --depth --protocol --json --new --color -h --help" ;;
         get) echo "--nth --notes -h --help" ;;
         help) ;;
         *) echo "-h --help" ;;
@@ -67,7 +67,7 @@ _mkedit() {
     COMPREPLY=()
     if [[ $command == edit && $before == @(-d|--depth|-e|--expression|--backup) ]]; then
         return # a number, a command of a script, or a suffix
-    elif [[ $command == edit && $before == --color ]]; then
+    elif [[ $command == @(edit|session) && $before == --color ]]; then
         mapfile -t COMPREPLY < <(compgen -W "auto always never" -- "$word")
     elif [[ $command == session && $before == @(-d|--depth) ]]; then
         return # a number

@@ -42,7 +42,7 @@ complete -c mkedit -n '__fish_seen_subcommand_from edit' -s o -l output -r -F -d
 complete -c mkedit -n '__fish_seen_subcommand_from edit' -s i -l in-place -d 'FILE gets the text, and is the old file or the new one at every moment'
 complete -c mkedit -n '__fish_seen_subcommand_from edit' -l backup -x -d 'With -i, keeps the old file under FILE with this suffix at its end'
 complete -c mkedit -n '__fish_seen_subcommand_from edit' -l diff -d 'Prints what would change, as a diff that patch takes, in place of the text'
-complete -c mkedit -n '__fish_seen_subcommand_from edit' -l color -x -a 'auto always never' -d 'Whether a diff has colours'
+complete -c mkedit -n '__fish_seen_subcommand_from edit session; and not __fish_seen_subcommand_from help' -l color -x -a 'auto always never' -d 'Whether changes are shown in colours'
 complete -c mkedit -n '__fish_seen_subcommand_from edit' -s e -l expression -x -d 'A line of a script, in place of SCRIPT; several -e are its lines'
 
 complete -c mkedit -n '__fish_seen_subcommand_from session; and not __fish_seen_subcommand_from help' -l protocol -d 'Reply as to a program, also at a terminal'

@@ -62,7 +62,7 @@ _mkedit_edit() {
         '(-i --in-place -o --output --diff)'{-i,--in-place}'[the makefile gets the text]' \
         '(-o --output)--backup=[with -i, keeps the old file under its name with this suffix at its end]:suffix: ' \
         '(-i --in-place)--diff[prints what would change, as a diff that patch takes, in place of the text]' \
-        '--color=[whether a diff has colours]:when:(auto always never)' \
+        '--color=[whether changes are shown in colours]:when:(auto always never)' \
         '*'{-e+,--expression=}'[a line of a script, in place of the script]:command: ' \
         '--notes[say below a message or a refusal what its cause is]' \
         '(-h --help)'{-h,--help}'[print help]' \
@@ -130,6 +130,7 @@ _mkedit_session() {
         '--protocol[reply as to a program, also at a terminal]' \
         '--json[print lines of JSON, each of them an object, for programs]' \
         '--new[open a makefile that is missing as an empty one]' \
+        '--color=[whether changes are shown in colours]:when:(auto always never)' \
         '(-h --help)'{-h,--help}'[print help]' \
         '1:makefile:_files'
 }

@@ -1,4 +1,4 @@
-"""Tests of `mkedit session` at a terminal: the prompt, sentences for replies, and the keys that end it.
+"""Tests of `mkedit session` at a terminal: the prompt, sentences for replies, colours, and the keys that end it.
 
 A user types at the other side of a pseudo-terminal, and sees what the program shows. What the sentences
 say is that of docs/PROTOCOL.md, "At a terminal".
@@ -17,6 +17,11 @@ from tests.lib.rooms import TEXT, RoomCase
 from tests.lib.talks import GREETING
 from tests.lib.terminals import END, INTERRUPT, terminal
 
+# The environment of a user who wants no colours.
+PLAIN = {"NO_COLOR": "1"}
+# What an edit shows, in colours as GNU diff 3.8 writes them with --color=always, and without.
+PAINTED = b"\x1b[31m-CC = gcc # c\x1b[0m\n\x1b[32m+CC = clang # c\x1b[0m\nMakefile*> "
+UNPAINTED = b"-CC = gcc # c\n+CC = clang # c\nMakefile*> "
 UNWRITTEN = b"There are unwritten changes: `write` writes them, and `quit` once more drops them.\n"
 
 
@@ -26,13 +31,19 @@ def prepare():
     fcntl.ioctl(0, termios.TIOCSCTTY, 0)
 
 
+def environment(variables):
+    """This environment with these variables, and without any other word on colours."""
+    return {**{name: it for name, it in os.environ.items() if name != "NO_COLOR"}, **variables}
+
+
 class User:
     """A user of a session at a terminal. What the user types is not shown, but what the program says is."""
 
-    def __init__(self, room, side, program, *words):
+    def __init__(self, room, side, program, variables, *words):
         command = [room.program.path, "session", *words]
         self.side = side
         how = {"stdin": program, "stdout": program, "stderr": program, "start_new_session": True}
+        how["env"] = environment(variables)
         self.process = subprocess.Popen(command, cwd=room.folder, preexec_fn=prepare, **how)
 
     def shown(self, end):
@@ -58,10 +69,11 @@ class User:
 
 
 class Terminal(RoomCase):
-    def at_terminal(self, *words):
-        """A user at a session, who has seen its first prompt."""
+    def at_terminal(self, *words, variables=PLAIN):
+        """A user at a session, with these variables in its environment: as a rule those of a user who wants
+        no colours."""
         side, program = self.enterContext(terminal())
-        user = User(self.room, side, program, *words)
+        user = User(self.room, side, program, variables, *words)
         self.addCleanup(user.end)
         return user
 
@@ -199,6 +211,61 @@ class Terminal(RoomCase):
         self.assertEqual(
             user.types(b"set CC " + value + b"\n"), b"-CC = gcc # c\n+CC = " + value + b" # c\nMakefile*> "
         )
+
+    def test_an_edit_is_shown_in_colours_unless_they_are_unwanted(self):
+        for words, variables, shown in (
+            ((), {}, PAINTED),
+            (("--color=auto",), {"NO_COLOR": ""}, PAINTED),
+            ((), {"NO_COLOR": "1"}, UNPAINTED),
+            (("--color", "never"), {}, UNPAINTED),
+            (("--color=always",), {"NO_COLOR": "1"}, PAINTED),
+        ):
+            user = self.at_terminal(*words, "Makefile", variables=variables)
+            user.shown(b"> ")
+            self.assertEqual(user.types(b"set CC clang\n"), shown, (words, variables))
+
+    def test_the_lines_that_change_alone_have_colours(self):
+        self.room.write("lines", b"X = 1\nB = 1\nB = 1\nX = 2\r\nC = 1\nY = 3")
+        user = self.at_terminal("lines", variables={})
+        user.shown(b"> ")
+        red, green, plain = b"\x1b[31m", b"\x1b[32m", b"\x1b[0m"
+        self.assert_said(
+            user,
+            (
+                b"nth 2 append X 0\n",
+                red + b"-X = 2" + plain + b"\r\n" + green + b"+X = 2 0" + plain + b"\r\nlines*> ",
+            ),
+            (
+                b"set Y 4\n",
+                red + b"-Y = 3" + plain + b"\n\\ No newline at end of file\n"
+                + green + b"+Y = 4" + plain + b"\n\\ No newline at end of file\nlines*> ",
+            ),
+            (b"try unset Z\n", b"Done; the text is as it was.\nlines*> "),
+        )
+        for keys in (b"print\n", b"vars\n", b"history\n", b"unset Z\n", b"explain 4\n", b"frobnicate\n", b"quit\n"):
+            self.assertNotIn(b"\x1b", user.types(keys), keys)
+
+    def test_a_diff_is_shown_as_edit_prints_it_at_a_terminal(self):
+        self.room.write("script", b"set CC clang\n")
+        for word in ("always", "never"):
+            wanted = self.room.run("edit", "--diff", f"--color={word}", "script", "Makefile").stdout
+            user = self.at_terminal(f"--color={word}", "Makefile", variables={})
+            user.shown(b"> ")
+            user.types(b"set CC clang\n")
+            self.assert_said(user, (b"diff\n", wanted + b"Makefile*> "))
+
+    def test_what_is_no_terminal_gets_no_colours_unless_they_are_asked_for(self):
+        for words, shown in ((("Makefile",), UNPAINTED), (("--color=always", "Makefile"), PAINTED)):
+            side, program = self.enterContext(terminal())
+            os.write(side, b"set CC clang\nquit!\n")
+            got = self.room.run("session", *words, stdin=program, env=environment({}))
+            self.assertEqual(got.stdout, b"Makefile> " + shown, words)
+
+    def test_the_protocol_has_no_colours(self):
+        user = self.at_terminal("--protocol", "--color=always", "Makefile", variables={})
+        self.assertEqual(user.shown(b"\n"), GREETING)
+        self.assertEqual(user.types(b"set CC clang\n", b"\n"), b"ok\n")
+        self.assertNotIn(b"\x1b", user.types(b"diff\n", b"ok\n"))
 
     def test_the_protocol_can_be_asked_for_at_a_terminal(self):
         user = self.at_terminal("--protocol", "Makefile")

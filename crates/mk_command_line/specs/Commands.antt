@@ -201,7 +201,7 @@ get_options = nth_rule ∷ notes_rule ∷ []
 
 -- those of `session`
 abbrev pub session_options : List Rule
-session_options = depth_rule ∷ protocol_rule ∷ json_rule ∷ new_makefile_rule ∷ []
+session_options = depth_rule ∷ protocol_rule ∷ json_rule ∷ new_makefile_rule ∷ color_rule ∷ []
 
 abbrev arguments_of : CommandName → List Rule
 arguments_of Edit = edit_options ++ script_rule ∷ file_rule ∷ []

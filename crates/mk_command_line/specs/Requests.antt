@@ -200,6 +200,7 @@ pub record AsksSession (rows : List Row) (words : SessionWords) : Type 0 where
   pub protocol : IsFlag (codes "protocol") rows words.by_protocol
   pub form : IsFlag (codes "json") rows (is_json words.form)
   pub new : IsFlag (codes "new") rows words.may_be_new
+  pub color : IsColor (first_of (codes "color") rows) words.color
   pub file : first_of (codes "FILE") rows ≡ Some words.file.now
   pub named : bytes_eq words.file.now (codes "-") ≡ false
 

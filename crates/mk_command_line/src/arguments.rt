@@ -150,7 +150,7 @@ pub(crate) fn color<'a>(alloc: Global) -> Arg<'a>
     ensures local { result.global ≡ false }
 {
     Arg::new(alloc, COLOR).long("color").value_name("WHEN").help(
-        "Whether a diff has colours: auto (at a terminal), always or never [default: auto]",
+        "Whether changes are shown in colours: auto (at a terminal), always or never [default: auto]",
     )
 }
 

@@ -127,7 +127,8 @@ fn session_options<'a>(alloc: Global) -> Result<Command<'a>, AllocError>
         .arg(depth(alloc))?
         .arg(protocol(alloc))?
         .arg(json(alloc))?
-        .arg(new_makefile(alloc))
+        .arg(new_makefile(alloc))?
+        .arg(color(alloc))
 }
 
 // `session`: a makefile that is edited step by step.

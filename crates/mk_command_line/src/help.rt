@@ -192,8 +192,8 @@ Each line of standard input is a command of a script, as `mkedit help edit` list
 Each is answered at once: the lines of an answer, each behind `| `, and then a line `ok`, `refused` with
 the number and the name of the refusal, or `fault` with what is wrong. The first line is the version of
 this protocol, which docs/PROTOCOL.md has. FILE changes by `write` and `write!` alone. At a terminal the
-replies are sentences, and each edit shows the lines that it changes. With --json each line of an answer
-is a JSON object.
+replies are sentences, and each edit shows the lines that it changes, in colours. With --json each line of
+an answer is a JSON object.
 
 Example: with `CC = gcc # c` in config.mk and the lines `set CC clang`, `print`, `undo`, `undo` and `quit`,
     mkedit session config.mk

@@ -447,12 +447,17 @@ fn session_words<'a>(
     let Some(depth) = depth_of(matches) else {
         return Err(command.error(ErrorKind::ValueValidation, BAD_DEPTH)?);
     };
+    let color = match color_of(matches) {
+        Ok(color) => color,
+        Err(fault) => return Err(command.error(ErrorKind::ValueValidation, fault)?),
+    };
     match value(matches, FILE) {
         Some(file) if file != STANDARD => Ok(SessionWords {
             depth,
             by_protocol: is_set(matches, PROTOCOL),
             form: form_of(matches),
             may_be_new: is_set(matches, NEW),
+            color,
             file,
         }),
         _ => Err(command.error(ErrorKind::ValueValidation, NO_SESSION_FILE)?),

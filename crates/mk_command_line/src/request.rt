@@ -133,6 +133,8 @@ pub struct SessionWords<'a> {
     pub form: Form,
     /// Whether a makefile that is missing is opened as an empty one.
     pub may_be_new: bool,
+    /// When the changes that are shown at a terminal have colours.
+    pub color: Color,
     /// The name of the makefile, which is not `-`.
     pub file: &'a str,
 }

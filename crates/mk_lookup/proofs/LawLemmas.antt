@@ -10,7 +10,7 @@ use Rattle.mk_edit_language.specs.Addresses.{Variable, Rule, found}
 use Rattle.mk_edit_language.specs.ArgumentCauses.{Tested, bad_argument, first_failed, reserved}
 use Rattle.mk_edit_language.specs.AddressCauses.{unread_prefix, no_such, ambiguous}
 use Rattle.mk_edit_language.specs.LineCauses.{too_long}
-use Rattle.mk_edit_language.specs.Refusals.{causes, first_cause, unless_refused}
+use Rattle.mk_edit_language.specs.Refusals.{causes, first_cause, spans, unless_refused}
 use Rattle.mk_edit_language.specs.declared.refusal.Field.TheVariants as field
 use Rattle.mk_edit_language.specs.declared.refusal.Refusal.{Refusal}
 use Rattle.mk_lookup.specs.Lookups.{first_causes, value_unless}

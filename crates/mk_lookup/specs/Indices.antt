@@ -1,8 +1,8 @@
 -- Where the line of a name or a target stands: its index, or the refusal that `unset` or `unrule` has for the name, the
 -- target or the line.
 -- Told in docs/LIBRARY.md, "Walking over a makefile".
-use Rattle.std.specs.Prelude.{ℕ, List, [], ◌∷◌, length, Option, Some, None, Result, Ok, Err}
-use Rattle.mk_class.specs.ClassedLines.{ClassedLine, classed_lines}
+use Rattle.std.specs.Prelude.{ℕ, List, length, Option, Some, None, Result, Ok, Err}
+use Rattle.mk_class.specs.ClassedLines.{classed_lines}
 use Rattle.mk_tree.specs.LineTexts.{StandingLine}
 use Rattle.mk_edit_language.specs.Edits.{RemoveAssign, RemoveRule}
 use Rattle.mk_edit_language.specs.Addresses.{Variable, Rule, found}

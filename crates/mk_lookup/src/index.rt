@@ -84,7 +84,7 @@ fn line_index<A: Allocator>(
     known: Option<Sought>,
 ) -> Result<usize, Refusal>
     requires faithful { IsFaithful doc.now }
-    requires known { IsKnownOf (Some (address_view address.entry)) doc.now known }
+    requires known { IsKnownOf (Some (address_view address)) doc.now known }
     ensures { result ≡ line_index (classed_lines (located_text doc.now)) (address_view address.entry) }
 {
     let sought = sought_for(doc, address, known);
@@ -100,7 +100,7 @@ fn line_index<A: Allocator>(
 // What the document has for an address: what is known of it, or what a walk finds.
 fn sought_for<A: Allocator>(doc: &Doc<A>, address: Address, known: Option<Sought>) -> Sought
     requires faithful { IsFaithful doc.now }
-    requires known { IsKnownOf (Some (address_view address.entry)) doc.now known }
+    requires known { IsKnownOf (Some (address_view address)) doc.now known }
     ensures { IsSought (classed_lines (located_text doc.now)) (Some (address_view address.entry))
         result }
 {

@@ -144,14 +144,14 @@ fn is_refused(text: &[u8], rt: &HostRuntime, heap: &Heap, admitted: u64) -> Resu
 fn a_refused_growth_hides_no_line(rt: HostRuntime) -> Result<(), Fail> {
     let heap = Watched::new(rt.alloc());
     let text = long_text(&rt)?;
-    let mut growths = 0u64;
     for admitted in 0..100 {
-        if is_refused(text.as_slice(), &rt, &heap, admitted)? {
-            growths = growths.saturating_add(1);
+        if !is_refused(text.as_slice(), &rt, &heap, admitted)? {
+            // the copy of the name, and more than one growth of the index
+            assert!(rt; admitted > 2);
+            return Ok(());
         }
     }
-    assert!(rt; 2 < growths && growths < 100);
-    Ok(())
+    Err(Fail::from("each growth was refused"))
 }
 
 #[test]

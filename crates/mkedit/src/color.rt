@@ -1,4 +1,4 @@
-//! When a diff has colours.
+//! When a diff has colours, and what a session shows of it.
 ghost use Rattle.std.specs.Prelude.{◌≡◌, false, true};
 
 use mk_command_line::Color;

@@ -100,8 +100,16 @@ fn put_out<W: ByteSink>(out: &mut W, text: &[u8]) -> Result<(), Fault>
     out.flush()
 }
 
-// A diff as it goes out.
-fn shown<A: Allocator>(alloc: A, text: Vec<u8, A>, has_color: bool) -> Result<Vec<u8, A>, Fault>
+/// A diff as it goes out.
+///
+/// # Errors
+///
+/// [`Fault::NoMemory`].
+pub(crate) fn shown<A: Allocator>(
+    alloc: A,
+    text: Vec<u8, A>,
+    has_color: bool,
+) -> Result<Vec<u8, A>, Fault>
     ensures { IfOk result (λ shown. shown.items ≡ shown_diff has_color text.items) }
 {
     if has_color {

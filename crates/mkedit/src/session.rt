@@ -21,6 +21,7 @@ mod sentences;
 mod terminal;
 mod text_lines;
 
+use crate::color::has_color;
 use crate::ending::{End, finished};
 use crate::files::{CannotOpen, open};
 use crate::noted::Noted;
@@ -74,23 +75,13 @@ fn open_desk<'a>(
     }
 }
 
-// Replies to the lines of a source. The session is not given up: the program ends soon.
-fn reply<S: ByteSource, W: ByteSink>(
-    rt: &HostRuntime,
-    at_terminal: bool,
-    mut desk: Desk<'_>,
-    source: &mut S,
-    out: &mut W,
-) -> Result<(), Fault>
-    requires source_works { S.failed source.old ≡ false }
-    requires out_works { W.failed out.old ≡ false }
-{
-    if at_terminal {
-        return converse_at_terminal(desk, source, out);
-    }
-    let talked = converse(rt.alloc(), source, &mut desk, out);
-    mem::forget(desk);
-    talked
+// To whom a session replies.
+#[derive(Clone, Copy)]
+enum Asker {
+    // A program, by the protocol.
+    Program,
+    // A person at a terminal, who sees what changes in colours or not.
+    Person { has_color: bool },
 }
 
 // Whether the replies are those of the protocol, also at a terminal: JSON is for programs.
@@ -100,13 +91,42 @@ fn is_by_protocol(words: SessionWords<'_>) -> bool
     words.by_protocol || words.form == Form::Json
 }
 
+// To whom a session replies whose standard streams are terminals or not.
+fn asker(rt: &HostRuntime, words: SessionWords<'_>) -> Asker {
+    if is_by_protocol(words) || !rt.stdin().is_terminal() {
+        return Asker::Program;
+    }
+    Asker::Person {
+        has_color: has_color(rt, words.color, rt.stdout().is_terminal()),
+    }
+}
+
+// Replies to the lines of a source. The session is not given up: the program ends soon.
+fn reply<S: ByteSource, W: ByteSink>(
+    rt: &HostRuntime,
+    asker: Asker,
+    mut desk: Desk<'_>,
+    source: &mut S,
+    out: &mut W,
+) -> Result<(), Fault>
+    requires source_works { S.failed source.old ≡ false }
+    requires out_works { W.failed out.old ≡ false }
+{
+    if let Asker::Person { has_color } = asker {
+        return converse_at_terminal(desk, has_color, source, out);
+    }
+    let talked = converse(rt.alloc(), source, &mut desk, out);
+    mem::forget(desk);
+    talked
+}
+
 // Replies to the lines of standard input, on standard output.
 fn talk<'a>(rt: &'a HostRuntime, words: SessionWords<'a>, desk: Desk<'a>) -> End<'a> {
-    let at_terminal = !is_by_protocol(words) && rt.stdin().is_terminal();
+    let asker = asker(rt, words);
     let mut source = StdSource::new(rt.stdin());
     let mut device = Noted::new(rt.stdout());
     let mut out = StdSink::new(&mut device);
-    let talked = reply(rt, at_terminal, desk, &mut source, &mut out);
+    let talked = reply(rt, asker, desk, &mut source, &mut out);
     End::of(outcome_of(talked)).with_fault(device.fault(STANDARD_OUTPUT))
 }
 

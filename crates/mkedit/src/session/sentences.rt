@@ -147,27 +147,31 @@ fn is_change(line: &[u8], is_above: bool) -> bool {
     }
 }
 
-/// The lines of a diff that were taken out and put in, without its context and its names.
+/// The lines of a diff that were taken out and put in, without its context and its names. `shown` is the
+/// diff as it is shown, in colours or not: it has the lines of the diff one by one, and gives those that
+/// are said.
 ///
 /// # Errors
 ///
 /// Want of memory.
-pub fn changed_lines(alloc: Global, diff: &[u8]) -> Result<Vec<u8>, AllocError> {
+pub fn changed_lines(alloc: Global, diff: &[u8], shown: &[u8]) -> Result<Vec<u8>, AllocError> {
     let mut changes = Vec::new(alloc);
-    let mut rest = diff;
+    let (mut rest, mut shown_rest) = (diff, shown);
     let mut names = 2;
     let mut is_above = false;
     'lines: while !rest.is_empty() {
         let (line, after) = rest.split_at(line_length(rest));
+        let (shown_line, shown_after) = shown_rest.split_at(line_length(shown_rest));
         if names > 0 {
             names -= 1;
         } else {
             is_above = is_change(line, is_above);
             if is_above {
-                changes.extend_from_slice(line)?;
+                changes.extend_from_slice(shown_line)?;
             }
         }
         rest = after;
+        shown_rest = shown_after;
     }
     Ok(changes)
 }

@@ -1,14 +1,15 @@
 //! A makefile that is open at a terminal: a prompt before each line, and sentences for replies.
-ghost use Rattle.std.specs.Prelude.{◌≡◌, ◌++◌, codes, false, true, ⊤, IfErr, OnOk};
+ghost use Rattle.std.specs.Prelude.{◌≡◌, ◌++◌, codes, false, true, ⊤, IfErr, IfOk, OnOk};
 ghost use Rattle.mk_lines.specs.Device.{Writes};
 ghost use Rattle.mk_prompt.specs.Talks.{SaysOut};
+ghost use Rattle.mkedit.specs.DiffRuns.{shown_diff};
 
 use super::desk::Desk;
 use super::not_done::{NotDone, shown_name};
 use super::sentences::{
     AS_IT_WAS, NO_MEMORY, TOO_LONG, changed_lines, mistake_sentence, put_sentence, refusal_sentence,
 };
-use crate::diff::diff_name;
+use crate::diff::{diff_name, shown};
 use mk_command_line::Input;
 use mk_diff::diff;
 use mk_lines::sink::{write_all, write_parts};
@@ -39,17 +40,20 @@ struct Terminal<'a> {
     desk: Desk<'a>,
     // The text as it was shown last.
     shown: Vec<u8>,
+    // Whether a diff has colours.
+    has_color: bool,
     // Whether a request has ended the session.
     is_over: bool,
 }
 
 impl<'a> Terminal<'a> {
     // The session is at its first line.
-    fn open(desk: Desk<'a>) -> Result<Terminal<'a>, Fault> {
+    fn open(desk: Desk<'a>, has_color: bool) -> Result<Terminal<'a>, Fault> {
         let shown = Vec::from_slice(desk.runtime().alloc(), desk.left())?;
         Ok(Terminal {
             desk,
             shown,
+            has_color,
             is_over: false,
         })
     }
@@ -85,6 +89,24 @@ impl<'a> Terminal<'a> {
         }
     }
 
+    // A diff as it is shown.
+    fn diff_shown(&self, diff: Vec<u8>) -> Result<Vec<u8>, NotDone>
+        ensures { IfOk result (λ text. text.items ≡ shown_diff self.now.has_color diff.items) }
+    {
+        match shown(self.desk.runtime().alloc(), diff, self.has_color) {
+            Ok(text) => Ok(text),
+            Err(_) => Err(NotDone::NoMemory),
+        }
+    }
+
+    // The lines of a diff that were taken out and put in, as they are shown.
+    fn changes_of(&self, diff: Vec<u8>) -> Result<Vec<u8>, NotDone> {
+        let alloc = self.desk.runtime().alloc();
+        let plain = Vec::from_slice(alloc, diff.as_slice())?;
+        let shown = self.diff_shown(diff)?;
+        Ok(changed_lines(alloc, plain.as_slice(), shown.as_slice())?)
+    }
+
     // What has changed since the text was shown last, of which no more is said from now on.
     fn change(&mut self) -> Result<Vec<u8>, NotDone> {
         let alloc = self.desk.runtime().alloc();
@@ -92,7 +114,7 @@ impl<'a> Terminal<'a> {
         let shown = mem::replace(&mut self.shown, text);
         let name = diff_name(Input::File(self.desk.name()));
         match diff(alloc, shown.as_slice(), self.shown.as_slice(), name) {
-            Ok(text) => Ok(changed_lines(alloc, text.as_slice())?),
+            Ok(diff) => self.changes_of(diff),
             Err(_) => Err(NotDone::NoMemory),
         }
     }
@@ -122,6 +144,7 @@ impl<'a> Terminal<'a> {
             Request::Word(RequestWord::Write | RequestWord::WriteAnyway)
             | Request::Of(RequestOf::Write, _) => self.written(self.desk.shown_in(request)),
             Request::Word(RequestWord::Revert) => self.done(),
+            Request::Word(RequestWord::Diff) => self.diff_shown(text),
             _ => {
                 if !matches!(text.last(), None | Some(b'\n')) {
                     text.extend_from_slice(b"\n")?;
@@ -245,20 +268,21 @@ fn converse_once<S: ByteSource, W: ByteSink>(
 }
 
 /// Replies at a terminal to the lines of a source, also behind an end of it that is a `quit` which is
-/// not done. The session is not given up: the program ends soon.
+/// not done. What changes is shown in colours or not. The session is not given up: the program ends soon.
 ///
 /// # Errors
 ///
 /// Those of [`converse`], and [`Fault::NoMemory`] if there is none for the text that is shown.
 pub fn converse_at_terminal<S: ByteSource, W: ByteSink>(
     desk: Desk<'_>,
+    has_color: bool,
     source: &mut S,
     out: &mut W,
 ) -> Result<(), Fault>
     requires source_works { S.failed source.old ≡ false }
     requires out_works { W.failed out.old ≡ false }
 {
-    let mut terminal = Terminal::open(desk)?;
+    let mut terminal = Terminal::open(desk, has_color)?;
     for _ in 0..u64::MAX {
         converse_once(&mut terminal, source, out)?;
         if terminal.is_over {
