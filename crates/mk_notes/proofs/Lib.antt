@@ -1,5 +1,6 @@
 mod BranchLemmas
 mod EditLemmas
 mod NoteLemmas
+mod OtherRuleLemmas
 mod RefusalLemmas
 mod TextLemmas

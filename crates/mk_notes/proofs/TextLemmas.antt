@@ -17,3 +17,10 @@ parts-pushed old before new parts i d within here more =
 pub behind : {T E : Type 0} (result : Result T E) (old between new x y : List ℕ) → between ≡ old ++ x → IfOk result (λ _. new ≡ between ++ y) → IfOk result (λ _. new ≡ old ++ (x ++ y))
 behind (Ok v) old between new x y one two = two ∙ (ap (λ z. z ++ y) one ∙ append_assoc old x y)
 behind (Err e) old between new x y one two = tt
+
+-- a second and a third text behind a first one
+pub behind-two : {T E : Type 0} (result : Result T E) (old one two new x y z : List ℕ) → one ≡ old ++ x → two ≡ one ++ y → IfOk result (λ _. new ≡ two ++ z) → IfOk result (λ _. new ≡ old ++ (x ++ (y ++ z)))
+behind-two (Ok v) old one two new x y z first second third =
+    third ∙ (ap (λ w. w ++ z) (second ∙ ap (λ w. w ++ y) first)
+    ∙ (append_assoc (old ++ x) y z ∙ append_assoc old x (y ++ z)))
+behind-two (Err e) old one two new x y z first second third = tt

@@ -1,8 +1,12 @@
 -- # What the public contracts say
 -- The text of a line
 pub mod Excerpts
+-- The branch in which a line stands
+pub mod OwnBranches
 -- Which lines notes tell of
 pub mod Sought
+-- The other rules for a target
+pub mod OtherRules
 -- The texts of notes
 pub mod LineNotes
 pub mod RefusalNotes

@@ -1,6 +1,6 @@
 -- The notes on lines: where a line stands, its text, and the branch of a conditional in which it stands.
 -- Told in docs/EDITS.md, "Notes below refusals".
-use Rattle.std.specs.Prelude.{ℕ, ◌+◌, ◌-◌, ◌==◌, if◌then◌else◌, Bool, false, List, [], ◌∷◌, ◌++◌, length, take, drop, Option, Some, None, is_some, codes, decimal}
+use Rattle.std.specs.Prelude.{ℕ, ◌+◌, ◌-◌, ◌==◌, if◌then◌else◌, Bool, false, List, [], ◌∷◌, ◌++◌, length, take, drop, Option, Some, None, is_some, slice_get, codes, decimal}
 use Rattle.std.specs.List.{flat_map}
 use Rattle.mk_class.specs.declared.class.Class.{Class}
 use Rattle.mk_class.specs.declared.class.Class.TheVariants.{Body, Recipe, Opaque, DefineHead, TargetAssign, Rough}
@@ -86,6 +86,14 @@ line_note file ls p l =
 
 abbrev pub spot_note : (file : List ℕ) → (ls : List LocatedLine) → Spot LocatedLine → List ℕ
 spot_note file ls s = line_note file ls s.position s.shown
+
+-- the note on the line that stands at a position, if there is one
+abbrev placed_note : (file : List ℕ) → (ls : List LocatedLine) → Position → Option LocatedLine → List ℕ
+placed_note file ls p None = []
+placed_note file ls p (Some l) = line_note file ls p l
+
+abbrev pub note_at : (file : List ℕ) → (ls : List LocatedLine) → Position → List ℕ
+note_at file ls p = placed_note file ls p (slice_get ls p.index)
 
 -- ---- the notes on some lines
 

@@ -12,8 +12,11 @@ use Rattle.mk_class.specs.declared.class.Class.TheVariants.{Body, Recipe, Opaque
 use Rattle.mk_script.specs.Spelling.{are_alike}
 use Rattle.mk_tree.specs.LocatedLines.{LocatedLine, text_of_line}
 use Rattle.mk_views.specs.Views.{AssignmentView, TargetAssignmentView, assignment_of, define_of, rule_of, target_assignment_of}
-use Rattle.mk_listing.specs.Listings.{Spot, Walk, is_for, is_of, seen, standing, whole}
+use Rattle.mk_listing.specs.Listings.{Spot, Standing, Walk, is_for, is_of, standing, whole}
+use Rattle.mk_listing.specs.declared.position.Position.{Position}
 use Rattle.mk_notes.specs.Excerpts.{is_blank}
+use Rattle.mk_notes.specs.OwnBranches.{is_elsewhere}
+use Rattle.mk_notes.specs.declared.own_branch.OwnBranch.{OwnBranch}
 
 -- Which lines are sought.
 pub data Sought : Type 0 where
@@ -27,8 +30,10 @@ pub data Sought : Type 0 where
   AlikeVariable : (name : List ℕ) → Sought
   -- the lines of the rules for another target that is spelled alike
   AlikeRule : (target : List ℕ) → Sought
-  -- the lines that give a variable another value
-  NewValue : (name : List ℕ) → Sought
+  -- the lines that give a variable another value and stand in no other branch than this one
+  NewValue : (name : List ℕ) → (own : OwnBranch) → Sought
+  -- the lines that assign a variable in another branch than this one
+  OtherBranch : (name : List ℕ) → (own : OwnBranch) → Sought
   -- where the name of a variable stands and no edit looks
   HiddenVariable : (name : List ℕ) → Sought
   -- where a target stands and no edit looks
@@ -113,27 +118,50 @@ abbrev pub is_define_line : Class → Bool
 is_define_line (DefineHead p) = true
 is_define_line k = false
 
--- whether a line is one of those that are sought
-abbrev pub is_sought : Sought → LocatedLine → Bool
-is_sought (Variable n) l = shows (is_of (Some n)) (assignment_of l)
-is_sought (Rule t) l = shows (is_for (Some t)) (rule_of l)
-is_sought (Target t) l =
+-- whether a line is the head of a define of this name
+abbrev pub defines : (name : List ℕ) → LocatedLine → Bool
+defines n l = shows (λ name. bytes_eq name n) (define_of l)
+
+-- whether a line assigns the variable of this name, or defines it
+abbrev pub gives : (name : List ℕ) → LocatedLine → Bool
+gives n l = shows (is_of (Some n)) (assignment_of l) || defines n l
+
+-- whether a line gives the variable of this name another value, whatever value it has
+abbrev pub gives_anew : (name : List ℕ) → LocatedLine → Bool
+gives_anew n l = shows (gives_value n) (assignment_of l) || defines n l
+
+-- whether a line at a position is one of those that are sought
+abbrev pub is_sought : Sought → Position → LocatedLine → Bool
+is_sought (Variable n) p l = shows (is_of (Some n)) (assignment_of l)
+is_sought (Rule t) p l = shows (is_for (Some t)) (rule_of l)
+is_sought (Target t) p l =
     shows (is_for (Some t)) (rule_of l) || shows (λ a. is_one_of t a.targets) (target_assignment_of l)
-is_sought (AlikeVariable n) l = shows (λ a. is_near n a.name) (assignment_of l)
-is_sought (AlikeRule t) l = shows (λ r. list_any (is_near t) r.targets) (rule_of l)
-is_sought (NewValue n) l =
-    shows (gives_value n) (assignment_of l) || shows (λ name. bytes_eq name n) (define_of l)
-is_sought (HiddenVariable n) l =
-    shows (λ name. bytes_eq name n) (define_of l)
-    || shows (assigns_for_targets n) (target_assignment_of l) || is_hidden n l
-is_sought (HiddenRule t) l =
+is_sought (AlikeVariable n) p l = shows (λ a. is_near n a.name) (assignment_of l)
+is_sought (AlikeRule t) p l = shows (λ r. list_any (is_near t) r.targets) (rule_of l)
+is_sought (NewValue n b) p l = not (is_elsewhere b p.index) && gives_anew n l
+is_sought (OtherBranch n b) p l = is_elsewhere b p.index && gives n l
+is_sought (HiddenVariable n) p l =
+    defines n l || shows (assigns_for_targets n) (target_assignment_of l) || is_hidden n l
+is_sought (HiddenRule t) p l =
     shows (λ a. is_one_of t a.targets) (target_assignment_of l) || is_hidden t l
-is_sought DefineLine l = is_define_line l.class
-is_sought AnyLine l = true
+is_sought DefineLine p l = is_define_line l.class
+is_sought AnyLine p l = true
+
+-- a line before others that are sought, if it is one
+abbrev sought_before : Sought → Standing → List (Spot LocatedLine) → List (Spot LocatedLine)
+sought_before s x rest =
+    if is_sought s x.position x.line
+    then record { position = x.position; shown = x.line; below = x.below } ∷ rest
+    else rest
+
+-- those of some lines that are sought
+abbrev sought_among : Sought → List Standing → List (Spot LocatedLine)
+sought_among s [] = []
+sought_among s (x ∷ xs) = sought_before s x (sought_among s xs)
 
 -- the lines that are sought among those that a walk has ahead
 abbrev pub sought_ahead : Sought → Walk → List (Spot LocatedLine)
-sought_ahead s w = seen (λ l. Some l) (is_sought s) (standing w)
+sought_ahead s w = sought_among s (standing w)
 
 -- the lines of a document that are sought
 abbrev pub sought_in : Sought → List LocatedLine → List (Spot LocatedLine)

@@ -3,37 +3,24 @@ ghost use Rattle.std.specs.Prelude.{◌≡◌, ◌++◌, IfOk, None, codes, leng
 ghost use Rattle.std.specs.List.{flat_map};
 ghost use Rattle.mk_tree.specs.Trees.{line_view};
 ghost use Rattle.mk_edit_language.specs.EditViews.{edit_of};
-ghost use Rattle.mk_notes.specs.EditNotes.{again_notes, again_of, assigned_notes, changed_line, default_notes, is_default, is_default_flavor, name_note, notes_on_edit};
+ghost use Rattle.mk_notes.specs.EditNotes.{again_notes, again_of, assigned_name, assigned_notes, branch_notes, branch_of_edit, changed_line, default_notes, is_default, is_default_flavor, name_note, notes_on_edit, notes_on_named, rule_notes};
 ghost use Rattle.mk_notes.specs.LineNotes.{line_note, line_notes, more_note, spot_note};
-ghost use Rattle.mk_notes.specs.NoteViews.{told_seen};
+ghost use Rattle.mk_notes.specs.NoteViews.{sought_seen, told_seen};
+ghost use Rattle.mk_notes.specs.Sought.{NewValue};
 
-use crate::assigned::{assigned_name, below_edit, changed_line};
-use crate::finding::count_ahead;
+use crate::assigned::{assigned_name, below_edit, branch_of_edit, changed_line};
+use crate::finding::{count_ahead, count_sought};
 use crate::line_note::{MOST_LINES, how_many_more, push_first, push_line_note, push_more};
-use crate::notes::Told;
+use crate::name_note::push_name_note;
+use crate::notes::{Told, push_sought};
+use crate::other_rule::{push_new_rule, push_numbered};
 use crate::sought::Sought;
-use crate::texts::{push_parts, push_place};
 use mk_class::Flavor;
 use mk_edit_language::Edit;
 use mk_listing::Position;
 use mk_tree::{Doc, Line};
 use mk_views::LineViews;
 use std::alloc::{AllocError, Allocator};
-
-// Puts a note on the line of the script behind some notes, which says something of a name.
-fn push_name_note<B: Allocator>(
-    notes: &mut Vec<u8, B>,
-    told: Told<'_>,
-    before: &[u8],
-    name: &[u8],
-    behind: &[u8],
-) -> Result<(), AllocError>
-    ensures { IfOk result (λ _. notes.new.items
-        ≡ notes.old.items ++ name_note (told_seen told.entry) before.now name.now behind.now) }
-{
-    push_place(notes, told.script.as_bytes(), told.line)?;
-    push_parts(notes, &[b": note: ", before, name, behind, b"\n"])
-}
 
 // ---- a value that was changed and is a default
 
@@ -108,12 +95,25 @@ fn push_default<A: Allocator, B: Allocator, C: Allocator>(
 
 // ---- a variable that is assigned again
 
+// The lines that give the variable of this name another value and stand in no other branch than the
+// assignment of an edit.
+fn sought_again<'a, A: Allocator, B: Allocator>(
+    doc: &Doc<A>,
+    edit: &Edit<B>,
+    name: &'a [u8],
+) -> Sought<'a>
+    ensures { sought_seen result
+        ≡ NewValue name.now (branch_of_edit (edit_of edit.now) doc.now) }
+{
+    Sought::NewValue(name, branch_of_edit(doc, edit))
+}
+
 // How many lines below the assignment of an edit give the variable another value.
 fn count_again<A: Allocator, B: Allocator>(doc: &Doc<A>, edit: &Edit<B>, name: &[u8]) -> usize
     ensures { result ≡ length (again_of (edit_of edit.now) name.now doc.now) }
 {
     match below_edit(doc, edit) {
-        Some(below) => count_ahead(doc, below, Sought::NewValue(name)),
+        Some(below) => count_ahead(doc, below, sought_again(doc, edit, name)),
         None => 0,
     }
 }
@@ -136,7 +136,7 @@ fn push_first_again<A: Allocator, B: Allocator, C: Allocator>(
             told.makefile.as_bytes(),
             doc,
             below,
-            Sought::NewValue(name),
+            sought_again(doc, edit, name),
             MOST_LINES,
         ),
         None => Ok(()),
@@ -200,6 +200,29 @@ fn push_again<A: Allocator, B: Allocator, C: Allocator>(
     push_lines_again(notes, told, doc, edit, name, count)
 }
 
+// ---- a variable that is assigned in another branch
+
+// Puts the notes on the lines that assign a variable in another branch behind some notes; nothing if
+// there are none.
+fn push_branches<A: Allocator, C: Allocator>(
+    notes: &mut Vec<u8, C>,
+    told: Told<'_>,
+    doc: &Doc<A>,
+    name: &[u8],
+    sought: Sought<'_>,
+) -> Result<(), AllocError>
+    ensures { IfOk result (λ _. notes.new.items ≡ notes.old.items
+        ++ branch_notes (told_seen told.entry) doc.now name.now (sought_seen sought.entry)) }
+{
+    let count = count_sought(doc, sought);
+    if count == 0 {
+        return Ok(());
+    }
+    let behind = b" is assigned in another branch too, and make may take that value";
+    push_name_note(notes, told, b"", name, behind)?;
+    push_sought(notes, told, doc, None, sought)
+}
+
 // ---- each edit
 
 // Puts the notes on an edit behind some notes that gives a value to a variable of this name.
@@ -214,7 +237,46 @@ fn push_assigned<A: Allocator, B: Allocator, C: Allocator>(
         ++ assigned_notes (told_seen told.entry) doc.now (edit_of edit.now) name.now) }
 {
     push_default(notes, told, doc, edit, name)?;
-    push_again(notes, told, doc, edit, name)
+    push_again(notes, told, doc, edit, name)?;
+    let own = branch_of_edit(doc, edit);
+    push_branches(notes, told, doc, name, Sought::OtherBranch(name, own))
+}
+
+// Puts the notes on an edit behind some notes that gives a value to a variable; nothing on another edit.
+fn push_named<A: Allocator, B: Allocator, C: Allocator>(
+    notes: &mut Vec<u8, C>,
+    told: Told<'_>,
+    doc: &Doc<A>,
+    edit: &Edit<B>,
+) -> Result<(), AllocError>
+    ensures { IfOk result (λ _. notes.new.items ≡ notes.old.items
+        ++ notes_on_named (told_seen told.entry) doc.now (edit_of edit.now) (assigned_name (edit_of edit.now))) }
+{
+    match assigned_name(edit) {
+        Some(name) => push_assigned(notes, told, doc, edit, name),
+        None => Ok(()),
+    }
+}
+
+// Puts the notes on an edit behind some notes that puts in a rule, or that puts in or changes a line of a
+// recipe; nothing on another edit.
+fn push_rule<A: Allocator, B: Allocator, C: Allocator>(
+    notes: &mut Vec<u8, C>,
+    told: Told<'_>,
+    doc: &Doc<A>,
+    edit: &Edit<B>,
+) -> Result<(), AllocError>
+    ensures { IfOk result (λ _. notes.new.items ≡ notes.old.items
+        ++ rule_notes (told_seen told.entry) doc.now (edit_of edit.now)) }
+{
+    match edit {
+        Edit::AddRule { targets, .. } => push_new_rule(notes, told, doc, targets),
+        Edit::AddRecipe { nth, target, .. } => push_numbered(notes, told, doc, *nth, target),
+        Edit::SetRecipe { nth, target, .. } => push_numbered(notes, told, doc, *nth, target),
+        Edit::InsertRecipe { nth, target, .. } => push_numbered(notes, told, doc, *nth, target),
+        Edit::SetRecipeByText { nth, target, .. } => push_numbered(notes, told, doc, *nth, target),
+        _ => Ok(()),
+    }
 }
 
 /// The notes on an edit that was made, as a text: why it may do nothing in make. Each line begins with
@@ -224,9 +286,14 @@ fn push_assigned<A: Allocator, B: Allocator, C: Allocator>(
 /// | Edit | Notes |
 /// |---|---|
 /// | `SetValue`, `AppendValue`, `AddWord`, `RemoveWord` | where the operator is `?=`: that make takes the value only where the variable has none, and the line |
-/// | the same, and `AddAssign` | where the variable is assigned again below: that it is, and the lines that assign it |
+/// | the same, and `AddAssign` | where the variable is assigned again below, and not in another branch of the same conditional: that it is, and the lines that assign it |
+/// | the same | where it is assigned in another branch of the same conditional: that it is, and the lines that assign it |
 ///
-/// There are no notes on any other edit. A line assigns the variable again if it is a define of its name,
+/// | `AddRule` | for each of its first ten targets that has a recipe in another rule: that it has, and the lines of these rules |
+/// | `AddRecipe`, `SetRecipe`, `InsertRecipe`, `SetRecipeByText` | the same for the target by which the rule is called |
+///
+/// There are no notes on any other edit. A rule with `::` is none of those that are told of, and a target
+/// with `%` has no notes. A line assigns the variable again if it is a define of its name,
 /// or an assignment with an operator besides `?=` and `+=`. Of many lines the first ten are told of, each
 /// by at most 100 bytes of its text.
 ///
@@ -243,8 +310,7 @@ pub fn edit_notes<A: Allocator, B: Allocator, C: Allocator>(
         ≡ notes_on_edit (told_seen told.entry) doc.now (edit_of edit.now)) }
 {
     let mut notes = Vec::new(alloc);
-    if let Some(name) = assigned_name(edit) {
-        push_assigned(&mut notes, told, doc, edit, name)?;
-    }
+    push_named(&mut notes, told, doc, edit)?;
+    push_rule(&mut notes, told, doc, edit)?;
     Ok(notes)
 }

@@ -2,12 +2,13 @@
 ghost use Rattle.std.specs.Prelude.{◌≡◌, ◌≤◌, IfSome, length, option_map};
 ghost use Rattle.mk_edit_language.specs.EditViews.{edit_of};
 ghost use Rattle.mk_edit_parts.specs.AddressViews.{address_view};
-ghost use Rattle.mk_notes.specs.EditNotes.{assigned_name, below_address, below_edit, changed_line, line_of, stands_below};
+ghost use Rattle.mk_notes.specs.EditNotes.{assigned_name, below_address, below_edit, branch_by, branch_of_edit, changed_line, end_by, line_of, stands_below, start_by};
 ghost use Rattle.mk_notes.specs.NoteViews.{spot_seen};
 
 use crate::candidates::{candidates_of, nth_of};
 use crate::finding::{next_sought, walk_below};
 use crate::line_note::passed_over;
+use crate::own_branch::{OwnBranch, Start, first_end, no_start, start_of};
 use mk_edit_language::{Edit, Place};
 use mk_edit_parts::address::{Address, address_of};
 use mk_listing::{NumberedLines, Position};
@@ -54,6 +55,54 @@ pub(crate) fn changed_line<'a, A: Allocator, B: Allocator>(
     }
     let address = address_of(edit)?;
     line_of(doc, address)
+}
+
+// ---- its branch
+
+// Where the branch begins in which the line of an address stands.
+fn start_at<A: Allocator>(doc: &Doc<A>, address: Address<'_>) -> Start
+    ensures { result ≡ start_by doc.now (line_of (address_view address.entry) doc.now) }
+{
+    match line_of(doc, address) {
+        Some((position, _, _)) => start_of(doc, position),
+        None => no_start(),
+    }
+}
+
+// The index of the line that ends this branch, if an `else` counts, or its conditional; 0 if none does.
+fn end_at<A: Allocator>(doc: &Doc<A>, counts_else: bool, address: Address<'_>) -> usize
+    ensures { result ≡ end_by counts_else (line_of (address_view address.entry) doc.now) }
+{
+    match line_of(doc, address) {
+        Some((position, _, below)) => first_end(counts_else, position.conditionals, below),
+        None => 0,
+    }
+}
+
+// The branch in which the line of an address stands.
+fn branch_at<A: Allocator>(doc: &Doc<A>, address: Address<'_>) -> OwnBranch
+    ensures { result ≡ branch_by doc.now (line_of (address_view address.entry) doc.now) }
+{
+    OwnBranch {
+        start: start_at(doc, address),
+        stop: end_at(doc, true, address),
+        end: end_at(doc, false, address),
+    }
+}
+
+/// The branch in which the assignment stands that an edit has changed or put in. A new last line
+/// stands in none.
+pub(crate) fn branch_of_edit<A: Allocator, B: Allocator>(doc: &Doc<A>, edit: &Edit<B>) -> OwnBranch
+    ensures { result ≡ branch_of_edit (edit_of edit.now) doc.now }
+{
+    match address_of(edit) {
+        Some(address) => branch_at(doc, address),
+        None => OwnBranch {
+            start: no_start(),
+            stop: 0,
+            end: 0,
+        },
+    }
 }
 
 // ---- the lines below it

@@ -17,7 +17,7 @@ pub(crate) fn next_sought<'a, A: Allocator>(
     ensures { FindsSought (sought_seen sought.entry) walk.old result walk.new }
 {
     'lines: while let Some((position, line)) = walk.next() {
-        if sought.is_met(line) {
+        if sought.is_met(position, line) {
             return Some((position, line));
         }
     }

@@ -8,6 +8,7 @@
 //!
 //! - `texts`: texts in parts, and where a line stands.
 //! - `excerpt`: the text of a line as a note shows it.
+//! - `own_branch`: the branch of a conditional in which a line stands, and the other branches.
 //! - `sought`: which lines notes tell of.
 //! - `finding`: the lines of a document that are sought.
 //! - `branch`: the branch of a conditional in which a line stands.
@@ -15,6 +16,8 @@
 //! - `candidates`: the lines that an address may mean.
 //! - `choice`: what tells one of several lines.
 //! - [`notes`]: the notes on a refusal.
+//! - `name_note`: a note on the line of the script that says something of a name.
+//! - `other_rule`: the notes on a target that has a recipe in another rule.
 //! - `assigned`: the assignment that an edit has changed or put in, and the lines below it.
 //! - [`accepted`]: the notes on an edit that was made.
 #![tactic(auto)]
@@ -27,7 +30,10 @@ mod choice;
 mod excerpt;
 mod finding;
 mod line_note;
+mod name_note;
 pub mod notes;
+mod other_rule;
+mod own_branch;
 mod sought;
 mod texts;
 

@@ -2,7 +2,7 @@
 ghost use Rattle.std.specs.Prelude.{◌≡◌, ◌++◌, IfOk, take};
 ghost use Rattle.std.specs.List.{flat_map};
 ghost use Rattle.mk_tree.specs.Trees.{line_view};
-ghost use Rattle.mk_notes.specs.LineNotes.{branch_text, class_text, how_many_more, kind_text, line_note, line_notes, more_note, passed_over, shown_at_most, some_more_note, spot_note};
+ghost use Rattle.mk_notes.specs.LineNotes.{branch_text, class_text, how_many_more, kind_text, line_note, line_notes, more_note, note_at, passed_over, shown_at_most, some_more_note, spot_note};
 ghost use Rattle.mk_notes.specs.NoteViews.{placed_seen, sought_seen};
 ghost use Rattle.mk_notes.specs.Sought.{sought_ahead, sought_in};
 
@@ -12,7 +12,7 @@ use crate::finding::{count_sought, next_sought, walk_below};
 use crate::sought::{Sought, after_mark};
 use crate::texts::{push_parts, push_place};
 use mk_class::Class;
-use mk_listing::{NumberedLines, Position};
+use mk_listing::{NumberedLines, Position, line_at};
 use mk_tree::{Doc, Line};
 use std::alloc::{AllocError, Allocator};
 
@@ -85,6 +85,26 @@ pub(crate) fn push_line_note<A: Allocator, B: Allocator>(
     notes.extend_from_slice(kind_text(line.text(), &line.class()).as_bytes())?;
     push_branch(notes, file, branch_of(doc, position))?;
     notes.extend_from_slice(b"\n")
+}
+
+/// Puts the note on the line that stands at a position behind some notes; nothing if there is no line.
+///
+/// # Errors
+///
+/// Want of memory.
+pub(crate) fn push_note_at<A: Allocator, B: Allocator>(
+    notes: &mut Vec<u8, B>,
+    file: &[u8],
+    doc: &Doc<A>,
+    position: Position,
+) -> Result<(), AllocError>
+    ensures { IfOk result (λ _. notes.new.items
+        ≡ notes.old.items ++ note_at file.now doc.now position) }
+{
+    match line_at(doc, position.index) {
+        Some(line) => push_line_note(notes, file, doc, position, line),
+        None => Ok(()),
+    }
 }
 
 // Puts the note that there are so many more lines behind some notes.

@@ -42,9 +42,13 @@ fn push_script_note<B: Allocator>(
     push_parts(notes, &[b": note: ", said, b"\n"])
 }
 
-// Puts the notes on the lines that are sought behind some notes: on the nth, or on all if no number is
-// given.
-fn push_sought<A: Allocator, B: Allocator>(
+/// Puts the notes on the lines that are sought behind some notes: on the nth, or on all if no number is
+/// given.
+///
+/// # Errors
+///
+/// Want of memory.
+pub(crate) fn push_sought<A: Allocator, B: Allocator>(
     notes: &mut Vec<u8, B>,
     told: Told<'_>,
     doc: &Doc<A>,

@@ -1,17 +1,18 @@
 //! Which lines notes tell of.
 ghost use Rattle.std.specs.Prelude.{◌≡◌, Some, option_map};
 ghost use Rattle.std.specs.List.{list_any};
-ghost use Rattle.std.specs.Str.{bytes_eq};
 ghost use Rattle.mk_class.specs.Texts.{is_one_of};
 ghost use Rattle.mk_tree.specs.LocatedLines.{text_of_line};
 ghost use Rattle.mk_tree.specs.Trees.{line_view};
-ghost use Rattle.mk_views.specs.Views.{assignment_of, define_of, rule_of, target_assignment_of};
+ghost use Rattle.mk_views.specs.Views.{assignment_of, rule_of, target_assignment_of};
 ghost use Rattle.mk_listing.specs.Listings.{is_for, is_of};
 ghost use Rattle.mk_notes.specs.NoteViews.{sought_seen};
-ghost use Rattle.mk_notes.specs.Sought.{after_mark, assigns_for_targets, begins_with_sign, gives_value, is_define_line, is_hidden, is_marked, is_near, is_new_value, is_sign, is_sought, is_unread, leads, leads_bare, shows};
+ghost use Rattle.mk_notes.specs.Sought.{after_mark, assigns_for_targets, begins_with_sign, defines, gives, gives_anew, gives_value, is_define_line, is_hidden, is_marked, is_near, is_new_value, is_sign, is_sought, is_unread, leads, leads_bare, shows};
 
 use crate::excerpt::after_blanks;
+use crate::own_branch::OwnBranch;
 use mk_class::{Class, Flavor};
+use mk_listing::Position;
 use mk_script::spelling::are_alike;
 use mk_tree::Line;
 use mk_views::{LineViews, WordTexts};
@@ -31,8 +32,10 @@ pub(crate) enum Sought<'a> {
     /// The lines of the rules for another target that is spelled alike.
     AlikeRule(&'a [u8]),
     /// The lines that give the variable of this name another value: its defines, and its assignments
-    /// but those with `?=` and `+=`.
-    NewValue(&'a [u8]),
+    /// but those with `?=` and `+=`. Those in another branch than this one are none of them.
+    NewValue(&'a [u8], OwnBranch),
+    /// The lines that assign the variable of this name, or define it, in another branch than this one.
+    OtherBranch(&'a [u8], OwnBranch),
     /// Where the name of a variable stands and no edit looks.
     HiddenVariable(&'a [u8]),
     /// Where a target stands and no edit looks.
@@ -44,9 +47,9 @@ pub(crate) enum Sought<'a> {
 }
 
 impl Sought<'_> {
-    /// Whether a line is one of those that are sought.
-    pub(crate) fn is_met<A: Allocator>(self, line: &Line<A>) -> bool
-        ensures { result ≡ is_sought (sought_seen self.entry) (line_view line.now) }
+    /// Whether a line at a position is one of those that are sought.
+    pub(crate) fn is_met<A: Allocator>(self, position: Position, line: &Line<A>) -> bool
+        ensures { result ≡ is_sought (sought_seen self.entry) position (line_view line.now) }
     {
         match self {
             Sought::Variable(name) => assigns(line, name),
@@ -54,7 +57,12 @@ impl Sought<'_> {
             Sought::Target(target) => is_rule_for(line, target) || is_for_target(line, target),
             Sought::AlikeVariable(name) => assigns_alike(line, name),
             Sought::AlikeRule(target) => is_rule_for_alike(line, target),
-            Sought::NewValue(name) => gives_value(line, name) || defines(line, name),
+            Sought::NewValue(name, own) => {
+                !own.is_elsewhere(position.index) && gives_anew(line, name)
+            }
+            Sought::OtherBranch(name, own) => {
+                own.is_elsewhere(position.index) && gives(line, name)
+            }
             Sought::HiddenVariable(name) => {
                 defines(line, name) || assigns_for_targets(line, name) || is_hidden(line, name)
             }
@@ -169,9 +177,23 @@ fn has_near_word(words: WordTexts<'_>, word: &[u8]) -> bool
     false
 }
 
+// Whether a line assigns the variable of this name, or defines it.
+fn gives<A: Allocator>(line: &Line<A>, name: &[u8]) -> bool
+    ensures { result ≡ gives name.now (line_view line.now) }
+{
+    assigns(line, name) || defines(line, name)
+}
+
+// Whether a line gives the variable of this name another value, whatever value it has.
+fn gives_anew<A: Allocator>(line: &Line<A>, name: &[u8]) -> bool
+    ensures { result ≡ gives_anew name.now (line_view line.now) }
+{
+    gives_value(line, name) || defines(line, name)
+}
+
 // Whether a line begins the define of this name.
 fn defines<A: Allocator>(line: &Line<A>, name: &[u8]) -> bool
-    ensures { result ≡ shows (λ other. bytes_eq other name.now) (define_of (line_view line.now)) }
+    ensures { result ≡ defines name.now (line_view line.now) }
 {
     match line.define() {
         Some(other) => other == name,
