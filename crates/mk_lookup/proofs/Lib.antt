@@ -1,4 +1,3 @@
 -- Lemmas on lookups
 mod LookupLemmas
 mod LawLemmas
-mod IndexLemmas
