@@ -6,3 +6,5 @@ mod UntoldLemmas
 mod ComparisonLemmas
 -- Lemmas on lines with a name
 mod NamedLineLemmas
+-- Lemmas on runs whose makefile could not be read
+mod UnreadLemmas
