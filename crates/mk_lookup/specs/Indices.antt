@@ -11,7 +11,7 @@ use Rattle.mk_edit_language.specs.declared.refusal.Refusal.{Refusal}
 use Rattle.mk_lookup.specs.Lookups.{first_causes}
 
 -- how many lines stand above the line
-abbrev pub index_of : Option StandingLine → ℕ
+abbrev index_of : Option StandingLine → ℕ
 index_of None = 0
 index_of (Some s) = length s.above
 
