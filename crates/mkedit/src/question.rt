@@ -1,6 +1,7 @@
 //! What a makefile is asked for, and what is found for it.
 ghost use Rattle.std.specs.Prelude.{◌≡◌, false, Err, IfOk, None, Some, option_map};
 ghost use Rattle.mk_lines.specs.Device.{Writes};
+ghost use Rattle.mk_lines.specs.declared.fault.Fault.TheVariants.{NoMemory};
 ghost use Rattle.mk_tree.specs.Documents.{IsFaithful};
 ghost use Rattle.mk_tree.specs.LocatedLines.{located_text};
 ghost use Rattle.mkedit.specs.declared.question.Unanswered.TheVariants as unanswered;
@@ -68,7 +69,7 @@ impl From<Fault> for Unanswered {
 }
 
 impl From<AllocError> for Unanswered {
-    ghost from_gives = { λ _ answer. answer ≡ unanswered.Fault Fault.NoMemory };
+    ghost from_gives = { λ _ answer. answer ≡ unanswered.Fault NoMemory };
 
     fn from(_refused: AllocError) -> Unanswered {
         Unanswered::Fault(Fault::NoMemory)
