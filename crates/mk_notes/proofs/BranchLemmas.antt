@@ -9,7 +9,7 @@ use Rattle.mk_notes.specs.declared.own_branch.Start.{Start}
 use Rattle.mk_notes.proofs.NoteLemmas.{taken}
 
 -- the line that a walk hands out stands before those that it has ahead then
-pub standing-next : (w left : Walk) (p : Position) (x : LocatedLine) → p ≡ position_below w.above → w.ahead ≡ x ∷ left.ahead → left.above ≡ w.above ++ x ∷ []
+standing-next : (w left : Walk) (p : Position) (x : LocatedLine) → p ≡ position_below w.above → w.ahead ≡ x ∷ left.ahead → left.above ≡ w.above ++ x ∷ []
     → standing w ≡ record { position = p; line = x; below = left } ∷ standing left
 standing-next w left p x here ahead above =
     ap (standing_below w.above) ahead

@@ -83,7 +83,7 @@ abbrev pub branch_by : List LocatedLine → Option (Spot LocatedLine) → OwnBra
 branch_by ls s = record { start = start_by ls s; stop = end_by true s; end = end_by false s }
 
 -- the line of the address of an edit; a new last line has none
-abbrev pub addressed_line : Edit → List LocatedLine → Option (Spot LocatedLine)
+abbrev addressed_line : Edit → List LocatedLine → Option (Spot LocatedLine)
 addressed_line e ls = option_and_then (λ a. line_of a ls) (addresses.address e)
 
 -- The branch of the assignment of an edit: that of the line of its address, since a new line stands

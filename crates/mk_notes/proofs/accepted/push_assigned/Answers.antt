@@ -3,7 +3,7 @@ use Rattle.mk_edit_language.specs.EditViews.{edit_of}
 use Rattle.mk_notes.specs.EditNotes.{again_notes, again_of, branch_notes, branch_of_edit, changed_line, default_notes}
 use Rattle.mk_notes.specs.NoteViews.{told_seen}
 use Rattle.mk_notes.specs.Sought.{OtherBranch}
-use Rattle.mk_notes.proofs.TextLemmas.{behind, behind-two}
+use Rattle.mk_notes.proofs.TextLemmas.{behind-two}
 use Rattle.mk_notes.proofs.accepted.push_assigned.Goals as goal
 
 pub returns : goal.returns
