@@ -71,6 +71,15 @@ impl<W: Write> StdSink<W> {
             is_failed: false,
         }
     }
+
+    /// The writer of the sink. The call writes nothing and flushes nothing: what the writer holds
+    /// back it still holds back. Whether the sink has failed is forgotten; ask [`ByteSink::failed`]
+    /// before.
+    pub fn into_inner(self) -> W
+        ensures inner { result ≡ self.inner }
+    {
+        self.inner
+    }
 }
 
 impl<W: Write> ByteSink for StdSink<W> {

@@ -63,6 +63,14 @@ impl<R: Read> StdSource<R> {
             is_failed: false,
         }
     }
+
+    /// The reader of the source, at its next byte: a source reads nothing ahead. The call reads
+    /// nothing. Whether the source has failed is forgotten; ask [`ByteSource::failed`] before.
+    pub fn into_inner(self) -> R
+        ensures inner { result ≡ self.inner }
+    {
+        self.inner
+    }
 }
 
 impl<R: Read> ByteSource for StdSource<R> {

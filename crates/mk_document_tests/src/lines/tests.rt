@@ -101,6 +101,42 @@ fn a_failed_write_or_flush_is_a_fault(rt: HostRuntime) {
 }
 
 #[test]
+fn a_sink_gives_its_writer_back(rt: HostRuntime) -> Result<(), Fail> {
+    let mut sink = StdSink::new(Vec::new(rt.alloc()));
+    write_all(&mut sink, b"CC = gcc\n")?;
+    write_parts(&mut sink, &[b"all", b":\n"])?;
+    let text = sink.into_inner();
+    assert_eq!(rt; text.as_slice(), b"CC = gcc\nall:\n".as_slice());
+    Ok(())
+}
+
+// What the writer holds back stays held back.
+#[test]
+fn a_writer_that_is_given_back_is_not_flushed(rt: HostRuntime) -> Result<(), Fail> {
+    let ends = [CallEnd::Moves(5)];
+    let mut sink = StdSink::new(ListWriter {
+        ends: ends.as_slice(),
+        bytes: Vec::new(rt.alloc()),
+        flushes: 0,
+    });
+    write_all(&mut sink, b"hello")?;
+    let writer = sink.into_inner();
+    assert_eq!(rt; writer.bytes.as_slice(), b"hello".as_slice());
+    assert_eq!(rt; writer.flushes, 0);
+    Ok(())
+}
+
+// A source reads nothing ahead: its reader goes on at the next byte.
+#[test]
+fn a_source_gives_its_reader_back_at_the_next_byte(rt: HostRuntime) -> Result<(), Fail> {
+    let mut source = StdSource::new(b"CC = gcc\n".as_slice());
+    let mut first = [0u8; 3];
+    assert_eq!(rt; source.read(&mut first), Ok(3));
+    assert_eq!(rt; source.into_inner(), b"= gcc\n".as_slice());
+    Ok(())
+}
+
+#[test]
 fn a_text_is_read_up_to_the_limit(rt: HostRuntime) -> Result<(), Fail> {
     let text = vec![in rt.alloc(); b'#'; 16_777_217]?;
     assert_eq!(rt; text.len(), MAX_TEXT + 1);
