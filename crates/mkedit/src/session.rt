@@ -92,7 +92,7 @@ fn is_by_protocol(words: SessionWords<'_>) -> bool
 }
 
 // To whom a session replies whose standard streams are terminals or not.
-fn asker(rt: &HostRuntime, words: SessionWords<'_>) -> Asker {
+fn asker_of(rt: &HostRuntime, words: SessionWords<'_>) -> Asker {
     if is_by_protocol(words) || !rt.stdin().is_terminal() {
         return Asker::Program;
     }
@@ -122,7 +122,7 @@ fn reply<S: ByteSource, W: ByteSink>(
 
 // Replies to the lines of standard input, on standard output.
 fn talk<'a>(rt: &'a HostRuntime, words: SessionWords<'a>, desk: Desk<'a>) -> End<'a> {
-    let asker = asker(rt, words);
+    let asker = asker_of(rt, words);
     let mut source = StdSource::new(rt.stdin());
     let mut device = Noted::new(rt.stdout());
     let mut out = StdSink::new(&mut device);
