@@ -8,3 +8,5 @@ mod ComparisonLemmas
 mod NamedLineLemmas
 -- Lemmas on runs whose makefile could not be read
 mod UnreadLemmas
+-- Lemmas on the steps of a script
+mod StepLemmas

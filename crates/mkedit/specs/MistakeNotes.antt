@@ -1,12 +1,12 @@
 -- The note on a line of a script that is no command.
 -- Told in docs/EDITS.md, "If a line is not a command".
-use Rattle.std.specs.Prelude.{ℕ, List, [], ◌∷◌, ◌++◌, Option, Some, None, option_map, codes, decimal}
+use Rattle.std.specs.Prelude.{ℕ, List, [], ◌++◌, ◌<◌, length, Option, Some, None, option_map, codes, decimal}
 use Rattle.std.specs.Option.{option_copied}
-use Rattle.mk_run.specs.RunEnds.{HasText}
+use Rattle.mk_run.specs.RunSteps.{GivesSteps}
 use Rattle.mk_run.specs.declared.outcome.Outcome as o
 use Rattle.mk_run.specs.declared.outcome.Outcome.TheVariants.{NotACommand}
 use Rattle.mk_script.specs.Mistakes.{mistake_at, nearest_at}
-use Rattle.mk_script.specs.Scripts.{Step, IsScript}
+use Rattle.mk_script.specs.Scripts.{Step}
 use Rattle.mk_script.specs.declared.mistake.FieldName.{FieldName}
 use Rattle.mk_script.specs.declared.mistake.FieldName.TheVariants as field
 use Rattle.mk_script.specs.declared.mistake.MistakeCause.{MistakeCause}
@@ -58,11 +58,9 @@ script_mistake script text other = None
 
 -- the makefile is a script: its bytes, which a reader gave, are one that has a command
 pub record IsExchanged (makefile : Option (List ℕ)) : Type 0 where
-  pub text : List ℕ
-  pub first : Step
   pub steps : List Step
-  pub has_text : HasText makefile text
-  pub is_script : IsScript text (first ∷ steps)
+  pub gives_steps : GivesSteps makefile steps
+  pub some : 0 < length steps
 
 -- what is said of a field that is missing
 abbrev pub missing_field : FieldName → List ℕ

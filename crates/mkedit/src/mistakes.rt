@@ -167,6 +167,23 @@ fn put_line<W: ByteSink>(found: ScriptMistake<'_>, out: &mut W) -> Result<(), Fa
     put_nearest(found.nearest, out)
 }
 
+// Writes the note that a script may be exchanged with the makefile of this name.
+fn put_exchange<W: ByteSink>(script: &str, makefile: &str, out: &mut W) -> Result<(), Fault>
+    requires { W.failed out.old ≡ false }
+    ensures { Writes W.contents W.failed W.flushes out.old out.new result
+        (exchanged_note script.now (Some makefile.now)) }
+{
+    write_parts(
+        out,
+        &[
+            script.as_bytes(),
+            b": note: this is no script, and ",
+            makefile.as_bytes(),
+            b" is one: they may be exchanged\n",
+        ],
+    )
+}
+
 // Writes the note that a script may be exchanged with the makefile, where that is a script.
 fn put_exchanged<W: ByteSink>(
     script: &str,
@@ -178,19 +195,7 @@ fn put_exchanged<W: ByteSink>(
         (exchanged_note script.now (option_copied makefile.entry)) }
 {
     match makefile {
-        Some(makefile) => {
-            let script = script.as_bytes();
-            let makefile = makefile.as_bytes();
-            write_parts(
-                out,
-                &[
-                    script,
-                    b": note: this is no script, and ",
-                    makefile,
-                    b" is one: they may be exchanged\n",
-                ],
-            )
-        }
+        Some(makefile) => put_exchange(script, makefile, out),
         None => write_all(out, b""),
     }
 }

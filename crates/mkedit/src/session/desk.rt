@@ -396,6 +396,11 @@ impl<'a> Desk<'a> {
         }
     }
 
+    // The commands and the requests, for a person.
+    fn commands(&self) -> Result<Vec<u8>, NotDone> {
+        Ok(Vec::from_slice(self.rt.alloc(), HELP.as_bytes())?)
+    }
+
     // What is answered to a request of one word; the text of the answer.
     fn done_word(&mut self, word: RequestWord) -> Result<Vec<u8>, NotDone>
         ensures done { IsRequestDone (Word word) self.old.opened self.old.session.shown
@@ -410,10 +415,7 @@ impl<'a> Desk<'a> {
             RequestWord::Check => return self.query(Query::Check),
             RequestWord::Caveats => return self.query(Query::Caveats),
             RequestWord::History => return self.in_form(self.journal.text()?),
-            RequestWord::Help => return self.in_form(Vec::from_slice(
-                self.rt.alloc(),
-                HELP.as_bytes(),
-            )?),
+            RequestWord::Help => return self.in_form(self.commands()?),
             RequestWord::Write => self.write_if_left()?,
             RequestWord::WriteAnyway => self.write_text()?,
             RequestWord::Revert => self.revert()?,

@@ -159,7 +159,7 @@ pub fn changed_lines(alloc: Global, diff: &[u8], shown: &[u8]) -> Result<Vec<u8>
     let (mut rest, mut shown_rest) = (diff, shown);
     let mut names = 2;
     let mut is_above = false;
-    'lines: while !rest.is_empty() {
+    'lines: while !rest.is_empty() && !shown_rest.is_empty() {
         let (line, after) = rest.split_at(line_length(rest));
         let (shown_line, shown_after) = shown_rest.split_at(line_length(shown_rest));
         if names > 0 {

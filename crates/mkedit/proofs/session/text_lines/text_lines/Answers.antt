@@ -10,5 +10,5 @@ lines-preserved g c =
     let line : c.split_at.result.0.now ≡ take n rest = search rules in
     let after : c.split_at.result.1.now ≡ drop n rest = search rules in
     let more : text_lines rest ≡ text_line (take n rest) ++ text_lines (drop n rest) = ap (flat_map text_line) c.line_length.ensures.line in
-    rw (c.in_ok-push_line.ensures, line, after)
+    rw (c.in_ok-lines.ensures, line, after)
     (c.lines.invariant ∙ (ap (λ t. c.lines.lines.items ++ t) more ∙ sym (append_assoc c.lines.lines.items (text_line (take n rest)) (text_lines (drop n rest)))))
