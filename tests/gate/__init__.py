@@ -4,7 +4,7 @@
                 bodies, maps), and what one has to believe (sources, surface, believed)
     rows        the stored files of rows
     crates      proofs and wrong bodies: `rt ci` made quicker (proving, rounds, wrong_bodies)
-    tries       tests and programs of crates with run-time checks
+    tries       tests and programs of crates with run-time checks; the crates of tests as one (joined)
     share       which wrong bodies a run tries
     part        a part of the repository as a repository of its own
     listed      the crates of crates.txt

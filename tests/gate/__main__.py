@@ -98,7 +98,8 @@ def checked(room):
     for it in share:
         print(f"  {it.crate}/must-fail/{it.name}.edit", flush=True)
     counts = quick_counts()
-    tries = Tries([it for it in crates.values() if it.has_tests or it.is_program and it.name not in proved])
+    tried = [it for it in crates.values() if it.has_tests or it.is_program and it.name not in proved]
+    tries = Tries(crates, tried)
     counts += [counts_of("gate.crates", room, str(tries.work())), tries.counts(), tested_program(room)]
     return counts, len(bodies) - len(share)
 

@@ -21,7 +21,7 @@ from unittest import mock
 from tests import TOP
 from tests.unproved import CLANG
 
-from . import believed, bodies, dear, documents, maps, meters, refuse, repeats, trying
+from . import believed, bodies, dear, documents, joined, maps, meters, refuse, repeats, trying
 from .beside import GIVES_WAY, Tasks, in_lanes
 from .listed import listed, with_below
 from .part import copy_part
@@ -30,7 +30,7 @@ from .proving import Said
 from .rounds import found_in_rounds, linked, take_rounds
 from .share import GROUPS, SHARES, Body, bodies_of, groups_of, share_of
 from .texts import problems as old_texts
-from .tries import program_of, tests_of
+from .tries import program_of, tests_of, tries_of
 
 # (crates has put the folder of tools on the path)
 import believing  # noqa: E402
@@ -381,6 +381,38 @@ class WithRt(InRoom):
         self.assertEqual(program_of(self.crate)[:2], (0, 1))
         self.says(self.crate.stream("stdout"), 1)
         self.assertEqual(program_of(self.crate)[:2], (0, 1))
+
+
+class Joined(InRoom):
+    """The crates of tests as one crate."""
+
+    def setUp(self):
+        super().setUp()
+        self.crates = listed(TOP)
+        self.tests = [it for it in self.crates.values() if it.name.endswith("_tests")]
+
+    def test_each_crate_of_tests_is_a_module(self):
+        crate = joined.join(self.room, TOP, self.crates, self.tests)
+        text = (crate.folder / "src/lib.rt").read_text(encoding="utf-8")
+        self.assertEqual(text, "".join(f"mod {it.name};\n" for it in self.tests))
+        counts = [sum(path.read_text(encoding="utf-8").count("#[test]") for path in it.folder.glob("src/**/*.rt")) for it in self.tests]
+        found = sum(path.read_text(encoding="utf-8").count("#[test]") for path in crate.folder.glob("src/**/*.rt"))
+        self.assertEqual(found, sum(counts))
+        self.assertEqual([*listed(self.room)][-1], joined.NAME)
+
+    def test_a_path_from_the_top_of_a_crate_goes_through_its_module(self):
+        text = "#![tactic(auto)]\n\nuse crate::rows::Row;\n"
+        self.assertEqual(joined.in_module(self.tests[0], text), f"\nuse crate::{self.tests[0].name}::rows::Row;\n")
+
+    def test_a_crate_that_is_named_and_not_listed_is_seen(self):
+        for crate in self.crates.values():
+            self.assertEqual(joined.unlisted(crate, self.crates), [], crate.name)
+        crate = self.crates["mk_diff_tests"]._replace(uses=("mk_lines",))
+        self.assertEqual(joined.unlisted(crate, self.crates), ["mk_diff", "watched"])
+
+    def test_the_crates_of_tests_are_one_try(self):
+        tried = tries_of(self.crates, [self.crates["edit_rows"], *self.tests, self.crates["watched"]])
+        self.assertEqual([it.name for it in tried], [", ".join(it.name for it in self.tests), "edit_rows", "watched"])
 
 
 class Trying(InRoom):

@@ -1,27 +1,32 @@
 """The tests and the programs of crates, run with run-time checks and with nothing proved.
 
 `rt try` builds a crate and all below it with checks that end the run at a fault that a proof would
-exclude: an index out of range, a sum that does not fit, most of the clauses of `requires`. It takes a
-minute a crate, where the proof of a crate of tests takes up to half an hour. The assertions of the
-tests are the same. `make check-all` proves the crates of tests too.
+exclude: an index out of range, a sum that does not fit, most of the clauses of `requires`. The assertions
+of the tests are the same. The crates of tests are tried as one (joined.py), which takes three minutes of
+processor time, where the proof of one of them takes up to half an hour. `make check-all` proves them too.
 """
 
 import re
 import subprocess
 import sys
+import tempfile
 import threading
 from concurrent.futures import ThreadPoolExecutor
-from typing import NamedTuple
+from functools import partial
+from pathlib import Path
+from typing import Callable, NamedTuple
 
 from tests import TOP
+
+from .joined import join, unlisted
 
 RESULT = re.compile(rb"^test result: \w+\. (\d+) passed; (\d+) failed; 0 ignored; 0 filtered out$", re.M)
 # How many crates are tried at once, and how much they give way to the proofs beside them.
 AT_ONCE, GIVES_WAY = 2, "10"
-# The work of a try, in lines of code that are proved (tools/lanes.py).
-WORK = 700
-# How many seconds a run may take: a million lines with run-time checks take two minutes.
-SECONDS = "1200"
+# The work of a try, and of that of the crates of tests, in lines of code that are proved (tools/lanes.py).
+WORK, JOINED_WORK = 700, 4000
+# How many seconds a run may take, all tests of a crate together: a million lines with run-time checks take two minutes.
+SECONDS = "3600"
 
 
 class Tried(NamedTuple):
@@ -66,22 +71,50 @@ def program_of(crate):
     return Tried(1, 0, "ran, and wrote what it has to write\n")
 
 
+def joined_tests(crates, tests):
+    """Runs the tests of some crates as those of one."""
+    wrong = [f"{it.name} does not name {' '.join(found)} in crates.txt\n" for it in tests if (found := unlisted(it, crates))]
+    if wrong:
+        return Tried(0, len(wrong), "".join(wrong))
+    with tempfile.TemporaryDirectory(prefix="mkedit-tests-") as room:
+        return tests_of(join(Path(room), TOP, crates, tests))
+
+
+class Try(NamedTuple):
+    """A try that is to be made: of what, its work, and the call that makes it."""
+
+    name: str
+    work: int
+    call: Callable[[], Tried]
+
+
+def tries_of(crates, tried):
+    """The tries of some of all crates, the longest first."""
+    tests = [it for it in tried if it.name.endswith("_tests")]
+    found = [Try(", ".join(it.name for it in tests), JOINED_WORK, partial(joined_tests, crates, tests))] if tests else []
+    for it in tried:
+        if it not in tests:
+            found.append(Try(it.name, WORK, partial(tests_of if it.has_tests else program_of, it)))
+    return found
+
+
 class Tries:
     """Tries of crates that go on beside other work."""
 
-    def __init__(self, crates):
+    def __init__(self, crates, tried):
         self.printing = threading.Lock()
         self.pool = ThreadPoolExecutor(AT_ONCE)
-        self.tried = [self.pool.submit(self.run, it) for it in crates]
+        self.tries = tries_of(crates, tried)
+        self.tried = [self.pool.submit(self.run, it) for it in self.tries]
 
     def work(self):
         """The work of all of them, in lines of code that are proved."""
-        return WORK * len(self.tried)
+        return sum(it.work for it in self.tries)
 
-    def run(self, crate):
-        tried = tests_of(crate) if crate.has_tests else program_of(crate)
+    def run(self, it):
+        tried = it.call()
         with self.printing:
-            print(f"== {crate.name}, with run-time checks\n{tried.said}", end="", flush=True)
+            print(f"== {it.name}, with run-time checks\n{tried.said}", end="", flush=True)
         return tried
 
     def counts(self):
