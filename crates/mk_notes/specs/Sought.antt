@@ -1,9 +1,10 @@
 -- The lines of a makefile that notes tell of, each where it stands.
 -- Told in docs/EDITS.md, "Notes below refusals".
-use Rattle.std.specs.Prelude.{ℕ, ◌==◌, if◌then◌else◌, Bool, true, false, not, ◌&&◌, ◌||◌, List, [], ◌∷◌, length, min, take, drop, Option, Some, None, option_map, unwrap_or}
+use Rattle.std.specs.Prelude.{ℕ, ◌==◌, if◌then◌else◌, Bool, true, false, not, ◌&&◌, ◌||◌, List, [], ◌∷◌, length, min, take, drop, Option, Some, None, is_some, option_map, unwrap_or}
 use Rattle.std.specs.List.{list_any}
 use Rattle.std.specs.Str.{bytes_eq}
 use Rattle.mk_lines.specs.Lists.{after_leading}
+use Rattle.mk_class.specs.RecipePrefix.{is_prefix_led}
 use Rattle.mk_class.specs.Texts.{is_one_of}
 use Rattle.mk_class.specs.declared.assignment.Flavor.{Flavor}
 use Rattle.mk_class.specs.declared.assignment.Flavor.TheVariants.{Conditional, Append}
@@ -11,7 +12,7 @@ use Rattle.mk_class.specs.declared.class.Class.{Class}
 use Rattle.mk_class.specs.declared.class.Class.TheVariants.{Body, Recipe, Opaque, DefineHead, Rough}
 use Rattle.mk_script.specs.Spelling.{are_alike}
 use Rattle.mk_tree.specs.LocatedLines.{LocatedLine, text_of_line}
-use Rattle.mk_views.specs.Views.{AssignmentView, TargetAssignmentView, assignment_of, define_of, rule_of, target_assignment_of}
+use Rattle.mk_views.specs.Views.{AssignmentView, TargetAssignmentView, assignment_of, conditional_of, define_of, rule_of, target_assignment_of}
 use Rattle.mk_listing.specs.Listings.{Spot, Standing, Walk, is_for, is_of, standing, whole}
 use Rattle.mk_listing.specs.declared.position.Position.{Position}
 use Rattle.mk_notes.specs.Excerpts.{is_blank}
@@ -40,6 +41,10 @@ pub data Sought : Type 0 where
   HiddenRule : (target : List ℕ) → Sought
   -- the lines that begin a define
   DefineLine : Sought
+  -- the lines that begin with this recipe prefix
+  Led : (prefix : ℕ) → Sought
+  -- the lines of conditionals
+  ConditionalLine : Sought
   -- each line
   AnyLine : Sought
 
@@ -145,6 +150,8 @@ is_sought (HiddenVariable n) p l =
 is_sought (HiddenRule t) p l =
     shows (λ a. is_one_of t a.targets) (target_assignment_of l) || is_hidden t l
 is_sought DefineLine p l = is_define_line l.class
+is_sought (Led b) p l = is_prefix_led b l.bytes
+is_sought ConditionalLine p l = is_some (conditional_of l)
 is_sought AnyLine p l = true
 
 -- a line before others that are sought, if it is one

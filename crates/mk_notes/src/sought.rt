@@ -12,6 +12,7 @@ ghost use Rattle.mk_notes.specs.Sought.{after_mark, assigns_for_targets, begins_
 use crate::excerpt::after_blanks;
 use crate::own_branch::OwnBranch;
 use mk_class::{Class, Flavor};
+use mk_edit_parts::lean::begins_with;
 use mk_listing::Position;
 use mk_script::spelling::are_alike;
 use mk_tree::Line;
@@ -42,6 +43,10 @@ pub(crate) enum Sought<'a> {
     HiddenRule(&'a [u8]),
     /// The lines that begin a define.
     DefineLine,
+    /// The lines that begin with this recipe prefix.
+    Led(u8),
+    /// The lines of conditionals.
+    ConditionalLine,
     /// Each line.
     AnyLine,
 }
@@ -68,6 +73,8 @@ impl Sought<'_> {
             }
             Sought::HiddenRule(target) => is_for_target(line, target) || is_hidden(line, target),
             Sought::DefineLine => is_define_line(&line.class()),
+            Sought::Led(prefix) => begins_with(line.bytes(), prefix),
+            Sought::ConditionalLine => line.conditional().is_some(),
             Sought::AnyLine => true,
         }
     }
