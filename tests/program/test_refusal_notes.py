@@ -212,6 +212,18 @@ class RefusalNotes(RoomCase):
             "config.mk:4: note: ifdef X",
         ))  # fmt: skip
 
+    def test_of_all_values_the_open_ones_are_told(self):
+        for lines, command, notes in (
+            (b"A = a\nA += $(\nA = b $\n", "all append A x", ("2: note: A += $(", "3: note: A = b $")),
+            (b"A = x $(\nA = b $(\nA = c\n", "all add A x", ("2: note: A = b $(",)),
+            (b"A = x $(\nA = b $(\nA = x\n", "all drop A x", ("1: note: A = x $(",)),
+            (b"A = -g b\nA = a\\\\ -g# c\n", "all drop A -g", ("2: note: A = a\\\\ -g# c",)),
+            (b"A = a\nA = b $\\\n# c\nB = $(\n", "all add A x", ("1: note: A = a", "2: note: A = b $ # c")),
+        ):  # fmt: skip
+            with self.subTest(command, lines=lines):
+                said = tuple(f"config.mk:{it}" for it in notes)
+                self.assert_noted(lines, command, "11 OpenValue", said)
+
     def test_the_first_line_that_leans_is_told(self):
         for lines, command, note in (
             (b"all:\n\ta\nA = a\n# c\n\n\tb\n\tc\n", "unset A", "6: note: b   (opaque)"),

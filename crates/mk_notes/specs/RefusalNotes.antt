@@ -5,7 +5,7 @@ use Rattle.std.specs.List.{flat_map}
 use Rattle.std.specs.Option.{option_or}
 use Rattle.mk_class.specs.RecipePrefix.{is_prefix_led}
 use Rattle.mk_tree.specs.LocatedLines.{LocatedLine}
-use Rattle.mk_edit_language.specs.Edits.{Place, BeforeVar, BeforeRule, Edit, SetValue, AppendValue, AddWord, RemoveWord, ChangeValues, AddAssign, AddRule, RenameTarget}
+use Rattle.mk_edit_language.specs.Edits.{Place, BeforeVar, BeforeRule, ValueChange, Set, Append, Add, Remove, Edit, SetValue, AppendValue, AddWord, RemoveWord, ChangeValues, AddAssign, AddRule, RenameTarget}
 use Rattle.mk_edit_language.specs.Addresses as addresses
 use Rattle.mk_edit_language.specs.declared.refusal.Refusal.{Refusal}
 use Rattle.mk_edit_language.specs.declared.refusal.Refusal.TheVariants.{NoSuch, Ambiguous, Absent, Already, Taken, SharedRule, Straddles, OpenValue, OpenLine, OpenDefine, Leans}
@@ -13,7 +13,7 @@ use Rattle.mk_listing.specs.Listings.{Spot}
 use Rattle.mk_notes.specs.Candidates.{candidates_of, line_of}
 use Rattle.mk_notes.specs.LineNotes.{line_notes, place, spot_note}
 use Rattle.mk_notes.specs.Prefixes.{prefix_at}
-use Rattle.mk_notes.specs.Sought.{Sought, Target, AlikeVariable, AlikeRule, HiddenVariable, HiddenRule, DefineLine, Led, ConditionalLine, AnyLine, sought_ahead, sought_in}
+use Rattle.mk_notes.specs.Sought.{Sought, Variable, OpenVariable, OpenWithout, OpenWith, Target, AlikeVariable, AlikeRule, HiddenVariable, HiddenRule, DefineLine, Led, ConditionalLine, AnyLine, sought_ahead, sought_in}
 
 -- who is told of a refusal: what the makefile and the script are called, and the number of the line
 -- in the script
@@ -152,7 +152,7 @@ stands_above e = false
 
 -- the note on the line of an address, if the change stands above it and it begins with this recipe
 -- prefix; or else on the first line below that begins with it
-abbrev pub led_notes : Told → List LocatedLine → (above : Bool) → (prefix : ℕ) → Spot LocatedLine → List ℕ
+abbrev led_notes : Told → List LocatedLine → (above : Bool) → (prefix : ℕ) → Spot LocatedLine → List ℕ
 led_notes t ls above b s =
     if above && is_prefix_led b s.shown.bytes then spot_note t.makefile ls s
     else first_below t ls (Led b) (Some s)
@@ -183,9 +183,31 @@ abbrev pub notes_by_meant : Told → List LocatedLine → (all : Bool) → Refus
 notes_by_meant t ls all r None = []
 notes_by_meant t ls all r (Some a) = notes_by_lines t ls all r a
 
+abbrev pub notes_by_edit : Told → List LocatedLine → Refusal → Edit → List ℕ
+notes_by_edit t ls r e = notes_by_meant t ls (takes_all e) r (meant e)
+
+-- OpenValue, where each line of a name was to change: those with a value that is open to the change, or
+-- all if there are none
+abbrev pub open_to : (name : List ℕ) → ValueChange → Sought
+open_to n (Set v) = OpenVariable n
+open_to n (Append v) = OpenVariable n
+open_to n (Add w) = OpenWithout n w
+open_to n (Remove w) = OpenWith n w
+
+abbrev pub open_or_all : List LocatedLine → (name : List ℕ) → Sought → Sought
+open_or_all ls n s = if length (sought_in s ls) == 0 then Variable n else s
+
+abbrev pub open_lines : List LocatedLine → (name : List ℕ) → ValueChange → Sought
+open_lines ls n c = open_or_all ls n (open_to n c)
+
+abbrev pub open_notes : Told → List LocatedLine → Edit → List ℕ
+open_notes t ls (ChangeValues n c) = sought_notes t ls None (open_lines ls n c)
+open_notes t ls e = notes_by_edit t ls OpenValue e
+
 abbrev pub notes_on : Told → List LocatedLine → Edit → Refusal → List ℕ
 notes_on t ls e Taken = taken_notes t ls e
 notes_on t ls e Leans = leaning_notes t ls e (addresses.address e)
+notes_on t ls e OpenValue = open_notes t ls e
 notes_on t ls e OpenLine = last_notes t ls AnyLine
 notes_on t ls e OpenDefine = last_notes t ls DefineLine
-notes_on t ls e r = notes_by_meant t ls (takes_all e) r (meant e)
+notes_on t ls e r = notes_by_edit t ls r e
