@@ -110,6 +110,11 @@ CASES = (
     # Straddles
     ("recipe foo x", "10 Straddles", (
         "config.mk:11: note: foo: x   (in `ifdef DEBUG`, config.mk:10)",
+        "config.mk:13: note: else   (in `ifdef DEBUG`, config.mk:10)",
+    )),
+    ("unrule foo", "10 Straddles", (
+        "config.mk:11: note: foo: x   (in `ifdef DEBUG`, config.mk:10)",
+        "config.mk:13: note: else   (in `ifdef DEBUG`, config.mk:10)",
     )),
     # OpenValue
     ("append VAL x", "11 OpenValue", ("config.mk:17: note: VAL = $(",)),
@@ -199,6 +204,35 @@ class RefusalNotes(RoomCase):
     def test_a_new_line_below_an_open_one(self):
         lines, command = b"A = a\nB = b\\", "assign bottom C = c"
         self.assert_noted(lines, command, "12 OpenLine", ("config.mk:2: note: B = b\\",))
+
+    def test_the_first_line_of_a_conditional_in_a_recipe_is_told(self):
+        lines = b"all:\n# c\n\ta\nifdef X\n\tb\nendif\n\tc\nifdef Y\nendif\n"
+        self.assert_noted(lines, "recipe-insert all 1 x", "10 Straddles", (
+            "config.mk:1: note: all:",
+            "config.mk:4: note: ifdef X",
+        ))  # fmt: skip
+
+    def test_of_all_values_the_open_ones_are_told(self):
+        for lines, command, notes in (
+            (b"A = a\nA += $(\nA = b $\n", "all append A x", ("2: note: A += $(", "3: note: A = b $")),
+            (b"A = x $(\nA = b $(\nA = c\n", "all add A x", ("2: note: A = b $(",)),
+            (b"A = x $(\nA = b $(\nA = x\n", "all drop A x", ("1: note: A = x $(",)),
+            (b"A = -g b\nA = a\\\\ -g# c\n", "all drop A -g", ("2: note: A = a\\\\ -g# c",)),
+            (b"A = a\nA = b $\\\n# c\nB = $(\n", "all add A x", ("1: note: A = a", "2: note: A = b $ # c")),
+        ):  # fmt: skip
+            with self.subTest(command, lines=lines):
+                said = tuple(f"config.mk:{it}" for it in notes)
+                self.assert_noted(lines, command, "11 OpenValue", said)
+
+    def test_the_first_line_that_leans_is_told(self):
+        for lines, command, note in (
+            (b"all:\n\ta\nA = a\n# c\n\n\tb\n\tc\n", "unset A", "6: note: b   (opaque)"),
+            (b"A = a\n\n\tB = b\n", "rule after-var A x : y", "3: note: B = b"),
+            (b"\tA = a\n\tB = b\n", "rule before-var A x : y", "1: note: A = a"),
+            (b".RECIPEPREFIX = >\nA = a\n\t# c\n>b\n", "rule after-var A x : y", "4: note: >b   (opaque)"),
+        ):  # fmt: skip
+            with self.subTest(command, lines=lines):
+                self.assert_noted(lines, command, "14 Leans", (f"config.mk:{note}",))
 
     def test_a_new_line_in_a_define(self):
         lines = b"define A\nendef\ndefine B\ndefine C\nendef\n"

@@ -1,11 +1,13 @@
 -- The last branch that begins among the lines of a walk.
-use Rattle.std.proofs.Common.{◌≡◌, ◌<◌, ◌-◌, ℕ, sym, ap, ◌∙◌, [], ◌∷◌, ◌++◌, take, Option}
+use Rattle.std.proofs.Common.{◌≡◌, ◌<◌, ◌-◌, ℕ, sym, ap, ◌∙◌, [], ◌∷◌, ◌++◌, take, List, Option}
 use Rattle.mk_tree.specs.LocatedLines.{LocatedLine}
 use Rattle.mk_listing.specs.declared.position.Position.{Position}
 use Rattle.mk_listing.specs.Listings.{Standing, Walk, position_below, standing, standing_below}
 use Rattle.mk_notes.specs.LineNotes.{Placed, last_branch, later_branch}
 use Rattle.mk_notes.specs.OwnBranches.{last_start, later_start}
 use Rattle.mk_notes.specs.declared.own_branch.Start.{Start}
+use Rattle.mk_class.specs.Contexts.{prefix_after_located}
+use Rattle.mk_notes.specs.Prefixes.{prefix_after_lines}
 use Rattle.mk_notes.proofs.NoteLemmas.{taken}
 
 -- the line that a walk hands out stands before those that it has ahead then
@@ -33,3 +35,9 @@ start-next d n found next w left p x some later here ahead above =
     let s : Standing = record { position = p; line = x; below = left } in
     ap (λ z. last_start d z (take (n - 1) (standing left))) later
     ∙ sym (ap (λ z. last_start d found (take n z)) (standing-next w left p x here ahead above) ∙ ap (last_start d found) (taken n s (standing left) some))
+
+-- the recipe prefix after one more line
+pub prefix-next : (n b next : ℕ) (x : LocatedLine) (all rest : List LocatedLine) → 0 < n → next ≡ prefix_after_located b x.class → all ≡ x ∷ rest
+    → prefix_after_lines next (take (n - 1) rest) ≡ prefix_after_lines b (take n all)
+prefix-next n b next x all rest some later first =
+    ap (λ z. prefix_after_lines z (take (n - 1) rest)) later ∙ sym (ap (λ z. prefix_after_lines b (take n z)) first ∙ ap (prefix_after_lines b) (taken n x rest some))

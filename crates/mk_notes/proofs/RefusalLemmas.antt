@@ -3,7 +3,8 @@ use Rattle.std.proofs.Common.{◌≡◌, ◌≢◌, ◌∙◌, ap, sym, arith, �
 use Rattle.std.proofs.lemmas.Bool.Decides.{nat_tests}
 use Rattle.mk_tree.specs.LocatedLines.{LocatedLine}
 use Rattle.mk_edit_language.specs.Addresses.{Address, nth_meant}
-use Rattle.mk_notes.specs.RefusalNotes.{Told, ambiguous_notes, candidate_notes, candidates_of, elsewhere_notes, fewer_text, is_several, meant_notes, missing_notes, script_note, sought_notes}
+use Rattle.mk_notes.specs.Candidates.{candidates_of}
+use Rattle.mk_notes.specs.RefusalNotes.{Told, ambiguous_notes, candidate_notes, elsewhere_notes, fewer_text, is_several, meant_notes, missing_notes, script_note, sought_notes}
 use Rattle.mk_notes.specs.Sought.{Sought, sought_in}
 
 -- several lines fit an address without a number

@@ -1,6 +1,6 @@
 -- The notes on an edit that was made and may do nothing in make.
 -- Told in docs/EDITS.md, "Notes on edits that may do nothing".
-use Rattle.std.specs.Prelude.{ℕ, ◌==◌, if◌then◌else◌, Bool, true, false, List, [], ◌∷◌, ◌++◌, length, take, drop, Option, Some, None, option_and_then, option_map, unwrap_or, codes}
+use Rattle.std.specs.Prelude.{ℕ, ◌==◌, if◌then◌else◌, Bool, true, false, List, [], ◌∷◌, ◌++◌, length, take, Option, Some, None, option_and_then, option_map, unwrap_or, codes}
 use Rattle.std.specs.List.{flat_map}
 use Rattle.mk_lines.specs.Words.{words_in}
 use Rattle.mk_class.specs.declared.assignment.Flavor.{Flavor}
@@ -10,10 +10,11 @@ use Rattle.mk_edit_language.specs.Edits.{Edit, SetValue, AppendValue, AddWord, R
 use Rattle.mk_edit_language.specs.Addresses as addresses
 use Rattle.mk_views.specs.Views.{assignment_of}
 use Rattle.mk_listing.specs.Listings.{RuleSpot, Spot, Walk, standing}
-use Rattle.mk_notes.specs.LineNotes.{how_many_more, line_notes, more_note, note_at, passed_over, place, spot_note}
+use Rattle.mk_notes.specs.Candidates.{line_of}
+use Rattle.mk_notes.specs.LineNotes.{how_many_more, line_notes, more_note, note_at, place, spot_note}
 use Rattle.mk_notes.specs.OtherRules.{is_pattern, others_for}
 use Rattle.mk_notes.specs.OwnBranches.{first_end, no_start, start_of}
-use Rattle.mk_notes.specs.RefusalNotes.{Told, candidates_of}
+use Rattle.mk_notes.specs.RefusalNotes.{Told}
 use Rattle.mk_notes.specs.Sought.{Sought, NewValue, OtherBranch, shows, sought_ahead, sought_in}
 use Rattle.mk_notes.specs.declared.own_branch.OwnBranch.{OwnBranch}
 use Rattle.mk_notes.specs.declared.own_branch.Start.{Start}
@@ -28,15 +29,6 @@ assigned_name (AddWord nth n w) = Some n
 assigned_name (RemoveWord nth n w) = Some n
 assigned_name (AddAssign p n f v) = Some n
 assigned_name e = None
-
--- the first of some lines
-abbrev first_spot : List (Spot LocatedLine) → Option (Spot LocatedLine)
-first_spot [] = None
-first_spot (s ∷ ss) = Some s
-
--- the line of an address: the nth, or the first if no number is given, since it was the only one
-abbrev pub line_of : addresses.Address → List LocatedLine → Option (Spot LocatedLine)
-line_of a ls = first_spot (drop (passed_over (addresses.nth_meant a)) (sought_in (candidates_of a) ls))
 
 -- the line whose value an edit has changed; a new line has none
 abbrev pub changed_line : Edit → List LocatedLine → Option (Spot LocatedLine)

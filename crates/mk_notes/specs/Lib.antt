@@ -7,8 +7,11 @@ pub mod OwnBranches
 pub mod Sought
 -- The other rules for a target
 pub mod OtherRules
+-- The recipe prefix at a line
+pub mod Prefixes
 -- The texts of notes
 pub mod LineNotes
+pub mod Candidates
 pub mod RefusalNotes
 pub mod EditNotes
 -- What contracts see of what is sought, of lines that were found, and of names

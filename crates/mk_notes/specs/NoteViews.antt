@@ -26,6 +26,11 @@ sought_seen (variants.OtherBranch name own) = sought.OtherBranch name.now own
 sought_seen (variants.HiddenVariable name) = sought.HiddenVariable name.now
 sought_seen (variants.HiddenRule target) = sought.HiddenRule target.now
 sought_seen variants.DefineLine = sought.DefineLine
+sought_seen (variants.OpenVariable name) = sought.OpenVariable name.now
+sought_seen (variants.OpenWithout name word) = sought.OpenWithout name.now word.now
+sought_seen (variants.OpenWith name word) = sought.OpenWith name.now word.now
+sought_seen (variants.Led prefix) = sought.Led prefix
+sought_seen variants.ConditionalLine = sought.ConditionalLine
 sought_seen variants.AnyLine = sought.AnyLine
 
 -- a line that was found

@@ -1,17 +1,21 @@
 -- The lines of a makefile that notes tell of, each where it stands.
 -- Told in docs/EDITS.md, "Notes below refusals".
-use Rattle.std.specs.Prelude.{ℕ, ◌==◌, if◌then◌else◌, Bool, true, false, not, ◌&&◌, ◌||◌, List, [], ◌∷◌, length, min, take, drop, Option, Some, None, option_map, unwrap_or}
+use Rattle.std.specs.Prelude.{ℕ, ◌==◌, if◌then◌else◌, Bool, true, false, not, ◌&&◌, ◌||◌, List, [], ◌∷◌, length, min, take, drop, Option, Some, None, is_some, option_map, unwrap_or}
 use Rattle.std.specs.List.{list_any}
 use Rattle.std.specs.Str.{bytes_eq}
 use Rattle.mk_lines.specs.Lists.{after_leading}
+use Rattle.mk_lines.specs.Units.{is_closed}
+use Rattle.mk_lines.specs.Words.{words_in}
+use Rattle.mk_class.specs.RecipePrefix.{is_prefix_led}
 use Rattle.mk_class.specs.Texts.{is_one_of}
 use Rattle.mk_class.specs.declared.assignment.Flavor.{Flavor}
 use Rattle.mk_class.specs.declared.assignment.Flavor.TheVariants.{Conditional, Append}
 use Rattle.mk_class.specs.declared.class.Class.{Class}
 use Rattle.mk_class.specs.declared.class.Class.TheVariants.{Body, Recipe, Opaque, DefineHead, Rough}
+use Rattle.mk_edit_language.specs.LineCauses.{bares_end_among}
 use Rattle.mk_script.specs.Spelling.{are_alike}
 use Rattle.mk_tree.specs.LocatedLines.{LocatedLine, text_of_line}
-use Rattle.mk_views.specs.Views.{AssignmentView, TargetAssignmentView, assignment_of, define_of, rule_of, target_assignment_of}
+use Rattle.mk_views.specs.Views.{AssignmentView, TargetAssignmentView, assignment_of, conditional_of, define_of, rule_of, target_assignment_of}
 use Rattle.mk_listing.specs.Listings.{Spot, Standing, Walk, is_for, is_of, standing, whole}
 use Rattle.mk_listing.specs.declared.position.Position.{Position}
 use Rattle.mk_notes.specs.Excerpts.{is_blank}
@@ -40,6 +44,16 @@ pub data Sought : Type 0 where
   HiddenRule : (target : List ℕ) → Sought
   -- the lines that begin a define
   DefineLine : Sought
+  -- the assignments of the variable of this name with a value that is not closed
+  OpenVariable : (name : List ℕ) → Sought
+  -- of these those without a word
+  OpenWithout : (name word : List ℕ) → Sought
+  -- the assignments of the variable from which a word cannot be taken out
+  OpenWith : (name word : List ℕ) → Sought
+  -- the lines that begin with this recipe prefix
+  Led : (prefix : ℕ) → Sought
+  -- the lines of conditionals
+  ConditionalLine : Sought
   -- each line
   AnyLine : Sought
 
@@ -64,6 +78,24 @@ is_new_value f = true
 -- whether an assignment gives the variable of this name another value
 abbrev pub gives_value : (name : List ℕ) → AssignmentView → Bool
 gives_value n a = bytes_eq a.name n && is_new_value a.flavor
+
+-- ---- values that are open
+
+-- whether the value of an assignment is not closed: what is put behind it would be read with its end
+abbrev pub is_unclosed : AssignmentView → Bool
+is_unclosed a = not (is_closed (λ b. b) a.value)
+
+-- whether a word is one of the value of an assignment
+abbrev has_value_word : (word : List ℕ) → AssignmentView → Bool
+has_value_word w a = is_one_of w (words_in a.value)
+
+-- whether the value of an assignment is not closed, and does not have a word
+abbrev pub is_open_without : (word : List ℕ) → AssignmentView → Bool
+is_open_without w a = is_unclosed a && not (has_value_word w a)
+
+-- whether the value of an assignment has a word that cannot be taken out
+abbrev pub is_open_with : (word : List ℕ) → AssignmentView → Bool
+is_open_with w a = has_value_word w a && (is_unclosed a || bares_end_among w (words_in a.value))
 
 -- ---- lines that no edit looks at
 
@@ -145,6 +177,12 @@ is_sought (HiddenVariable n) p l =
 is_sought (HiddenRule t) p l =
     shows (λ a. is_one_of t a.targets) (target_assignment_of l) || is_hidden t l
 is_sought DefineLine p l = is_define_line l.class
+is_sought (OpenVariable n) p l = shows (λ a. is_of (Some n) a && is_unclosed a) (assignment_of l)
+is_sought (OpenWithout n w) p l =
+    shows (λ a. is_of (Some n) a && is_open_without w a) (assignment_of l)
+is_sought (OpenWith n w) p l = shows (λ a. is_of (Some n) a && is_open_with w a) (assignment_of l)
+is_sought (Led b) p l = is_prefix_led b l.bytes
+is_sought ConditionalLine p l = is_some (conditional_of l)
 is_sought AnyLine p l = true
 
 -- a line before others that are sought, if it is one

@@ -2,12 +2,11 @@
 ghost use Rattle.std.specs.Prelude.{◌≡◌, ◌≤◌, IfSome, length, option_map};
 ghost use Rattle.mk_edit_language.specs.EditViews.{edit_of};
 ghost use Rattle.mk_edit_parts.specs.AddressViews.{address_view};
-ghost use Rattle.mk_notes.specs.EditNotes.{assigned_name, below_address, below_edit, branch_by, branch_of_edit, changed_line, end_by, line_of, stands_below, start_by};
+ghost use Rattle.mk_notes.specs.Candidates.{line_of};
+ghost use Rattle.mk_notes.specs.EditNotes.{assigned_name, below_address, below_edit, branch_by, branch_of_edit, changed_line, end_by, stands_below, start_by};
 ghost use Rattle.mk_notes.specs.NoteViews.{spot_seen};
 
-use crate::candidates::{candidates_of, nth_of};
-use crate::finding::{next_sought, walk_below};
-use crate::line_note::passed_over;
+use crate::candidates::line_of;
 use crate::own_branch::{OwnBranch, Start, first_end, no_start, start_of};
 use mk_edit_language::{Edit, Place};
 use mk_edit_parts::address::{Address, address_of};
@@ -27,20 +26,6 @@ pub(crate) fn assigned_name<A: Allocator>(edit: &Edit<A>) -> Option<&[u8]>
         | Edit::AddAssign { name, .. } => Some(name),
         _ => None,
     }
-}
-
-// The line of an address, with where it stands and the walk below it.
-fn line_of<'a, A: Allocator>(
-    doc: &'a Doc<A>,
-    address: Address<'_>,
-) -> Option<(Position, &'a Line<A>, NumberedLines<'a, A>)>
-    ensures value { spot_seen result ≡ line_of (address_view address.entry) doc.now }
-    ensures within { IfSome result (λ found. length found.2.ahead ≤ length doc.now) }
-{
-    let sought = candidates_of(address);
-    let mut walk = walk_below(doc, sought, passed_over(nth_of(address)));
-    let (position, line) = next_sought(&mut walk, sought)?;
-    Some((position, line, walk))
 }
 
 /// The line whose value an edit has changed, with where it stands; a new line has none.

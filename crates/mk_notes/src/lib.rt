@@ -13,7 +13,8 @@
 //! - `finding`: the lines of a document that are sought.
 //! - `branch`: the branch of a conditional in which a line stands.
 //! - `line_note`: the notes on lines.
-//! - `candidates`: the lines that an address may mean.
+//! - `prefix`: the recipe prefix in force at a line.
+//! - `candidates`: the lines that an address may mean, and the one that it means.
 //! - `choice`: what tells one of several lines.
 //! - [`notes`]: the notes on a refusal.
 //! - `name_note`: a note on the line of the script that says something of a name.
@@ -34,6 +35,7 @@ mod name_note;
 pub mod notes;
 mod other_rule;
 mod own_branch;
+mod prefix;
 mod sought;
 mod texts;
 

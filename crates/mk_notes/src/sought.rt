@@ -1,17 +1,24 @@
 //! Which lines notes tell of.
-ghost use Rattle.std.specs.Prelude.{◌≡◌, Some, option_map};
+ghost use Rattle.std.specs.Prelude.{◌≡◌, ◌&&◌, ◌||◌, not, Some, option_map};
 ghost use Rattle.std.specs.List.{list_any};
+ghost use Rattle.mk_lines.specs.Units.{is_closed};
+ghost use Rattle.mk_lines.specs.Words.{words_in};
 ghost use Rattle.mk_class.specs.Texts.{is_one_of};
+ghost use Rattle.mk_edit_language.specs.LineCauses.{bares_end_among};
 ghost use Rattle.mk_tree.specs.LocatedLines.{text_of_line};
 ghost use Rattle.mk_tree.specs.Trees.{line_view};
 ghost use Rattle.mk_views.specs.Views.{assignment_of, rule_of, target_assignment_of};
 ghost use Rattle.mk_listing.specs.Listings.{is_for, is_of};
 ghost use Rattle.mk_notes.specs.NoteViews.{sought_seen};
-ghost use Rattle.mk_notes.specs.Sought.{after_mark, assigns_for_targets, begins_with_sign, defines, gives, gives_anew, gives_value, is_define_line, is_hidden, is_marked, is_near, is_new_value, is_sign, is_sought, is_unread, leads, leads_bare, shows};
+ghost use Rattle.mk_notes.specs.Sought.{after_mark, assigns_for_targets, begins_with_sign, defines, gives, gives_anew, gives_value, is_define_line, is_hidden, is_marked, is_near, is_new_value, is_open_with, is_open_without, is_unclosed, is_sign, is_sought, is_unread, leads, leads_bare, shows};
 
 use crate::excerpt::after_blanks;
 use crate::own_branch::OwnBranch;
 use mk_class::{Class, Flavor};
+use mk_edit_parts::lean::begins_with;
+use mk_edit_parts::text;
+use mk_edit_parts::value_words::bares_end;
+use mk_lines::is_closed;
 use mk_listing::Position;
 use mk_script::spelling::are_alike;
 use mk_tree::Line;
@@ -42,6 +49,16 @@ pub(crate) enum Sought<'a> {
     HiddenRule(&'a [u8]),
     /// The lines that begin a define.
     DefineLine,
+    /// The assignments of the variable of this name with a value that is not closed.
+    OpenVariable(&'a [u8]),
+    /// Of these those without this word.
+    OpenWithout(&'a [u8], &'a [u8]),
+    /// The assignments of the variable of this name from which this word cannot be taken out.
+    OpenWith(&'a [u8], &'a [u8]),
+    /// The lines that begin with this recipe prefix.
+    Led(u8),
+    /// The lines of conditionals.
+    ConditionalLine,
     /// Each line.
     AnyLine,
 }
@@ -68,6 +85,11 @@ impl Sought<'_> {
             }
             Sought::HiddenRule(target) => is_for_target(line, target) || is_hidden(line, target),
             Sought::DefineLine => is_define_line(&line.class()),
+            Sought::OpenVariable(name) => is_open(line, name),
+            Sought::OpenWithout(name, word) => is_open_without(line, name, word),
+            Sought::OpenWith(name, word) => is_open_with(line, name, word),
+            Sought::Led(prefix) => begins_with(line.bytes(), prefix),
+            Sought::ConditionalLine => line.conditional().is_some(),
             Sought::AnyLine => true,
         }
     }
@@ -134,6 +156,52 @@ fn has_word(words: WordTexts<'_>, word: &[u8]) -> bool
         }
     }
     false
+}
+
+// Whether a line assigns the variable of this name a value that is not closed.
+fn is_open<A: Allocator>(line: &Line<A>, name: &[u8]) -> bool
+    ensures { result
+        ≡ shows (λ a. is_of (Some name.now) a && is_unclosed a) (assignment_of (line_view line.now)) }
+{
+    match line.assignment() {
+        Some(assignment) => assignment.name() == name && !is_closed(assignment.value()),
+        None => false,
+    }
+}
+
+// Whether a line assigns the variable of this name a value that is not closed and does not have a word.
+fn is_open_without<A: Allocator>(line: &Line<A>, name: &[u8], word: &[u8]) -> bool
+    ensures { result
+        ≡ shows (λ a. is_of (Some name.now) a && is_open_without word.now a)
+        (assignment_of (line_view line.now)) }
+{
+    match line.assignment() {
+        Some(assignment) => {
+            let value = assignment.value();
+            assignment.name() == name && !is_closed(value) && !text::has_word(value, word)
+        }
+        None => false,
+    }
+}
+
+// Whether a value has a word that cannot be taken out.
+fn keeps_word(value: &[u8], word: &[u8]) -> bool
+    ensures { result ≡ (is_one_of word.now (words_in value.now)
+        && (not (is_closed (λ b. b) value.now) || bares_end_among word.now (words_in value.now))) }
+{
+    text::has_word(value, word) && (!is_closed(value) || bares_end(value, word))
+}
+
+// Whether a line assigns the variable of this name a value with a word that cannot be taken out.
+fn is_open_with<A: Allocator>(line: &Line<A>, name: &[u8], word: &[u8]) -> bool
+    ensures { result
+        ≡ shows (λ a. is_of (Some name.now) a && is_open_with word.now a)
+        (assignment_of (line_view line.now)) }
+{
+    match line.assignment() {
+        Some(assignment) => assignment.name() == name && keeps_word(assignment.value(), word),
+        None => false,
+    }
 }
 
 // Whether a name is another one that is spelled alike.
