@@ -10,10 +10,10 @@
   rows      the stored files of rows are what their scripts make
   gate      the tests of the gate itself
   crates    proves every crate that the program stands on, those of rows, and caller_example, from nothing,
-            and has the prover refuse one in eighteen wrong bodies, which the commit's checksum chooses
+            and has the prover refuse one in twenty-four wrong bodies, which the commit's checksum chooses
             (share.py); runs the programs among them
-  tries     beside it: the tests of all crates, and the programs of crates, with run-time checks
-  program   tests the program that was proved and built there
+  tries     beside all of this: the tests of all crates, and the programs of crates, with run-time checks
+  program   tests the program, beside the wrong bodies that are left once it is proved and built
 
 With --all the prover refuses each wrong body, and proves the crates of tests too, whose tests are run
 as they are built: all that `rt ci` does at the top of the repository.
@@ -32,6 +32,7 @@ import subprocess
 import sys
 import tempfile
 import time
+from concurrent.futures import ThreadPoolExecutor
 from pathlib import Path
 
 from tests import TOP
@@ -43,6 +44,8 @@ from .tries import Tries
 
 BUILT, LINKED = "crates/mkedit/out/mkedit", "crates/mkedit/out/bin/mkedit"
 COUNTS = re.compile(r"(\d+) passed, (\d+) failed\n?")
+# What `rt ci` says once the program is proved and built, by this run or by an earlier one.
+PROVED = re.compile(r"rt: mkedit (proved|is kept: .*)\n")
 
 
 def ended(process):
@@ -52,8 +55,12 @@ def ended(process):
     return usage.ru_utime + usage.ru_stime
 
 
-def counts_of(module, *words):
-    """Runs a module of tests, shows what it prints, and returns how many passed and how many failed.
+def show(line):
+    print(line, end="", flush=True)
+
+
+def counts_of(module, *words, show=show):
+    """Runs a module of tests, shows each line that it prints, and returns how many passed and how many failed.
 
     One that ends without its counts, or with a status other than 0 while it counts no failure, is one failure.
     """
@@ -61,9 +68,9 @@ def counts_of(module, *words):
     command = [sys.executable, "-B", "-m", f"tests.{module}", *words]
     with subprocess.Popen(command, cwd=TOP, stdout=subprocess.PIPE, text=True, errors="replace") as process:
         for last in process.stdout:
-            print(last, end="", flush=True)
+            show(last)
         seconds = ended(process)
-    print(f"tests.{module} took {minutes_of(seconds)} of processor time", flush=True)
+    show(f"tests.{module} took {minutes_of(seconds)} of processor time\n")
     counts = COUNTS.fullmatch(last)
     passed, failed = map(int, counts.groups()) if counts else (0, 1)
     return passed, failed or int(process.returncode != 0)
@@ -97,11 +104,11 @@ def checked(room):
     print(f"wrong bodies to be tried, one in {SHARES} by the commit's checksum: {len(share)} of {len(bodies)}")
     for it in share:
         print(f"  {it.crate}/must-fail/{it.name}.edit", flush=True)
+    tries = Tries(crates, [it for it in crates.values() if it.has_tests or it.is_program and it.name not in proved])
     counts = quick_counts()
-    tried = [it for it in crates.values() if it.has_tests or it.is_program and it.name not in proved]
-    tries = Tries(crates, tried)
-    counts += [counts_of("gate.crates", room, str(tries.work())), tries.counts(), tested_program(room)]
-    return counts, len(bodies) - len(share)
+    program = Program(room)
+    counts.append(counts_of("gate.crates", room, str(tries.work()), show=program.heard))
+    return [*counts, tries.counts(), program.counts()], len(bodies) - len(share)
 
 
 def checked_all(room, names):
@@ -116,10 +123,37 @@ def checked_all(room, names):
     return [*quick_counts(), counts_of("gate.crates", room), tested_program(room)], skipped
 
 
-def tested_program(room):
+def tested_program(room, show=show):
     """Links the program that was proved in a room, as `make` does, and tests it."""
     subprocess.run(["tools/link", room / BUILT, room / LINKED], cwd=TOP)
-    return counts_of("program", room / LINKED)
+    return counts_of("program", room / LINKED, show=show)
+
+
+class Program:
+    """The test of the program in a room: it begins once the program is proved, beside what is left of the crates."""
+
+    def __init__(self, room):
+        self.room = room
+        self.lines = []
+        self.pool = ThreadPoolExecutor(1)
+        self.tested = None
+
+    def begin(self):
+        if self.tested is None:
+            self.tested = self.pool.submit(tested_program, self.room, self.lines.append)
+
+    def heard(self, line):
+        """Shows a line that the step of the crates has printed, and begins where the line says that the program is proved."""
+        show(line)
+        if PROVED.fullmatch(line):
+            self.begin()
+
+    def counts(self):
+        """The counts of the test, and what it printed, once the crates have ended."""
+        self.begin()
+        found = self.tested.result()
+        show("".join(self.lines))
+        return found
 
 
 def arguments():

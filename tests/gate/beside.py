@@ -49,9 +49,9 @@ class Tasks:
         self.given, self.running = {}, {}
         proofs = [it for it in tasks if it[1] not in EDITS]
         self.lanes = Lanes({it: self.proof(it) for it in proofs}, processors, memory)
-        # (what others wait for first, and then what can begin late alone: the crates above all others)
-        edits = [it for it in reversed([*tasks]) if it[1] in EDITS]
-        self.edits = sorted(edits, key=lambda it: it[1] != SEED)
+        # (what others wait for first, and then what takes longest)
+        edits = [it for it in tasks if it[1] in EDITS]
+        self.edits = sorted(edits, key=lambda it: (it[1] != SEED, -self.work(it)))
         # of the wrong bodies that are being tried, the memory
         self.trying = {}
         # the proofs that go on beside others

@@ -6,6 +6,8 @@ The checks are made by the toolchain's own script, which knows their flags and t
 import re
 
 FAULT = re.compile(r"^\./proofs/(?P<folder>\S+)/\w+\.antt:\d+:\d+: error: (?P<words>.*)$", re.M)
+# What stands before the name of a function that calls itself, in the folder of its proof.
+CYCLE = re.compile(r"(?<![^/])\+(?=\w)")
 # A declaration that was not looked at, since one before it was refused.
 NOT_LOOKED_AT = re.compile(r"that depends? on .*, which w(?:as|ere) rejected")
 # A proof that names what a wrong body lacks, which says little of the contract.
@@ -24,7 +26,7 @@ class Said:
         self.errors = {}
         for fault in FAULT.finditer(text):
             if not NOT_LOOKED_AT.search(fault["words"]) and not NAMES.search(fault["words"]):
-                function = fault["folder"].replace("/", "::")
+                function = CYCLE.sub("", fault["folder"]).replace("/", "::")
                 self.errors.setdefault(function, []).append(fault["words"])
 
     def is_judged(self):

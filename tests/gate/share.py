@@ -1,11 +1,12 @@
 """Which wrong bodies a run tries: all, or the share that a commit's checksum chooses.
 
-All wrong bodies take hours of processor time. So a landing tries one in eighteen, and another landing
-others. `make check-all` tries all.
+All wrong bodies take hours of processor time. So a landing tries one in twenty-four, and another
+landing others. `make check-all` tries all.
 
-A share has every third wrong body of a sixth of the crates. The first check of a crate's wrong bodies
+A share has every third wrong body of an eighth of the crates. The first check of a crate's wrong bodies
 proves what their functions call too, and takes most of a minute before it comes to the first of them. A
-share of every crate would have that for each crate.
+share of every crate would have that for each crate. Of `mkedit` it has a third that stands side by side:
+their functions are of few modules, and call less.
 """
 
 import hashlib
@@ -15,9 +16,12 @@ from typing import NamedTuple
 
 from .wrong_bodies import wrong_bodies
 
-SHARES = 18
+SHARES = 24
 # The crates stand in so many groups, and a share is of one of them.
-GROUPS = 6
+GROUPS = 8
+PARTS = SHARES // GROUPS
+# A crate with more wrong bodies than this has in a share those that stand side by side.
+LARGE = 110
 
 
 class Body(NamedTuple):
@@ -62,4 +66,7 @@ def groups_of(bodies):
 def share_of(bodies, number):
     """One share of wrong bodies, by a number: each body is in one of SHARES shares."""
     first, group = divmod(number % SHARES, GROUPS)
-    return groups_of(bodies)[group][first :: SHARES // GROUPS]
+    counts, found = Counter(it.crate for it in bodies), groups_of(bodies)[group]
+    large = [it for it in found if counts[it.crate] > LARGE]
+    start, end = (len(large) * it // PARTS for it in (first, first + 1))
+    return [*large[start:end], *[it for it in found if it not in large][first::PARTS]]

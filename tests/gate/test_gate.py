@@ -22,6 +22,7 @@ from tests import TOP
 from tests.unproved import CLANG
 
 from . import believed, bodies, dear, documents, joined, maps, meters, refuse, repeats, trying
+from .__main__ import Program
 from .beside import GIVES_WAY, Tasks, in_lanes
 from .listed import listed, with_below
 from .part import copy_part
@@ -75,6 +76,28 @@ class Share(unittest.TestCase):
         self.assertEqual(sum(map(len, groups)), len({it.crate for it in bodies}))
         for number in range(SHARES):
             self.assertLessEqual({it.crate for it in share_of(bodies, number)}, groups[number % GROUPS])
+
+
+class Programs(unittest.TestCase):
+    """The test of the program beside the crates."""
+
+    def begun(self, *lines):
+        """Whether the test has begun after these lines of the step of the crates."""
+        with mock.patch("tests.gate.__main__.tested_program", lambda room, show: (1, 0)):
+            program = Program(Path())
+            with contextlib.redirect_stdout(io.StringIO()):
+                for line in lines:
+                    program.heard(line)
+                has_begun = program.tested is not None
+                self.assertEqual(program.counts(), (1, 0))
+        return has_begun
+
+    def test_the_program_is_tested_once_it_is_proved(self):
+        self.assertTrue(self.begun("rt: mk_prompt proved\n", "rt: mkedit proved\n"))
+        self.assertTrue(self.begun("rt: mkedit is kept: an earlier run\n"))
+
+    def test_a_program_that_is_not_proved_is_tested_after_the_crates(self):
+        self.assertFalse(self.begun("rt: mk_prompt proved\n", "rt: mkedit NOT PROVED\n"))
 
 
 class Part(InRoom):
@@ -506,9 +529,14 @@ class Beside(unittest.TestCase):
 
     def test_as_many_wrong_bodies_are_tried_as_there_are_processors(self):
         tasks, begun = self.begun()
-        self.assertEqual(begun[1:], [(("high", "seed"), 1, False), (("low", "edits", 1), 1, False)])
-        tasks.ended(("low", "edits", 1), True)
-        self.assertEqual([*tasks.starts()], [(("low", "edits", 0), 1, False)])
+        self.assertEqual(begun[1:], [(("high", "seed"), 1, False), (("low", "edits", 0), 1, False)])
+        tasks.ended(("low", "edits", 0), True)
+        self.assertEqual([*tasks.starts()], [(("low", "edits", 1), 1, False)])
+
+    def test_the_wrong_bodies_that_take_longest_begin_first(self):
+        tasks = {("low", "edits", 0): task(), ("mid", "edits", 0): task(lines=200), ("high", "edits", 0): task(lines=150)}
+        begun = [key[0] for key, _, _ in Tasks(tasks, 2, ENOUGH).starts()]
+        self.assertEqual(begun, ["mid", "high"])
 
     def test_wrong_bodies_wait_for_memory(self):
         _, begun = self.begun(memory=1.4 * ONE)
@@ -552,6 +580,10 @@ class Toolchain(unittest.TestCase):
         said = Said("low", "fn low::g: not proved: it calls `low::a::f`, which is not proved\nonly=1 proved=0\n")
         self.assertIsNone(said.fault_of("g"))
         self.assertEqual(said.waits_for("g"), {"a::f"})
+
+    def test_an_error_in_the_proof_of_a_function_that_calls_itself_is_its_fault(self):
+        error = "./proofs/a/+f/Answers.antt:3:1: error: `returns`: a goal\nfn low::a::f: not proved\nonly=1 proved=0\n"
+        self.assertEqual(Said("low", error).fault_of("a::f"), "`returns`: a goal")
 
     def test_a_proof_that_names_what_is_gone_is_no_fault(self):
         error = "./proofs/a/f/Answers.antt:3:1: error: `loop-x` is not in scope\nfn low::a::f: not proved\nonly=1 proved=0\n"

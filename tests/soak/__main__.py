@@ -2,8 +2,8 @@
 
 Draws makefiles and scripts from a seed, runs the program over them, and compares what it prints with
 the answers of a judge that shares no line with it; tests/soak/__init__.py says which module does what.
-Prints the seed, how many cases were run, and how many met each refusal and accepted each edit. A case
-that differs is shrunk, and printed as a row for tests/cases; the status is 1 then.
+Prints the seed, how many cases were run, how many met each refusal and accepted each edit, and how many
+had a diff. A case that differs is shrunk, and printed as a row for tests/cases; the status is 1 then.
 
     python3 -m tests.soak --minutes 15
     python3 -m tests.soak --seed 1790000000 --first 4711 --cases 1     one case again

@@ -4,7 +4,7 @@ from typing import NamedTuple
 
 from tests.lib import reading
 from tests.lib.checks import Outcome, brief, differences
-from tests.lib.diffs import PROGRAMS, wrong_ways
+from tests.lib.diffs import wrong_ways
 
 from .drawing import Drawing, source_of
 from .edits import LIMIT
@@ -164,13 +164,12 @@ def wrong_undoing(room, case):
 
 
 def wrong_diff(room, case, printed):
-    """What is wrong with the diff of a run, by what it printed without it. One program takes the diff."""
+    """What is wrong with the diff of a run, by what it printed without it: `patch` and `git apply` have to take it."""
     got = room.run("edit", "--diff", *case.flags, "script", "Makefile")
     problems = differences(got._replace(stdout=b""), printed._replace(stdout=b""))
     is_printed = printed.status == 0 or case.goes_on
     text = printed.stdout if is_printed else case.text
-    program = sorted(PROGRAMS)[len(case.script) % len(PROGRAMS)]
-    return [*problems, *wrong_ways(got.stdout, case.text, text, programs=(program,))]
+    return [*problems, *wrong_ways(got.stdout, case.text, text)]
 
 
 def wrong_query(room, query, name, text):

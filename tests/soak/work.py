@@ -10,9 +10,15 @@ from .rows import rows_of
 from .shrinking import shrunk
 
 
-def met(verdict):
-    """What a run has met: its status, each refusal, and each edit and call that was accepted."""
+# What a run has met that changes the makefile.
+CHANGED = "changed"
+
+
+def met(case, verdict):
+    """What a run has met: its status, whether it has a diff, each refusal, and each edit and call that was accepted."""
     yield f"status {verdict.outcome.status}"
+    if verdict.outcome.stdout not in (b"", case.makefile):
+        yield CHANGED
     for reply in verdict.replies:
         yield reply.name if reply.refusal is None else reply.refusal.number
 
@@ -31,7 +37,7 @@ class Work:
         case = drawn(self.seed, number)
         verdict = case.verdict
         self.count += 1
-        self.met.update(set(met(verdict)))
+        self.met.update(set(met(case, verdict)))
         if not problems_of(self.room, case, verdict):
             return []
         small = shrunk(case, self.is_wrong)
@@ -54,5 +60,6 @@ def table_of(met):
     return [
         *(f"refused {number:2} {name}: {met[number]}" for number, name in NAMES.items()),
         *(f"accepted {name}: {met[name]}" for name in (*EDITS, *CALLS)),
+        f"diffs that patch and git apply took: {met[CHANGED]}",
         *(f"ended with {name}: {met[name]}" for name in sorted(map(str, met)) if name[:6] == "status"),
     ]
