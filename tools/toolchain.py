@@ -13,6 +13,7 @@ import os
 import shutil
 import sys
 import threading
+import warnings
 from functools import reduce
 
 # The status of a step in which the script has failed, as one does whose parts are others than they look.
@@ -44,7 +45,10 @@ def load():
     script = importlib.util.module_from_spec(importlib.util.spec_from_loader("rt", loader))
     words, sys.argv = sys.argv, ["rt"]
     try:
-        loader.exec_module(script)
+        # (of what is no Python the compiler may warn before it fails)
+        with warnings.catch_warnings():
+            warnings.simplefilter("ignore")
+            loader.exec_module(script)
     except (Exception, SystemExit):
         return None
     finally:
