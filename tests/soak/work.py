@@ -60,6 +60,6 @@ def table_of(met):
     return [
         *(f"refused {number:2} {name}: {met[number]}" for number, name in NAMES.items()),
         *(f"accepted {name}: {met[name]}" for name in (*EDITS, *CALLS)),
-        f"diffs that patch and git apply took: {met[CHANGED]}",
+        f"diffs for patch and git apply: {met[CHANGED]}",
         *(f"ended with {name}: {met[name]}" for name in sorted(map(str, met)) if name[:6] == "status"),
     ]
