@@ -10,7 +10,7 @@
   rows      the stored files of rows are what their scripts make
   gate      the tests of the gate itself
   crates    proves every crate that the program stands on, those of rows, and caller_example, from nothing,
-            and has the prover refuse one in twenty-four wrong bodies, which the commit's checksum chooses
+            and has the prover refuse one in forty-eight wrong bodies, which the commit's checksum chooses
             (share.py); runs the programs among them
   tries     beside all of this: the tests of all crates, and the programs of crates, with run-time checks
   program   tests the program, beside the wrong bodies that are left once it is proved and built

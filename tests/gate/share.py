@@ -1,11 +1,11 @@
 """Which wrong bodies a run tries: all, or the share that a commit's checksum chooses.
 
-All wrong bodies take hours of processor time. So a landing tries one in twenty-four, and another
+All wrong bodies take hours of processor time. So a landing tries one in forty-eight, and another
 landing others. `make check-all` tries all.
 
-A share has every third wrong body of an eighth of the crates. The first check of a crate's wrong bodies
+A share has every fourth wrong body of a twelfth of the crates. The first check of a crate's wrong bodies
 proves what their functions call too, and takes most of a minute before it comes to the first of them. A
-share of every crate would have that for each crate. Of `mkedit` it has a third that stands side by side:
+share of every crate would have that for each crate. Of `mkedit` it has a fourth that stands side by side:
 their functions are of few modules, and call less.
 """
 
@@ -16,9 +16,9 @@ from typing import NamedTuple
 
 from .wrong_bodies import wrong_bodies
 
-SHARES = 24
+SHARES = 48
 # The crates stand in so many groups, and a share is of one of them.
-GROUPS = 8
+GROUPS = 12
 PARTS = SHARES // GROUPS
 # A crate with more wrong bodies than this has in a share those that stand side by side.
 LARGE = 110

@@ -63,11 +63,11 @@ class Share(unittest.TestCase):
     def test_shares_are_alike_in_size(self):
         bodies = bodies_of(listed(TOP).values())
         sizes = [len(share_of(bodies, it)) for it in range(SHARES)]
-        self.assertLessEqual(max(sizes) - min(sizes), 4)
+        self.assertLessEqual(max(sizes) - min(sizes), 10)
 
     def test_shares_of_a_group_are_alike_in_size(self):
         bodies = [Body(f"crate_{it % GROUPS}", str(it)) for it in range(100 * GROUPS)]
-        self.assertEqual({len(share_of(bodies, it)) for it in range(SHARES)}, {33, 34})
+        self.assertEqual({len(share_of(bodies, it)) for it in range(SHARES)}, {25})
 
     def test_a_share_has_bodies_of_the_crates_of_a_group(self):
         bodies = bodies_of(listed(TOP).values())

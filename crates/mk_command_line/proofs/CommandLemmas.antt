@@ -2,7 +2,7 @@
 -- by its definitions.
 use Rattle.std.proofs.Common.{◌≡◌, ◌∙◌, ◌||◌, ◌+◌, ◌<◌, ◌++◌, ℕ, List, [], ◌∷◌, refl, Bool, true, false, Option, Some, None, ap, ap₂, get_or, length, map, take}
 use Rattle.std.proofs.lemmas.List.{map-append, take_more}
-use Rattle.clap.specs.Words.{AddsArg, App, Rule, app_of, is_simple, rule_of, with_rule, with_subcommand}
+use Rattle.clap.specs.Words.{AddsArg, App, Rule, app_of, is_simple, is_simple_and_free, rule_of, with_rule, with_subcommand}
 use Rattle.clap.specs.declared.builder.arg.Arg.{Arg}
 use Rattle.clap.specs.declared.builder.command.Command.{Command}
 use Rattle.clap.specs.declared.builder.command.Command.TheViews.{out-Command}
@@ -33,6 +33,19 @@ program_is_simple (Some (Query Caveats)) = refl
 program_is_simple (Some Get) = refl
 program_is_simple (Some Explain) = refl
 program_is_simple (Some Session) = refl
+
+pub program_is_free : (found : Option CommandName) → is_simple_and_free (program_with (asked_commands found)) ≡ true
+unfolding clap_on_literals
+program_is_free None = refl
+program_is_free (Some Edit) = refl
+program_is_free (Some (Query Vars)) = refl
+program_is_free (Some (Query Rules)) = refl
+program_is_free (Some (Query Recipes)) = refl
+program_is_free (Some (Query Check)) = refl
+program_is_free (Some (Query Caveats)) = refl
+program_is_free (Some Get) = refl
+program_is_free (Some Explain) = refl
+program_is_free (Some Session) = refl
 
 has_none-more : (names : List CommandName) (name : CommandName) → has_none (names ++ name ∷ []) ≡ false
 has_none-more [] name = refl

@@ -40,9 +40,9 @@ command_named word = find (λ command. bytes_eq word (word_of command)) commands
 abbrev pub file_rule : Rule
 file_rule = record (new_rule (codes "FILE")) { action = Some Append }
 
--- SCRIPT, which is required where there is no -e
+-- SCRIPT
 abbrev pub script_rule : Rule
-script_rule = record (new_rule (codes "SCRIPT")) { is_free = false }
+script_rule = new_rule (codes "SCRIPT")
 
 -- -k, --keep-going
 abbrev pub keep_going_rule : Rule
@@ -70,13 +70,12 @@ output_rule = record (new_rule (codes "output")) {
   value_names = 1;
 }
 
--- -i, --in-place, which does not stand beside -o
+-- -i, --in-place
 abbrev pub in_place_rule : Rule
 in_place_rule = record (new_rule (codes "in-place")) {
   short = Some 105;
   long = Some (codes "in-place");
   action = Some SetTrue;
-  is_free = false;
 }
 
 -- --backup SUFFIX
@@ -86,12 +85,11 @@ backup_rule = record (new_rule (codes "backup")) {
   value_names = 1;
 }
 
--- --diff, which does not stand beside -i
+-- --diff
 abbrev pub diff_rule : Rule
 diff_rule = record (new_rule (codes "diff")) {
   long = Some (codes "diff");
   action = Some SetTrue;
-  is_free = false;
 }
 
 -- --color WHEN

@@ -1,12 +1,13 @@
 -- What the words of the command line ask for, by what clap finds in them.
 -- Told in docs/mkedit.1.
-use Rattle.std.specs.Prelude.{◌≡◌, ℕ, Bool, true, false, List, Option, Some, None, Result, Ok, codes, if◌then◌else◌, not, ◌&&◌, ◌==◌, is_some, map, [], ◌∷◌, option_map, string_bytes, ⊤}
+use Rattle.std.specs.Prelude.{◌≡◌, ◌⊎◌, ◌^◌, ℕ, Bool, true, false, List, Option, Some, None, Result, Ok, Err, codes, if◌then◌else◌, not, ◌&&◌, ◌==◌, is_some, map, [], ◌∷◌, nat_lt, option_and_then, option_map, string_bytes, ⊤}
+use Rattle.std.specs.Option.{option_map_or}
 use Rattle.std.specs.Borrow.{Bor}
 use Rattle.std.specs.List.{join_by, list_all}
 use Rattle.std.specs.Str.{bytes_eq}
 use Rattle.std.specs.Str.Parse.{digits_value}
 use Rattle.std.specs.Char.{is_ascii_digit}
-use Rattle.clap.specs.Words.{Row, Text, all_of, first_of, one_of}
+use Rattle.clap.specs.Words.{Row, Text, all_of, first_of}
 use Rattle.clap.specs.Walk.{is_empty}
 use Rattle.mk_command_line.specs.Commands.{command_named}
 use Rattle.mk_command_line.specs.declared.command_name.CommandName.{CommandName}
@@ -66,38 +67,44 @@ AreMakefiles words inputs = map file_of inputs ≡ files_named words
 abbrev pub is_named : Input → Bool
 is_named input = is_some (file_of input)
 
--- script and makefiles are not both standard input
-abbrev pub AreApart : Script → List Input → Type 0
-AreApart (script.From input.Standard) files = list_all is_named files ≡ true
-AreApart _ _ = ⊤
+-- whether script and makefiles are both standard input
+abbrev pub are_both_standard : Script → List Input → Bool
+are_both_standard (script.From input.Standard) files = not (list_all is_named files)
+are_both_standard _ _ = false
 
--- ---- the words of `edit`; clap has a row for each argument, with its values
+-- ---- what options say; clap has a row for each argument, with its values
 
--- whether a flag is set
-abbrev pub IsFlag : Text → List Row → Bool → Type 0
-IsFlag flag rows is_set = (one_of flag rows ≡ None → is_set ≡ false)
-    × (one_of flag rows ≡ Some (codes "false") → is_set ≡ false)
-    × (one_of flag rows ≡ Some (codes "true") → is_set ≡ true)
+-- whether a flag is set: whether its value is `true`
+abbrev pub is_set : Text → List Row → Bool
+is_set flag rows = option_map_or (λ text. bytes_eq text (codes "true")) (first_of flag rows) false
 
 -- whether an answer in this form is lines of JSON
 abbrev pub is_json : Form → Bool
 is_json form.Text = false
 is_json form.Json = true
 
--- the number that decimal digits write
-abbrev pub IsNumber : Text → ℕ → Type 0
-IsNumber word number = (list_all is_ascii_digit word ≡ true) × (number ≡ digits_value 10 word)
+-- whether decimal digits write a number that fits 32 bits
+abbrev pub is_number : Text → Bool
+is_number word =
+    not (is_empty word) && (list_all is_ascii_digit word && nat_lt (digits_value 10 word) (2 ^ 32))
 
-abbrev pub IsDepth : Option Text → ℕ → Type 0
-IsDepth (Some word) depth = IsNumber word depth
-IsDepth None depth = ⊥
+-- that number
+abbrev pub number_of : Text → Option ℕ
+number_of word = if is_number word then Some (digits_value 10 word) else None
+
+-- the number that an option says
+abbrev pub number_at : Text → List Row → Option ℕ
+number_at option rows = option_and_then number_of (first_of option rows)
 
 -- when a diff has colours, by the word that says it, if there is one
-abbrev pub IsColor : Option Text → Color → Type 0
-IsColor None when = when ≡ Auto
-IsColor (Some word) Auto = word ≡ codes "auto"
-IsColor (Some word) Always = word ≡ codes "always"
-IsColor (Some word) Never = word ≡ codes "never"
+abbrev pub color_named : Option Text → Option Color
+color_named None = Some Auto
+color_named (Some word) =
+    if bytes_eq word (codes "auto") then Some Auto
+    else (if bytes_eq word (codes "always") then Some Always
+    else (if bytes_eq word (codes "never") then Some Never else None))
+
+-- ---- the words of `edit`
 
 -- the lines of -e, and the words that are no option: the script and the makefiles. After -e each of
 -- them is a makefile.
@@ -114,10 +121,10 @@ ReadsFrom _ _ _ _ _ = ⊥
 abbrev pub is_suffix : Text → Bool
 is_suffix text = not (is_empty text) && list_all (λ byte. not (byte == 47)) text
 
--- the suffix of --backup, if there is one
-abbrev pub IsBackup : Option Text → Type 0
-IsBackup None = ⊤
-IsBackup (Some suffix) = is_suffix suffix ≡ true
+-- whether --backup has such a text, if it is there
+abbrev pub is_backup : Option Text → Bool
+is_backup None = true
+is_backup (Some suffix) = is_suffix suffix
 
 -- at most one
 abbrev pub is_alone : List Input → Bool
@@ -131,31 +138,49 @@ abbrev pub fits_output : (is_diff : Bool) → (out : Option Text) → List Input
 fits_output true None files = true
 fits_output is_diff out files = is_alone files
 
--- Whether there is --diff, the values of -o and --backup, and the makefiles. With -i the text of each
--- makefile goes to it, and each is a file. Without it there is no --backup; several makefiles are
--- taken there where the diff of each goes to standard output.
-abbrev pub GoesTo : (in_place is_diff : Bool) → (out backup : Option Text) → List Input → Output
-    → Type 0
-GoesTo false is_diff None None files output.Standard = fits_output is_diff None files ≡ true
-GoesTo false is_diff (Some out) None files (output.File name) =
-    (name.now ≡ out) × (fits_output is_diff (Some out) files ≡ true)
-GoesTo true is_diff out backup files (output.InPlace kept) =
-    (list_all is_named files ≡ true) × (option_map (λ suffix. suffix.now) kept.0 ≡ backup)
-    × IsBackup backup
-GoesTo _ _ _ _ _ _ = ⊥
+-- Whether the texts of these makefiles may go there, by the values of -o and --backup. With -i, where
+-- there is neither --diff nor -o, each makefile is a file, and the suffix is one. Without it, where there
+-- is no --backup, and the texts may go there.
+abbrev pub may_go : (in_place is_diff : Bool) → (out backup : Option Text) → List Input → Bool
+may_go true false None backup files = is_backup backup && list_all is_named files
+may_go false is_diff out None files = fits_output is_diff out files
+may_go _ _ _ _ _ = false
+
+-- where they go
+abbrev pub GoesTo : (in_place : Bool) → (out backup : Option Text) → Output → Type 0
+GoesTo false None backup output.Standard = ⊤
+GoesTo false (Some out) backup (output.File name) = name.now ≡ out
+GoesTo true out backup (output.InPlace kept) = option_map (λ suffix. suffix.now) kept.0 ≡ backup
+GoesTo _ _ _ _ = ⊥
+
+-- the same, by what clap finds
+abbrev pub may_go_by : List Row → List Input → Bool
+may_go_by rows = may_go (is_set (codes "in-place") rows) (is_set (codes "diff") rows)
+    (first_of (codes "output") rows) (first_of (codes "backup") rows)
 
 pub record AsksEdit (rows : List Row) (words : EditWords) : Type 0 where
-  pub keep_going : IsFlag (codes "keep-going") rows words.keep_going
-  pub depth : IsDepth (first_of (codes "depth") rows) words.depth
-  pub notes : IsFlag (codes "notes") rows words.notes
+  pub keep_going : words.keep_going ≡ is_set (codes "keep-going") rows
+  pub depth : number_at (codes "depth") rows ≡ Some words.depth
+  pub notes : words.notes ≡ is_set (codes "notes") rows
   pub from : ReadsFrom (all_of (codes "expression") rows) (first_of (codes "SCRIPT") rows)
       (all_of (codes "FILE") rows) words.script words.files.items
-  pub apart : AreApart words.script words.files.items
-  pub diff : IsFlag (codes "diff") rows words.is_diff
-  pub color : IsColor (first_of (codes "color") rows) words.color
-  pub to : (in_place : Bool) × IsFlag (codes "in-place") rows in_place
-      × GoesTo in_place words.is_diff (first_of (codes "output") rows)
-      (first_of (codes "backup") rows) words.files.items words.output
+  pub apart : are_both_standard words.script words.files.items ≡ false
+  pub diff : words.is_diff ≡ is_set (codes "diff") rows
+  pub color : color_named (first_of (codes "color") rows) ≡ Some words.color
+  pub may : may_go_by rows words.files.items ≡ true
+  pub to : GoesTo (is_set (codes "in-place") rows) (first_of (codes "output") rows)
+      (first_of (codes "backup") rows) words.output
+
+-- `edit` is refused for its depth, for want of a script, for standard input that is meant twice, for
+-- where its texts may not go, or for its colours
+abbrev pub IsRefusedEdit : List Row → Type 0
+IsRefusedEdit rows = (number_at (codes "depth") rows ≡ None)
+    ⊎ ((all_of (codes "expression") rows ≡ None) × (first_of (codes "SCRIPT") rows ≡ None))
+    ⊎ ((script : Script) × (files : List Input)
+    × ReadsFrom (all_of (codes "expression") rows) (first_of (codes "SCRIPT") rows)
+    (all_of (codes "FILE") rows) script files
+    × ((are_both_standard script files ≡ true) ⊎ (may_go_by rows files ≡ false)))
+    ⊎ (color_named (first_of (codes "color") rows) ≡ None)
 
 -- ---- the words of a query
 
@@ -175,34 +200,43 @@ IsAsked _ _ _ = ⊥
 
 pub record AsksQuery (name : QueryName) (rows : List Row) (words : QueryWords) : Type 0 where
   pub query_is : IsAsked name rows words.query
-  pub form : IsFlag (codes "json") rows (is_json words.form)
-  pub notes : IsFlag (codes "notes") rows words.notes
+  pub form : is_json words.form ≡ is_set (codes "json") rows
+  pub notes : words.notes ≡ is_set (codes "notes") rows
   pub files : AreMakefiles (words_of (all_of (codes "FILE") rows)) words.files.items
 
 -- ---- the words of `get`
 
 -- the number of an option that may be left out
-abbrev pub IsNth : Option Text → Option ℕ → Type 0
-IsNth None None = ⊤
-IsNth (Some word) (Some nth) = IsNumber word nth
-IsNth _ _ = ⊥
+abbrev pub nth_of : Option Text → Option (Option ℕ)
+nth_of None = Some None
+nth_of (Some word) = option_map (λ nth. Some nth) (number_of word)
 
 pub record AsksGet (rows : List Row) (words : GetWords) : Type 0 where
-  pub nth : IsNth (first_of (codes "nth") rows) words.nth
+  pub nth : nth_of (first_of (codes "nth") rows) ≡ Some words.nth
   pub name : first_of (codes "NAME") rows ≡ Some words.name.now
-  pub notes : IsFlag (codes "notes") rows words.notes
+  pub notes : words.notes ≡ is_set (codes "notes") rows
   pub files : AreMakefiles (words_of (all_of (codes "FILE") rows)) words.files.items
+
+-- `get` is refused for its number, or for want of a name
+abbrev pub IsRefusedGet : List Row → Type 0
+IsRefusedGet rows =
+    (nth_of (first_of (codes "nth") rows) ≡ None) ⊎ (first_of (codes "NAME") rows ≡ None)
 
 -- ---- the words of a session
 
 pub record AsksSession (rows : List Row) (words : SessionWords) : Type 0 where
-  pub depth : IsDepth (first_of (codes "depth") rows) words.depth
-  pub protocol : IsFlag (codes "protocol") rows words.by_protocol
-  pub form : IsFlag (codes "json") rows (is_json words.form)
-  pub new : IsFlag (codes "new") rows words.may_be_new
-  pub color : IsColor (first_of (codes "color") rows) words.color
-  pub file : first_of (codes "FILE") rows ≡ Some words.file.now
-  pub named : bytes_eq words.file.now (codes "-") ≡ false
+  pub depth : number_at (codes "depth") rows ≡ Some words.depth
+  pub protocol : words.by_protocol ≡ is_set (codes "protocol") rows
+  pub form : is_json words.form ≡ is_set (codes "json") rows
+  pub new : words.may_be_new ≡ is_set (codes "new") rows
+  pub color : color_named (first_of (codes "color") rows) ≡ Some words.color
+  pub file : option_and_then file_named (first_of (codes "FILE") rows) ≡ Some words.file.now
+
+-- a session is refused for its depth, for its colours, or where its word names no file
+abbrev pub IsRefusedSession : List Row → Type 0
+IsRefusedSession rows = (number_at (codes "depth") rows ≡ None)
+    ⊎ (color_named (first_of (codes "color") rows) ≡ None)
+    ⊎ (option_and_then file_named (first_of (codes "FILE") rows) ≡ None)
 
 -- ---- all words
 
@@ -222,11 +256,18 @@ module _ {R E : Type 0} (reads : Text → Result R E → Type 0) where
   Asks None asked = ⊥
   Asks (Some found) asked = AsksByCommand (command_named found.0) found.1 asked
 
-abbrev is_query_name : Option CommandName → Bool
-is_query_name (Some (Query query)) = true
-is_query_name _ = false
+  -- a command is refused, of which clap takes the words; a query is not
+  abbrev pub IsRefusedByCommand : Option CommandName → List Row → Type 0
+  IsRefusedByCommand (Some Edit) rows = IsRefusedEdit rows
+  IsRefusedByCommand (Some (Query query)) rows = ⊥
+  IsRefusedByCommand (Some Get) rows = IsRefusedGet rows
+  IsRefusedByCommand (Some Explain) rows = (first_of (codes "REFUSAL") rows ≡ None)
+      ⊎ ((word : Text) × (fault : E) × (first_of (codes "REFUSAL") rows ≡ Some word)
+      × reads word (Err fault))
+  IsRefusedByCommand (Some Session) rows = IsRefusedSession rows
+  IsRefusedByCommand None rows = ⊤
 
--- the command is a query
-abbrev pub is_query : Option (Text × List Row) → Bool
-is_query None = false
-is_query (Some found) = is_query_name (command_named found.0)
+  -- the same, of the word that names the command and its rows; words that name none are refused
+  abbrev pub IsRefused : Option (Text × List Row) → Type 0
+  IsRefused None = ⊤
+  IsRefused (Some found) = IsRefusedByCommand (command_named found.0) found.1

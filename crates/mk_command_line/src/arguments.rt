@@ -1,5 +1,5 @@
 //! The arguments of the commands, each with the name by which its words are found.
-ghost use Rattle.std.specs.Prelude.{◌≡◌, IfOk, false};
+ghost use Rattle.std.specs.Prelude.{◌≡◌, false};
 ghost use Rattle.clap.specs.Words.{rule_of};
 ghost use Rattle.mk_command_line.specs.Commands.{backup_rule, color_rule, depth_rule, diff_rule, expression_rule, file_rule, json_rule};
 ghost use Rattle.mk_command_line.specs.Commands.{in_place_rule, keep_going_rule, name_rule, new_makefile_rule, notes_rule, nth_rule, output_rule};
@@ -8,7 +8,7 @@ ghost use Rattle.mk_command_line.specs.Commands.{protocol_rule, refusal_rule, sc
 use crate::request::MAX_DEPTH;
 use clap::builder::ValueParser;
 use clap::{Arg, ArgAction};
-use std::alloc::{AllocError, Global};
+use std::alloc::Global;
 
 /// How many edits can be undone, where the command line does not say it.
 const DEFAULT_DEPTH: &str = "100";
@@ -62,12 +62,11 @@ pub(crate) fn file<'a>(alloc: Global) -> Arg<'a>
 }
 
 /// The script.
-pub(crate) fn script<'a>(alloc: Global) -> Result<Arg<'a>, AllocError>
-    ensures rule { IfOk result (λ arg. rule_of arg ≡ script_rule) }
-    ensures local { IfOk result (λ arg. arg.global ≡ false) }
+pub(crate) fn script<'a>(alloc: Global) -> Arg<'a>
+    ensures rule { rule_of result ≡ script_rule }
+    ensures local { result.global ≡ false }
 {
-    let script = Arg::new(alloc, SCRIPT).required_unless_present(EXPRESSION)?;
-    Ok(script.help("The script: a command a line; - is standard input"))
+    Arg::new(alloc, SCRIPT).help("The script: a command a line; - is standard input")
 }
 
 /// Whether the commands after a refused one are done.
@@ -109,16 +108,15 @@ pub(crate) fn output<'a>(alloc: Global) -> Arg<'a>
 }
 
 /// Whether the text goes to the makefile itself.
-pub(crate) fn in_place<'a>(alloc: Global) -> Result<Arg<'a>, AllocError>
-    ensures rule { IfOk result (λ arg. rule_of arg ≡ in_place_rule) }
-    ensures local { IfOk result (λ arg. arg.global ≡ false) }
+pub(crate) fn in_place<'a>(alloc: Global) -> Arg<'a>
+    ensures rule { rule_of result ≡ in_place_rule }
+    ensures local { result.global ≡ false }
 {
-    let in_place = Arg::new(alloc, IN_PLACE)
+    Arg::new(alloc, IN_PLACE)
         .short('i')
         .long("in-place")
         .action(ArgAction::SetTrue)
-        .conflicts_with(OUTPUT)?;
-    Ok(in_place.help("FILE gets the text, and is the old file or the new one at every moment"))
+        .help("FILE gets the text, and is the old file or the new one at every moment")
 }
 
 /// What the name of the old makefile gets at its end, where the old makefile is kept.
@@ -133,15 +131,14 @@ pub(crate) fn backup<'a>(alloc: Global) -> Arg<'a>
 }
 
 /// Whether a diff goes out in place of the text.
-pub(crate) fn diff<'a>(alloc: Global) -> Result<Arg<'a>, AllocError>
-    ensures rule { IfOk result (λ arg. rule_of arg ≡ diff_rule) }
-    ensures local { IfOk result (λ arg. arg.global ≡ false) }
+pub(crate) fn diff<'a>(alloc: Global) -> Arg<'a>
+    ensures rule { rule_of result ≡ diff_rule }
+    ensures local { result.global ≡ false }
 {
-    let diff = Arg::new(alloc, DIFF)
+    Arg::new(alloc, DIFF)
         .long("diff")
         .action(ArgAction::SetTrue)
-        .conflicts_with(IN_PLACE)?;
-    Ok(diff.help("Prints what would change, as a diff that patch takes, in place of the text"))
+        .help("Prints what would change, as a diff that patch takes, in place of the text")
 }
 
 /// When a diff has colours.

@@ -52,9 +52,10 @@ fn output_options<'a>(alloc: Global) -> Result<Command<'a>, AllocError>
         ≡ leaf (word_of CommandName.Edit) (run_options ++ output_options)) }
     ensures local { IfOk result (λ edit. (fields_of edit).has_globals ≡ false) }
 {
-    let edit = run_options(alloc)?.arg(in_place(alloc)?)?;
-    edit.arg(backup(alloc))?
-        .arg(diff(alloc)?)?
+    run_options(alloc)?
+        .arg(in_place(alloc))?
+        .arg(backup(alloc))?
+        .arg(diff(alloc))?
         .arg(color(alloc))
 }
 
@@ -73,7 +74,7 @@ fn edit<'a>(alloc: Global) -> Result<Command<'a>, AllocError>
     ensures app { IfOk result (λ edit. app_of edit ≡ command_app CommandName.Edit) }
     ensures local { IfOk result (λ edit. (fields_of edit).has_globals ≡ false) }
 {
-    edit_options(alloc)?.arg(script(alloc)?)?.arg(file(alloc))
+    edit_options(alloc)?.arg(script(alloc))?.arg(file(alloc))
 }
 
 // A query with the option that says of what alone it tells, if it has one.

@@ -1,14 +1,15 @@
 //! From the words of the command line to what they ask for.
-ghost use Rattle.std.specs.Prelude.{◌≡◌, ◌==◌, ◌++◌, not, None, Some, Bool, IfErr, IfOk, IfSome, List, codes, false, map, option_map, string_bytes, true, ℕ};
+ghost use Rattle.std.specs.Prelude.{◌≡◌, ◌⊎◌, ◌==◌, ◌++◌, not, None, Some, Bool, IfErr, IfOk, IfSome, List, [], codes, false, map, option_and_then, option_map, string_bytes, true, ℕ};
 ghost use Rattle.std.specs.Char.{is_ascii_digit};
 ghost use Rattle.std.specs.List.{list_all};
-ghost use Rattle.clap.specs.Words.{all_of, app_of, first_of, found_of, kind_of, rows_of};
+ghost use Rattle.clap.specs.Words.{HasKind, all_of, app_of, fault_of, first_of, found_of, kind_of, rows_of};
 ghost use Rattle.clap.specs.Words.{subcommand_of, subcommand_rows_of, takes};
 ghost use Rattle.clap.specs.declared.error.kind.ErrorKind.TheVariants.{OutOfMemory};
 ghost use Rattle.mk_command_line.specs.Commands.{program_for};
-ghost use Rattle.mk_command_line.specs.Requests.{AreApart, Asks, AsksByCommand, AsksEdit, AsksGet, AsksQuery, AsksSession, GoesTo, IsDepth, IsFlag};
-ghost use Rattle.mk_command_line.specs.Requests.{AreMakefiles, ReadsFrom, file_named, file_of, words_from};
-ghost use Rattle.mk_command_line.specs.Requests.{IsAsked, IsBackup, IsColor, IsNth, IsNumber, fits_output, is_alone, is_json, is_named, is_query, is_suffix};
+ghost use Rattle.mk_command_line.specs.Requests.{Asks, AsksByCommand, AsksEdit, AsksGet, AsksQuery, AsksSession, GoesTo};
+ghost use Rattle.mk_command_line.specs.Requests.{AreMakefiles, IsRefused, IsRefusedByCommand, IsRefusedEdit, IsRefusedGet, IsRefusedSession, ReadsFrom};
+ghost use Rattle.mk_command_line.specs.Requests.{IsAsked, are_both_standard, color_named, file_named, file_of, fits_output, is_alone, is_backup};
+ghost use Rattle.mk_command_line.specs.Requests.{is_json, is_named, is_set, is_suffix, may_go, may_go_by, nth_of, number_at, number_of, words_from};
 
 use crate::arguments::{
     BACKUP, COLOR, DEPTH, DIFF, EXPRESSION, FILE, IN_PLACE, JSON, KEEP_GOING, NAME, NEW, NOTES,
@@ -28,10 +29,17 @@ use std::str::FromStr;
 // The word for standard input.
 const STANDARD: &str = "-";
 
+// The value of a flag that is set.
+const TRUE: &str = "true";
+
 const BAD_DEPTH: &str = "invalid value for '--depth <DEPTH>': only decimal digits may stand there";
 
 const BAD_NTH: &str =
     "invalid value for '--nth <N>': it has to be a number in decimal digits, up to 4294967295";
+
+const TWO_OUTPUTS: &str = "the argument '--in-place' cannot be used with '--output <OUT>'";
+
+const DIFF_IN_PLACE: &str = "the argument '--diff' cannot be used with '--in-place'";
 
 const NO_NAME: &str = "a NAME is required";
 
@@ -78,9 +86,12 @@ fn values<'b, 'a>(matches: &'b ArgMatches<'a>, id: &str) -> Option<&'b [&'a str]
 
 // Whether a flag is set.
 fn is_set(matches: &ArgMatches<'_>, flag: &str) -> bool
-    ensures { IsFlag flag.now (rows_of (found_of matches.now)) result }
+    ensures { result ≡ is_set flag.now (rows_of (found_of matches.now)) }
 {
-    matches.get_flag(flag)
+    match value(matches, flag) {
+        Some(text) => text == TRUE,
+        None => false,
+    }
 }
 
 // Whether a word has decimal digits alone.
@@ -92,7 +103,7 @@ fn has_digits_alone(word: &str) -> bool
 
 // The number that decimal digits write: a parse takes a `+` before them too, and it is no digit.
 fn number(word: &str) -> Option<u32>
-    ensures { IfSome result (IsNumber word.now) }
+    ensures { result ≡ number_of word.now }
 {
     if !has_digits_alone(word) {
         return None;
@@ -105,14 +116,17 @@ fn number(word: &str) -> Option<u32>
 
 // The depth.
 fn depth_of(matches: &ArgMatches<'_>) -> Option<u32>
-    ensures { IfSome result (IsDepth (first_of (codes "depth") (rows_of (found_of matches.now)))) }
+    ensures { result ≡ number_at (codes "depth") (rows_of (found_of matches.now)) }
 {
     number(value(matches, DEPTH)?)
 }
 
 // Which of several assignments is meant, if the words say it; or what is wrong with the number.
 fn nth_of(matches: &ArgMatches<'_>) -> Result<Option<u32>, &'static str>
-    ensures { IfOk result (IsNth (first_of (codes "nth") (rows_of (found_of matches.now)))) }
+    ensures nth { IfOk result (λ nth.
+        nth_of (first_of (codes "nth") (rows_of (found_of matches.now))) ≡ Some nth) }
+    ensures fault { IfErr result (λ _.
+        nth_of (first_of (codes "nth") (rows_of (found_of matches.now))) ≡ None) }
 {
     let Some(word) = value(matches, NTH) else {
         return Ok(None);
@@ -185,7 +199,7 @@ fn are_named(files: &[Input<'_>]) -> bool
 
 // Whether the script is standard input, and a makefile is too.
 fn are_both_standard(script: &Script<'_>, files: &[Input<'_>]) -> bool
-    ensures { result ≡ false → AreApart script.now files.now }
+    ensures { result ≡ are_both_standard script.now files.now }
 {
     match script {
         Script::From(Input::Standard) => !are_named(files),
@@ -199,10 +213,13 @@ fn script_and_files<'a>(
     alloc: Global,
     matches: &ArgMatches<'a>,
 ) -> Result<Option<(Script<'a>, Vec<Input<'a>>)>, AllocError>
-    ensures { IfOk result (λ found. IfSome found (λ both. ReadsFrom
+    ensures from { IfOk result (λ found. IfSome found (λ both. ReadsFrom
         (all_of (codes "expression") (rows_of (found_of matches.now)))
         (first_of (codes "SCRIPT") (rows_of (found_of matches.now)))
         (all_of (codes "FILE") (rows_of (found_of matches.now))) both.0 both.1.items)) }
+    ensures none { IfOk result (λ found. found ≡ None
+        → (all_of (codes "expression") (rows_of (found_of matches.now)) ≡ None)
+        × (first_of (codes "SCRIPT") (rows_of (found_of matches.now)) ≡ None)) }
 {
     let first = value(matches, SCRIPT);
     let more = values(matches, FILE);
@@ -242,9 +259,11 @@ fn is_alone(files: &[Input<'_>]) -> bool
 
 // The suffix of the name under which the old makefile is kept, if it is; or what is wrong with it.
 fn backup_of<'a>(matches: &ArgMatches<'a>) -> Result<Option<&'a str>, &'static str>
-    ensures { IfOk result (λ suffix. (option_map (λ suffix. suffix.now) suffix
+    ensures suffix { IfOk result (λ suffix. (option_map (λ suffix. suffix.now) suffix
         ≡ first_of (codes "backup") (rows_of (found_of matches.now)))
-        × IsBackup (first_of (codes "backup") (rows_of (found_of matches.now)))) }
+        × (is_backup (first_of (codes "backup") (rows_of (found_of matches.now))) ≡ true)) }
+    ensures fault { IfErr result (λ _.
+        is_backup (first_of (codes "backup") (rows_of (found_of matches.now))) ≡ false) }
 {
     let Some(suffix) = value(matches, BACKUP) else {
         return Ok(None);
@@ -258,7 +277,8 @@ fn backup_of<'a>(matches: &ArgMatches<'a>) -> Result<Option<&'a str>, &'static s
 
 // When a diff has colours, as a word says it.
 fn color_named(word: &str) -> Result<Color, &'static str>
-    ensures { IfOk result (IsColor (Some word.now)) }
+    ensures color { IfOk result (λ color. color_named (Some word.now) ≡ Some color) }
+    ensures fault { IfErr result (λ _. color_named (Some word.now) ≡ None) }
 {
     if word == "auto" {
         Ok(Color::Auto)
@@ -273,7 +293,10 @@ fn color_named(word: &str) -> Result<Color, &'static str>
 
 // When a diff has colours; or what is wrong with the word that says it.
 fn color_of(matches: &ArgMatches<'_>) -> Result<Color, &'static str>
-    ensures { IfOk result (IsColor (first_of (codes "color") (rows_of (found_of matches.now)))) }
+    ensures color { IfOk result (λ color.
+        color_named (first_of (codes "color") (rows_of (found_of matches.now))) ≡ Some color) }
+    ensures fault { IfErr result (λ _.
+        color_named (first_of (codes "color") (rows_of (found_of matches.now))) ≡ None) }
 {
     match value(matches, COLOR) {
         Some(word) => color_named(word),
@@ -289,40 +312,46 @@ fn fits_output(is_diff: bool, out: Option<&str>, files: &[Input<'_>]) -> bool
     (is_diff && out.is_none()) || is_alone(files)
 }
 
-// Where the text goes; or why it cannot go there.
-fn output_of<'a>(
-    matches: &ArgMatches<'a>,
+// That each makefile gets its own text; or why it cannot.
+fn in_place<'a>(
     is_diff: bool,
-    files: &[Input<'a>],
+    out: Option<&str>,
+    backup: Option<&'a str>,
+    files: &[Input<'_>],
 ) -> Result<Output<'a>, &'static str>
-    ensures { IfOk result (λ output. (in_place : Bool)
-        × IsFlag (codes "in-place") (rows_of (found_of matches.now)) in_place
-        × GoesTo in_place is_diff (first_of (codes "output") (rows_of (found_of matches.now)))
-        (first_of (codes "backup") (rows_of (found_of matches.now))) files.now output) }
+    requires suffix { is_backup (option_map (λ suffix. suffix.now) backup) ≡ true }
+    ensures to { IfOk result (GoesTo true (option_map (λ name. name.now) out.entry)
+        (option_map (λ suffix. suffix.now) backup.entry)) }
+    ensures may { IfOk result (λ _. may_go true is_diff (option_map (λ name. name.now) out.entry)
+        (option_map (λ suffix. suffix.now) backup.entry) files.now ≡ true) }
+    ensures fault { IfErr result (λ _. may_go true is_diff
+        (option_map (λ name. name.now) out.entry)
+        (option_map (λ suffix. suffix.now) backup.entry) files.now ≡ false) }
 {
-    let backup = backup_of(matches)?;
-    let is_named = are_named(files);
-    match (is_set(matches, IN_PLACE), backup) {
-        (true, backup) if is_named => Ok(Output::InPlace(Backup(backup))),
-        (true, _) => Err(NO_FILE),
-        (false, Some(_)) => Err(BACKUP_ALONE),
-        (false, None) => standard_or_file(matches, is_diff, files),
+    if is_diff {
+        Err(DIFF_IN_PLACE)
+    } else if out.is_some() {
+        Err(TWO_OUTPUTS)
+    } else if are_named(files) {
+        Ok(Output::InPlace(Backup(backup)))
+    } else {
+        Err(NO_FILE)
     }
 }
 
 // Where the text of one makefile goes, or the diff of each; or that there are several where one alone
 // may stand.
 fn standard_or_file<'a>(
-    matches: &ArgMatches<'a>,
     is_diff: bool,
-    files: &[Input<'a>],
+    out: Option<&'a str>,
+    files: &[Input<'_>],
 ) -> Result<Output<'a>, &'static str>
-    ensures to { IfOk result (λ output. GoesTo false is_diff
-        (first_of (codes "output") (rows_of (found_of matches.now))) None files.now output) }
-    ensures several { IfErr result (λ _. fits_output is_diff
-        (first_of (codes "output") (rows_of (found_of matches.now))) files.now ≡ false) }
+    ensures to { IfOk result (GoesTo false (option_map (λ name. name.now) out.entry) None) }
+    ensures may { IfOk result (λ _. fits_output is_diff (option_map (λ name. name.now) out.entry)
+        files.now ≡ true) }
+    ensures fault { IfErr result (λ _. fits_output is_diff
+        (option_map (λ name. name.now) out.entry) files.now ≡ false) }
 {
-    let out = value(matches, OUTPUT);
     if !fits_output(is_diff, out, files) {
         return Err(SEVERAL_FILES);
     }
@@ -332,13 +361,34 @@ fn standard_or_file<'a>(
     }
 }
 
-// What the words of `edit` ask for. clap has seen to the rest.
+// Where the texts go; or why they cannot go there.
+fn output_of<'a>(matches: &ArgMatches<'a>, files: &[Input<'_>]) -> Result<Output<'a>, &'static str>
+    ensures to { IfOk result (GoesTo (is_set (codes "in-place") (rows_of (found_of matches.now)))
+        (first_of (codes "output") (rows_of (found_of matches.now)))
+        (first_of (codes "backup") (rows_of (found_of matches.now)))) }
+    ensures may { IfOk result (λ _. may_go_by (rows_of (found_of matches.now)) files.now ≡ true) }
+    ensures fault { IfErr result (λ _.
+        may_go_by (rows_of (found_of matches.now)) files.now ≡ false) }
+{
+    let backup = backup_of(matches)?;
+    let out = value(matches, OUTPUT);
+    let is_diff = is_set(matches, DIFF);
+    match (is_set(matches, IN_PLACE), backup) {
+        (true, backup) => in_place(is_diff, out, backup, files),
+        (false, Some(_)) => Err(BACKUP_ALONE),
+        (false, None) => standard_or_file(is_diff, out, files),
+    }
+}
+
+// What the words of `edit` ask for.
 fn edit_words<'a>(
     alloc: Global,
     command: &mut Command<'a>,
     matches: &ArgMatches<'a>,
 ) -> Result<EditWords<'a>, clap::Error>
-    ensures { IfOk result (AsksEdit (rows_of (found_of matches.now))) }
+    ensures asks { IfOk result (AsksEdit (rows_of (found_of matches.now))) }
+    ensures refused { IfErr result (λ error. (kind_of error ≡ OutOfMemory)
+        ⊎ IsRefusedEdit (rows_of (found_of matches.now))) }
 {
     let Some(depth) = depth_of(matches) else {
         return Err(command.error(ErrorKind::ValueValidation, BAD_DEPTH)?);
@@ -349,8 +399,7 @@ fn edit_words<'a>(
     if are_both_standard(&script, files.as_slice()) {
         return Err(command.error(ErrorKind::ArgumentConflict, BOTH_STANDARD)?);
     }
-    let is_diff = is_set(matches, DIFF);
-    let output = match output_of(matches, is_diff, files.as_slice()) {
+    let output = match output_of(matches, files.as_slice()) {
         Ok(output) => output,
         Err(fault) => return Err(command.error(ErrorKind::ArgumentConflict, fault)?),
     };
@@ -363,7 +412,7 @@ fn edit_words<'a>(
         depth,
         notes: is_set(matches, NOTES),
         output,
-        is_diff,
+        is_diff: is_set(matches, DIFF),
         color,
         script,
         files,
@@ -385,7 +434,7 @@ fn asked<'a>(query: QueryName, matches: &ArgMatches<'a>) -> Query<'a>
 
 // How the answer is written.
 fn form_of(matches: &ArgMatches<'_>) -> Form
-    ensures { IsFlag (codes "json") (rows_of (found_of matches.now)) (is_json result) }
+    ensures { is_json result ≡ is_set (codes "json") (rows_of (found_of matches.now)) }
 {
     if is_set(matches, JSON) {
         Form::Json
@@ -418,7 +467,9 @@ fn get_words<'a>(
     command: &mut Command<'a>,
     matches: &ArgMatches<'a>,
 ) -> Result<GetWords<'a>, clap::Error>
-    ensures { IfOk result (AsksGet (rows_of (found_of matches.now))) }
+    ensures asks { IfOk result (AsksGet (rows_of (found_of matches.now))) }
+    ensures refused { IfErr result (λ error. (kind_of error ≡ OutOfMemory)
+        ⊎ IsRefusedGet (rows_of (found_of matches.now))) }
 {
     let nth = match nth_of(matches) {
         Ok(nth) => nth,
@@ -442,7 +493,9 @@ fn session_words<'a>(
     command: &mut Command<'a>,
     matches: &ArgMatches<'a>,
 ) -> Result<SessionWords<'a>, clap::Error>
-    ensures { IfOk result (AsksSession (rows_of (found_of matches.now))) }
+    ensures asks { IfOk result (AsksSession (rows_of (found_of matches.now))) }
+    ensures refused { IfErr result (λ error. (kind_of error ≡ OutOfMemory)
+        ⊎ IsRefusedSession (rows_of (found_of matches.now))) }
 {
     let Some(depth) = depth_of(matches) else {
         return Err(command.error(ErrorKind::ValueValidation, BAD_DEPTH)?);
@@ -471,9 +524,12 @@ fn explained<'a, R: FromStr + Drop>(
 ) -> Result<R, clap::Error>
 where
     R::Err: Drop,
-    ensures { IfOk result (λ refusal. (word : List ℕ)
+    ensures asks { IfOk result (λ refusal. (word : List ℕ)
         × (first_of (codes "REFUSAL") (rows_of (found_of matches.now)) ≡ Some word)
         × R.from_str_gives word (Ok refusal)) }
+    ensures refused { IfErr result (λ error. (kind_of error ≡ OutOfMemory)
+        ⊎ IsRefusedByCommand R.from_str_gives (Some CommandName.Explain)
+        (rows_of (found_of matches.now))) }
 {
     if let Some(word) = value(matches, REFUSAL) {
         if let Ok(refusal) = word.parse() {
@@ -502,7 +558,10 @@ fn get_request<'a, R: FromStr + Drop>(
     command: &mut Command<'a>,
     matches: &ArgMatches<'a>,
 ) -> Result<Request<'a, R>, clap::Error>
-    ensures { IfOk result (AsksByCommand R.from_str_gives (Some CommandName.Get)
+    ensures asks { IfOk result (AsksByCommand R.from_str_gives (Some CommandName.Get)
+        (rows_of (found_of matches.now))) }
+    ensures refused { IfErr result (λ error. (kind_of error ≡ OutOfMemory)
+        ⊎ IsRefusedByCommand R.from_str_gives (Some CommandName.Get)
         (rows_of (found_of matches.now))) }
 {
     Ok(Request::Get(get_words(alloc, command, matches)?))
@@ -515,7 +574,10 @@ fn explain_request<'a, R: FromStr + Drop>(
 ) -> Result<Request<'a, R>, clap::Error>
 where
     R::Err: Drop,
-    ensures { IfOk result (AsksByCommand R.from_str_gives (Some CommandName.Explain)
+    ensures asks { IfOk result (AsksByCommand R.from_str_gives (Some CommandName.Explain)
+        (rows_of (found_of matches.now))) }
+    ensures refused { IfErr result (λ error. (kind_of error ≡ OutOfMemory)
+        ⊎ IsRefusedByCommand R.from_str_gives (Some CommandName.Explain)
         (rows_of (found_of matches.now))) }
 {
     Ok(Request::Explain(explained(command, matches)?))
@@ -527,7 +589,10 @@ fn edit_request<'a, R: FromStr + Drop>(
     command: &mut Command<'a>,
     matches: &ArgMatches<'a>,
 ) -> Result<Request<'a, R>, clap::Error>
-    ensures { IfOk result (AsksByCommand R.from_str_gives (Some CommandName.Edit)
+    ensures asks { IfOk result (AsksByCommand R.from_str_gives (Some CommandName.Edit)
+        (rows_of (found_of matches.now))) }
+    ensures refused { IfErr result (λ error. (kind_of error ≡ OutOfMemory)
+        ⊎ IsRefusedByCommand R.from_str_gives (Some CommandName.Edit)
         (rows_of (found_of matches.now))) }
 {
     Ok(Request::Edit(edit_words(alloc, command, matches)?))
@@ -538,7 +603,10 @@ fn session_request<'a, R: FromStr + Drop>(
     command: &mut Command<'a>,
     matches: &ArgMatches<'a>,
 ) -> Result<Request<'a, R>, clap::Error>
-    ensures { IfOk result (AsksByCommand R.from_str_gives (Some CommandName.Session)
+    ensures asks { IfOk result (AsksByCommand R.from_str_gives (Some CommandName.Session)
+        (rows_of (found_of matches.now))) }
+    ensures refused { IfErr result (λ error. (kind_of error ≡ OutOfMemory)
+        ⊎ IsRefusedByCommand R.from_str_gives (Some CommandName.Session)
         (rows_of (found_of matches.now))) }
 {
     Ok(Request::Session(session_words(command, matches)?))
@@ -560,8 +628,8 @@ fn request_of<'a, R: FromStr + Drop>(
 where
     R::Err: Drop,
     ensures asks { IfOk result (Asks R.from_str_gives (subcommand_rows_of matches.now)) }
-    ensures query { IfErr result (λ error. is_query (subcommand_rows_of matches.now) ≡ true
-        → kind_of error ≡ OutOfMemory) }
+    ensures refused { IfErr result (λ error. (kind_of error ≡ OutOfMemory)
+        ⊎ IsRefused R.from_str_gives (subcommand_rows_of matches.now)) }
 {
     let Some((name, matches)) = matches.subcommand() else {
         return no_request(command);
@@ -583,10 +651,11 @@ where
 ///
 /// What `clap` finds wrong with them, which has its text, and help or the version where one is
 /// asked for; a depth that is not written in decimal digits alone, or is not from 1 to 10,000;
-/// a script and a makefile that are both standard input; a
-/// word that calls no refusal; a number of an assignment that is none; several makefiles without `-i` and without `--diff` to standard output; `-i` beside `-o` or without the name of
-/// a file; a suffix that is empty or has a `/`, or that
-/// stands without `-i`; a session over `-`. A query that `clap` takes fails for want of memory alone.
+/// neither a script nor `-e`; a script and a makefile that are both standard input; a word that calls
+/// no refusal, or says no colours; a number of an assignment that is none; several makefiles without
+/// `-i` and without `--diff` to standard output; `-i` beside `-o`, beside `--diff` or without the name
+/// of a file; a suffix that is empty or has a `/`, or that stands without `-i`; a session over `-`. A
+/// query that `clap` takes fails for want of memory alone.
 pub fn read_request<'a, R: FromStr + Drop>(
     alloc: Global,
     words: &'a [String],
@@ -595,10 +664,15 @@ where
     R::Err: Drop,
     ensures asks { let texts = map string_bytes words.entry.now in
         IfOk result (Asks R.from_str_gives (subcommand_of (program_for texts) texts)) }
-    ensures query { let texts = map string_bytes words.entry.now in
+    ensures taken { let texts = map string_bytes words.entry.now in
+        IfOk result (λ _. fault_of (program_for texts) texts ≡ []) }
+    ensures fault { let texts = map string_bytes words.entry.now in
+        IfErr result (λ error. HasKind (fault_of (program_for texts) texts) error
+        ⊎ IsRefused R.from_str_gives (subcommand_of (program_for texts) texts)) }
+    ensures refused { let texts = map string_bytes words.entry.now in
         IfErr result (λ error. takes (program_for texts) texts ≡ true
-        → is_query (subcommand_of (program_for texts) texts) ≡ true
-        → kind_of error ≡ OutOfMemory) }
+        → (kind_of error ≡ OutOfMemory)
+        ⊎ IsRefused R.from_str_gives (subcommand_of (program_for texts) texts)) }
 {
     let mut command = program_for(alloc, words)?;
     match command.try_get_matches_from_mut(words) {

@@ -1,12 +1,15 @@
-use Rattle.std.proofs.Common.{◌≡◌, ◌∙◌, true, ap, sym}
+use Rattle.std.proofs.Common.{◌≡◌, true, sym}
 use Rattle.std.specs.Char.{is_ascii_digit}
 use Rattle.std.specs.List.{list_all}
-use Rattle.std.specs.Str.Parse.{digits_value, without_leading_plus}
-use Rattle.mk_command_line.proofs.WordLemmas.{digits_have_no_plus}
+use Rattle.mk_command_line.proofs.WordLemmas.{no_number, number_read}
 use Rattle.mk_command_line.proofs.reading.number.Goals as goal
 
 pub returns-in-Ok : goal.returns-in-Ok
 returns-in-Ok c =
     let digits : list_all is_ascii_digit c.args.word.now ≡ true = sym c.if-not-has_digits_alone.ensures in
-    let number : c.in-Ok.number ≡ digits_value 10 (without_leading_plus c.args.word.now) = c.in-Ok.ensures.value.0.1 in
-    (digits, number ∙ ap (digits_value 10) (digits_have_no_plus c.args.word.now digits))
+    number_read c.args.word.now c.in-Ok.number c.in-Ok.ensures.value.0 digits
+
+pub returns-in-Err : goal.returns-in-Err
+returns-in-Err c =
+    let digits : list_all is_ascii_digit c.args.word.now ≡ true = sym c.if-not-has_digits_alone.ensures in
+    no_number c.args.word.now c.in-Err.ensures.value.0 digits
