@@ -37,8 +37,8 @@ import re
 import sys
 from pathlib import Path
 
-from edit_rows import commands_of
-from row_tables import rows_of_table, unescape
+from row_tables import bytes_of, rows_of_table, unescape
+from script_rows import command_lines_of, fields_of
 
 CASES = Path(__file__).resolve().parent.parent / "cases"
 TABLES = {
@@ -75,11 +75,6 @@ def escape_field(text):
     return escape(text).replace(" ", "\\x20")
 
 
-def column(row, name):
-    """The bytes of a column of a table."""
-    return unescape(row[name]).encode("latin-1")
-
-
 def command_column(fields):
     """The column of a command's fields, the number of `nth` after its word."""
     nth = "-"
@@ -97,8 +92,8 @@ def command_columns(row, goes_on):
     """The replies and the commands of a row, up to the refusal that ended the run."""
     refused = {int(number): reply for number, reply in REPORT.findall(unescape(row["stderr"]))}
     columns = []
-    for number, fields in commands_of(column(row, "script")):
-        columns += [refused.pop(number, "done"), command_column(fields)]
+    for number, line in command_lines_of(bytes_of(row, "script")):
+        columns += [refused.pop(number, "done"), command_column(fields_of(line))]
         if columns[-2] != "done" and not goes_on:
             break
     if refused:
@@ -113,9 +108,9 @@ def row_columns(row):
     depth = int(flags[flags.index("-d") + 1]) if "-d" in flags else DEPTH
     commands = command_columns(row, goes_on)
     written = goes_on or row["status"] == "0"
-    expected = escape(column(row, "stdout")) if written else "-"
+    expected = escape(bytes_of(row, "stdout")) if written else "-"
     limits = [row.get(name) or "-" for name in ("cost", "size")]
-    return ["row", row["name"], str(depth), escape(column(row, "makefile")), expected, *limits, *commands]
+    return ["row", row["name"], str(depth), escape(bytes_of(row, "makefile")), expected, *limits, *commands]
 
 
 def rows_of(table):

@@ -1,7 +1,7 @@
 #!/usr/bin/env python3
-"""Queries as equations that the checker computes.
+"""Queries as rows that the prover computes.
 
-Turns a table into a file of equations, by which the checker computes the definitions of
+Turns a table into a file of rows, by which the prover computes the definitions of
 `crates/mk_queries/specs`. Where the file checks, the definitions give the text of each query.
 
     query_rows.py TABLE
@@ -21,8 +21,8 @@ import re
 import sys
 from pathlib import Path
 
-from reading_rows import antt_text, rows_of
-from row_tables import rows_of_table, unescape
+from reading_rows import rows_of
+from row_tables import antt_text, bare, bytes_of, print_equations, print_lists, rows_of_table
 
 BLANKS = b" \t"
 FOLD = re.compile(rb"[ \t]*\\\r?\n(?:[ \t]*\\\r?\n)*[ \t]*")
@@ -173,52 +173,42 @@ CHOSEN = {"vars": "vars_named_text", "rules": "rules_for_text", "recipes": "reci
 
 def given(table):
     """The rows of a table that says the text of each query."""
-    for columns in rows_of_table(table):
-        text, out = (unescape(columns[name]).encode("latin-1") for name in ("makefile", "stdout"))
-        question = f"{columns['query']}_text"
-        if "word" in columns:
-            question = f"{CHOSEN[columns['query']]} {antt_text(unescape(columns['word']).encode('latin-1'))}"
-        yield columns["name"], question, text, out
+    for row in rows_of_table(table):
+        question = f"{row['query']}_text"
+        if "word" in row:
+            question = f"{CHOSEN[row['query']]} {antt_text(bytes_of(row, 'word'))}"
+        yield row["name"], f"{question} {antt_text(bytes_of(row, 'makefile'))}", antt_text(bytes_of(row, "stdout"))
 
 
 def made(table):
     """The rows of a table of readings: the texts of `vars`, `rules` and `check`."""
     for name, text, reading in rows_of(table):
         laid = lay(text, reading)
-        yield name, text, [text_of(laid) for text_of in QUERIES.values()]
+        texts = [bare(antt_text(text_of(laid))) for text_of in QUERIES.values()]
+        yield name, [bare(antt_text(text)), f"({', '.join(texts)})"]
 
 
-# What the three kinds of files import beside what all need.
-TEXTS = ("Rattle.mk_queries.specs.Queries.{vars_text, rules_text, recipes_text, check_text}", "Rattle.mk_queries.specs.Caveats.{caveats_text}")
-CHOSEN_TEXTS = ("Rattle.mk_queries.specs.Queries.{vars_named_text, rules_for_text, recipes_for_text}",)
-ANSWERS = ("Rattle.mk_rows.proofs.queries.Answers.{Answers, answers}",)
-
-
-def print_file(imported, equations):
-    """Prints what a file imports, and its equations: a name, a question and its answer each."""
-    print("use Rattle.std.proofs.Common.{◌≡◌, refl, []}")
-    print("use Rattle.std.specs.Prelude.{codes}")
-    print("use Rattle.std.specs.Fmt.{digits}")
-    for module in imported:
-        print(f"use {module}")
-    for name, question, answer in equations:
-        row = "row_" + name.replace("-", "_")
-        print(f"\n{row} : {question} ≡ {answer}\nunfolding digits\n{row} = refl")
+IMPORTS = [
+    ("Rattle.std.specs.Fmt", ["digits"]),
+    ("Rattle.mk_queries.specs.Queries", ["vars_text", "rules_text", "recipes_text", "check_text", *CHOSEN.values()]),
+    ("Rattle.mk_queries.specs.Caveats", ["caveats_text"]),
+]
+# The types of what a table of readings asks and is answered, and what it asks.
+ROW_OF_READINGS = "List ℕ × (List ℕ × List ℕ × List ℕ)"
+ASKED_OF_READINGS = "(vars_text row.0, rules_text row.0, check_text row.0)"
 
 
 def main():
     if len(sys.argv) != 2:
         sys.exit("usage: query_rows.py TABLE")
     table = Path(sys.argv[1])
-    head = table.read_text().split("\n", 1)[0].split("\t")
-    says_texts = "query" in head
+    says_texts = "query" in rows_of_table(table)[0]
     where = table.name if says_texts else f"readings/{table.name}"
-    print(f"-- Queries and their texts. Made by `tests/definitions/query_rows.py tests/cases/{where}`.")
+    title = f"Queries and their texts. Made by `tests/definitions/query_rows.py tests/cases/{where}`."
     if says_texts:
-        imported = CHOSEN_TEXTS if "word" in head else TEXTS
-        print_file(imported, ((name, f"{question} {antt_text(text)}", antt_text(out)) for name, question, text, out in given(table)))
+        print_equations(title, IMPORTS, given(table), unfolding="digits")
     else:
-        print_file(ANSWERS, ((name, f"answers {antt_text(text)}", " ".join(["Answers", *map(antt_text, outs)])) for name, text, outs in made(table)))
+        print_lists(title, IMPORTS, made(table), ROW_OF_READINGS, ASKED_OF_READINGS, unfolding="digits")
 
 
 if __name__ == "__main__":

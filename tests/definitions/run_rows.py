@@ -1,46 +1,31 @@
 #!/usr/bin/env python3
-"""Runs as equations that the checker computes.
+"""Runs as rows that the prover computes.
 
-Turns a table of runs with their answers into a file of equations, by which the checker computes the
-definitions of `crates/mk_run/specs`. Where the file checks, these give each run its outcome, its report
+Turns a table of runs with their answers into a file of lists (row_tables.py), by which the prover computes
+the definitions of `crates/mk_run/specs`. Where the file checks, these give each run its outcome, its report
 and its output.
 
     run_rows.py TABLE
 
-tests/gate/rows.py says which file the crate keeps. Of the rows whose script is one edit alone the first for each
-refusal is taken, and the first that is done: the others are equations of `crates/mk_rows`. Rows whose
+tests/gate/rows.py says which files the crate keeps. Of the rows whose script is one edit alone the first for
+each refusal is taken, and the first that is done: the others are rows of edits (edit_rows.py). Rows whose
 script has a fault (status 2) are left out.
 
-A table (row_tables.py) has the columns name, makefile, script, flags, stdout, stderr and status.
+A table has the columns name, makefile, script, flags, stdout, stderr and status.
 """
 
 import re
 import sys
 
-from reading_rows import FLAVORS, antt_text
-from row_tables import head_of, rows_of_table, unescape
-from script_rows import CALLS, SEPARATORS, antt_list, antt_step, is_edit, meaning_of
+from row_tables import antt_bool, antt_text, bare, bytes_of, print_lists, rows_of_table
+from script_rows import SCRIPT_IMPORTS, antt_steps, is_edit, meaning_of
 
 # How many edits a run lets undo where the row does not say it.
 DEPTH = 100
 IMPORTS = [
-    ("Rattle.std.proofs.Common", ["◌≡◌", "refl", "ℕ", "Bool", "true", "false", "List", "[]", "◌∷◌", "Option", "Some", "None"]),
-    ("Rattle.std.specs.Prelude", ["codes"]),
     ("Rattle.std.specs.Fmt", ["digits"]),
-    ("Rattle.mk_class.specs.declared.assignment.Flavor.TheVariants", list(FLAVORS.values())),
-    ("Rattle.mk_edit_language.specs.declared.edit.RuleSeparator.TheVariants", list(SEPARATORS.values())),
-    ("Rattle.mk_edit_language.specs.Edits", ["Bottom", "BeforeVar", "AfterVar", "BeforeRule"]),
-    (
-        "Rattle.mk_edit_language.specs.Edits",
-        ["SetValue", "AppendValue", "AddWord", "RemoveWord", "AddAssign", "RemoveAssign", "AddRule", "RemoveRule", "AddPrereq", "RemovePrereq"]
-        + ["AddRecipe", "SetRecipe", "RemoveRecipe", "InsertRecipe", "SetRecipeByText", "RemoveRecipeByText"]
-        + ["RenameTarget", "ChangeValues"],
-    ),
-    ("Rattle.mk_edit_language.specs.Edits", "edits"),
-    ("Rattle.mk_history.specs.Machine", ["Apply", *CALLS.values()]),
+    *SCRIPT_IMPORTS,
     ("Rattle.mk_history.specs.Shown", ["shown_opened"]),
-    ("Rattle.mk_script.specs.Scripts", ["Step", "Chain"]),
-    ("Rattle.mk_run_rows.proofs.scripts.ScriptReader", ["on_line", "edit_on", "tried_on"]),
     ("Rattle.mk_run.specs.ObeyedSteps", ["obeyed_steps"]),
     ("Rattle.mk_run.specs.Runs", ["RunResult", "result_after"]),
     ("Rattle.mk_run.specs.declared.outcome.Outcome", ["Outcome"]),
@@ -55,46 +40,39 @@ ends outcome report output = record { outcome = outcome; report = report; output
 """
 
 
-def equation_of(row):
-    """The equation of a row."""
+def terms_of(row, steps):
+    """The terms of a row."""
     flags = row["flags"].split(" ")
     depth = int(flags[flags.index("-d") + 1]) if "-d" in flags else DEPTH
     goes_on = "-k" in flags
-    bytes_of = lambda column: unescape(row[column]).encode("latin-1")
-    steps = antt_list([antt_step(step) for step in meaning_of(bytes_of("script"))])
-    refused = bytes_of("stderr").count(b"\n")
-    outcome = f"(Refused {refused})" if refused else "Done"
-    output = f"(Some {antt_text(bytes_of('stdout'))})" if goes_on or not refused else "None"
-    keep_going = "true" if goes_on else "false"
-    run = f"came_to {keep_going} {depth} {antt_text(bytes_of('makefile'))} {steps}"
-    return f"{run} ≡ ends {outcome} {antt_text(bytes_of('stderr'))} {output}"
+    report = bytes_of(row, "stderr")
+    outcome = f"(Refused {count})" if (count := report.count(b"\n")) else "Done"
+    output = f"(Some {antt_text(bytes_of(row, 'stdout'))})" if goes_on or not report else "None"
+    asked = [antt_bool(goes_on), str(depth), bare(antt_text(bytes_of(row, "makefile"))), bare(antt_steps(steps))]
+    return [*asked, f"ends {outcome} {antt_text(report)} {output}"]
 
 
-def chosen(rows):
+def rows_of(table):
     """The rows to take."""
     seen = set()
-    for row in rows:
-        if row["status"] not in ("0", "1"):
-            continue
-        steps = meaning_of(unescape(row["script"]).encode("latin-1"))
+    for row in (row for row in rows_of_table(table) if row["status"] in ("0", "1")):
+        steps = meaning_of(bytes_of(row, "script"))
         if len(steps) == 1 and is_edit(steps[0]):
             refusal = re.sub(r"^\d+: ", "", row["stderr"])
             if refusal in seen:
                 continue
             seen.add(refusal)
-        yield row
+        yield row["name"], terms_of(row, steps)
 
 
 def main():
     if len(sys.argv) != 2:
         sys.exit("usage: run_rows.py TABLE")
     table = sys.argv[1]
-    body = HELPERS
-    for row in chosen(rows_of_table(table)):
-        name = "row_" + row["name"].replace("-", "_")
-        opened = "unfolding digits\n" if row["stderr"] else ""
-        body += f"\n{name} : {equation_of(row)}\n{opened}{name} = refl\n"
-    print(head_of(f"Runs with their answers. Made by `tests/definitions/run_rows.py {table}`.", IMPORTS, body) + body, end="")
+    title = f"Runs with their answers. Made by `tests/definitions/run_rows.py {table}`."
+    row_type = "Bool × ℕ × List ℕ × List Step × RunResult"
+    asked = "came_to row.0 row.1 row.2 row.3"
+    print_lists(title, IMPORTS, rows_of(table), row_type, asked, unfolding="digits", helpers=HELPERS)
 
 
 if __name__ == "__main__":

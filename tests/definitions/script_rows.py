@@ -1,28 +1,28 @@
 #!/usr/bin/env python3
-"""Scripts as equations that the checker computes.
+"""Scripts as rows that the prover computes.
 
-Turns tables of scripts into a file of equations, by which the checker computes the reading of scripts
-in `crates/mk_run_rows`, which is proved to be what the definitions say. What a script means is read here
-by other means: its lines and fields by regular expressions, its commands by the table below. Where a
-table has the column `meaning`, which was written by hand, the answer is the table's, and this reading
+Turns tables of scripts into a file of lists (row_tables.py), by which the prover computes the reading of
+scripts in `crates/mk_rows`, which is proved to be what the definitions say. What a script means is read
+here by other means: its lines and fields by regular expressions, its commands by the table below. Where
+a table has the column `meaning`, which was written by hand, the answer is the table's, and this reading
 has to agree with it.
 
     script_rows.py TABLE..
 
 tests/gate/rows.py says which files the crate keeps.
 
-A table (row_tables.py) has the columns name and script, and perhaps more; of scripts that are alike the
-first is taken. A meaning is the number of the first line that is no command, or a Python list of steps.
-A step is a command: the number of its line, the name of the edit or call, and its arguments; or
-('try', command) for a command behind `try`; or the list of the commands of a chain of alternatives.
+A table has the columns name and script, and perhaps more; of scripts that are alike the first is taken. A
+meaning is the number of the first line that is no command, or a Python list of steps. A step is a
+command: the number of its line, the name of the edit or call, and its arguments; or ('try', command) for
+a command behind `try`; or the list of the commands of a chain of alternatives.
 """
 
 import ast
 import re
 import sys
 
-from reading_rows import FLAVORS, antt_text
-from row_tables import head_of, rows_of_table, unescape
+from reading_rows import FLAVORS
+from row_tables import antt_bool, antt_list, antt_text, bare, bytes_of, print_lists, rows_of_table, unescape
 
 SEPARATORS = {b":": "Single", b"::": "Double"}
 MOST = 4294967295
@@ -67,6 +67,11 @@ def lines_of(script):
         found = LINE.match(script, at)
         yield number, found.group(1)
         at = found.end()
+
+
+def command_lines_of(script):
+    """The lines of a script that are neither blank nor comments, each with its number."""
+    return ((number, line) for number, line in lines_of(script) if line.strip(b" \t") and not line.startswith(b"#"))
 
 
 def fields_of(line):
@@ -179,9 +184,7 @@ def add_step(steps, number, fields):
 def meaning_of(script):
     """The steps of a script with the numbers of their lines, or the first line that is no command."""
     steps = []
-    for number, line in lines_of(script):
-        if line.startswith(b"#") or not line.strip(b" \t"):
-            continue
+    for number, line in command_lines_of(script):
         try:
             add_step(steps, number, fields_of(line))
         except NoCommand:
@@ -210,7 +213,15 @@ def stated(meaning):
     return [step(part) for part in meaning]
 
 
-# ---- equations
+# ---- terms
+
+# Where the number of the line is among the arguments of an edit.
+NTH_AT = {name: len(first) for name, first, _ in EDITS.values()} | dict.fromkeys(("SetRecipe", "RemoveRecipe", "InsertRecipe"), 0)
+
+
+def antt_nth(nth):
+    """A number that may be left out, as a term."""
+    return "None" if nth is None else f"(Some {nth})"
 
 
 def antt_argument(name, part):
@@ -220,110 +231,84 @@ def antt_argument(name, part):
     if isinstance(part, tuple):
         return part[0] if len(part) == 1 else f"({part[0]} {antt_nth(part[1])} {antt_text(part[2])})"
     if isinstance(part, bool):
-        return "true" if part else "false"
+        return antt_bool(part)
     return antt_text(part) if isinstance(part, bytes) else str(part)
 
 
-def antt_nth(nth):
-    """A number that may be left out, as a term."""
-    return "None" if nth is None else f"(Some {nth})"
-
-
-# Where the number of the line stands that an edit means.
-NTH_FIRST = set(
-    "SetValue AppendValue AddWord RemoveWord RemoveAssign RemoveRule RemovePrereq AddRecipe SetRecipe RemoveRecipe"
-    " InsertRecipe SetRecipeByText RemoveRecipeByText".split()
-)
-
-
-def antt_command(name, *arguments):
-    """A command as a term."""
-    if name in CALLS.values():
-        return name
-    parts = list(arguments)
-    nth = 0 if name in NTH_FIRST else 1 if name == "AddPrereq" else None
+def antt_edit(name, *arguments):
+    """An edit as a term."""
     sign = {"AddAssign": FLAVORS, "AddRule": SEPARATORS}.get(name)
     terms = [
-        antt_nth(part) if at == nth else sign[part] if sign and at == 2 else antt_argument(name, part)
-        for at, part in enumerate(parts)
+        antt_nth(part) if at == NTH_AT.get(name) else sign[part] if sign and at == 2 else antt_argument(name, part)
+        for at, part in enumerate(arguments)
     ]
-    return f"(Apply ({name} {' '.join(terms)}))"
-
-
-def antt_edit_on(number, name, *arguments):
-    """An edit in its line as the arguments of a term."""
-    return f"{number} {antt_command(name, *arguments).removeprefix('(Apply ').removesuffix(')')}"
-
-
-def antt_list(terms):
-    """A list of terms as a term."""
-    return "(" + " ∷ ".join([*terms, "[]"]) + ")" if terms else "[]"
+    return f"({name} {' '.join(terms)})"
 
 
 def antt_step(step):
     """A step as a term."""
     if isinstance(step, list):
-        first, second, *others = [f"(edit_on {antt_edit_on(*command)})" for command in step]
+        first, second, *others = [f"(edit_on {number} {antt_edit(*edit)})" for number, *edit in step]
         return f"Chain {first} {second} {antt_list(others)}"
     if step[0] == "try":
-        return f"tried_on {antt_edit_on(*step[1])}"
+        number, *edit = step[1]
+        return f"tried_on {number} {antt_edit(*edit)}"
     number, *command = step
-    return f"on_line {number} {antt_command(*command)}"
+    return f"on_line {number} {f'(Apply {antt_edit(*command)})' if is_edit(step) else command[0]}"
+
+
+def antt_steps(steps):
+    """The steps of a script as a term."""
+    return antt_list([antt_step(step) for step in steps])
 
 
 def antt_meaning(meaning):
     """A meaning as a term."""
-    if isinstance(meaning, int):
-        return f"Err {meaning}"
-    return "Ok " + antt_list([antt_step(step) for step in meaning])
+    return f"Err {meaning}" if isinstance(meaning, int) else f"Ok {antt_steps(meaning)}"
 
 
-# The modules that a file may need, and their names; it imports those that it has.
-IMPORTS = [
-    ("Rattle.std.proofs.Common", ["◌≡◌", "refl", "[]", "◌∷◌", "Some", "None", "true", "false"]),
-    ("Rattle.std.specs.Prelude", ["codes", "Ok", "Err"]),
-    ("Rattle.bstr.specs.Text", ["line_len", "lines_from"]),
+# The modules of edits and of scripts.
+EDIT_IMPORTS = [
     ("Rattle.mk_class.specs.declared.assignment.Flavor.TheVariants", list(FLAVORS.values())),
     ("Rattle.mk_edit_language.specs.declared.edit.RuleSeparator.TheVariants", list(SEPARATORS.values())),
-    ("Rattle.mk_edit_language.specs.Edits", ["Bottom", *PLACES.values()]),
-    (
-        "Rattle.mk_edit_language.specs.Edits",
-        ["SetValue", "AppendValue", "AddWord", "RemoveWord", "AddAssign", "RemoveAssign", "AddRule", "RemoveRule", "AddPrereq", "RemovePrereq"]
-        + ["AddRecipe", "SetRecipe", "RemoveRecipe", "InsertRecipe", "SetRecipeByText", "RemoveRecipeByText"]
-        + ["RenameTarget", "ChangeValues"],
-    ),
+    ("Rattle.mk_edit_language.specs.Edits", ["Edit", "Bottom", *PLACES.values()]),
+    ("Rattle.mk_edit_language.specs.Edits", [*NTH_AT, "ChangeValues", "AddAssign", "AddRule", "RenameTarget"]),
     ("Rattle.mk_edit_language.specs.Edits", "edits"),
+]
+SCRIPT_IMPORTS = [
+    *EDIT_IMPORTS,
     ("Rattle.mk_history.specs.Machine", ["Apply", *CALLS.values()]),
-    ("Rattle.mk_script.specs.Scripts", ["Chain"]),
-    ("Rattle.mk_run_rows.proofs.scripts.ScriptReader", ["on_line", "edit_on", "tried_on", "read_script"]),
+    ("Rattle.mk_script.specs.Scripts", ["Step", "Chain"]),
+    ("Rattle.mk_rows.proofs.scripts.ScriptReader", ["on_line", "edit_on", "tried_on", "read_script"]),
 ]
 
 
-def rows_of(table):
-    """The names, scripts and meanings of a table."""
-    for row in rows_of_table(table):
-        script = unescape(row["script"]).encode("latin-1")
+# ---- rows
+
+
+def rows_of(tables):
+    """The scripts of tables that are not alike, with their meanings."""
+    seen = set()
+    for row in (row for table in tables for row in rows_of_table(table)):
+        script = bytes_of(row, "script")
         meaning = meaning_of(script)
         if "meaning" in row:
             hand = stated(ast.literal_eval(unescape(row["meaning"])))
             if hand != meaning:
                 sys.exit(f"{row['name']}: the table says {hand}, the reading {meaning}")
-        yield "row_" + row["name"].replace("-", "_"), script, meaning
+        if script not in seen:
+            seen.add(script)
+            yield row["name"], [bare(antt_text(script)), antt_meaning(meaning)]
 
 
 def main():
     tables = sys.argv[1:]
     if not tables:
         sys.exit("usage: script_rows.py TABLE..")
-    body, seen = "", set()
-    for name, script, meaning in [row for table in tables for row in rows_of(table)]:
-        if script in seen:
-            continue
-        seen.add(script)
-        body += f"\n{name} : read_script {antt_text(script)} ≡ {antt_meaning(meaning)}\n"
-        body += f"unfolding line_len lines_from\n{name} = refl\n"
     title = f"Scripts and what they mean. Made by `tests/definitions/script_rows.py {' '.join(tables)}`."
-    print(head_of(title, IMPORTS, body) + body, end="")
+    imports = [("Rattle.bstr.specs.Text", ["line_len", "lines_from"]), *SCRIPT_IMPORTS]
+    row_type = "List ℕ × Result (List Step) ℕ"
+    print_lists(title, imports, rows_of(tables), row_type, "read_script row.0", unfolding="line_len lines_from")
 
 
 if __name__ == "__main__":

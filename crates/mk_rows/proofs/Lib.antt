@@ -1,2 +1,4 @@
 mod edits
 mod queries
+mod scripts
+mod runs

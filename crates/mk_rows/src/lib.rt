@@ -1,8 +1,10 @@
-//! The definitions of `mk_edit_language` and of `mk_queries`, computed on rows with answers from outside.
+//! The definitions of edits, queries, scripts and runs, computed on rows with answers from outside.
 //!
-//! There is no code here: `proofs/` has an equation for each row, which the check computes. It is a
-//! crate of its own, since 10,000 lines of equations take memory, and nothing stands on them.
+//! There is no code here: `proofs/` has lists of rows, and an equation for each list, which the check
+//! computes. It is a crate of its own, since 6,000 rows take memory and time, and no other crate uses them.
 //!
 //! - `proofs/edits`: what each edit makes of a text, or why it is refused.
 //! - `proofs/queries`: what each query prints of a makefile.
+//! - `proofs/scripts`: what each script says, or its first line that is no command.
+//! - `proofs/runs`: what each run of a script prints, and how it ends.
 #![tactic(auto)]

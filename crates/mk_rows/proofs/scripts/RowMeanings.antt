@@ -3,7 +3,7 @@
 use Rattle.std.proofs.Common.{◌≡◌, ℕ, List}
 use Rattle.std.specs.Prelude.{◌↔◌, Ok, Err}
 use Rattle.mk_script.specs.Scripts.{Step, IsScript, HasNoCommand}
-use Rattle.mk_run_rows.proofs.scripts.ScriptReader.{read_script, read-steps, read-no_command, steps-read, no_command-read}
+use Rattle.mk_rows.proofs.scripts.ScriptReader.{read_script, read-steps, read-no_command, steps-read, no_command-read}
 
 row_of_steps : (script : List ℕ) (steps : List Step) → (read_script script ≡ Ok steps) ↔ IsScript script steps
 row_of_steps script steps = (read-steps script steps, steps-read script steps)

@@ -1,2 +1,0 @@
-mod scripts
-mod runs
