@@ -66,8 +66,7 @@ class Believed:
     def below_type(self, place):
         """What a type shows, as definitions and types."""
         if place not in self.types:
-            found, types = self.named.of_type(place)
-            self.types[place] = [*found, *types]
+            self.types[place] = self.named.of_type(place)
         return self.types[place]
 
     def reached(self, waiting):
@@ -84,16 +83,15 @@ class Believed:
 
     def of_call(self, name):
         """What is believed of a public call."""
-        found, types = self.named.of_call(*self.call(name))
-        return self.reached([*found, *types])
+        return self.reached(self.named.of_call(*self.call(name)))
 
     def of_all(self):
         """What is believed of all public calls and types."""
         waiting = set()
         for call in self.calls.values():
-            waiting = waiting.union(*self.named.of_call(*call))
+            waiting |= self.named.of_call(*call)
         for crate in self.surface.crates:
-            waiting = waiting.union(self.surface.public[crate], self.named.of_impls(crate))
+            waiting |= self.surface.public_types(crate) | self.named.of_impls(crate)
         return self.reached(waiting)
 
     def call(self, name):
