@@ -4,7 +4,7 @@
     test_lint   tests of the lint
     rows        the stored files of rows
     listed      the crates of crates.txt
-    believed    what one has to believe: surface
+    believed    what one has to believe, for `make texts`: surface
 
-lint, test_lint, rows and believed are commands too, as `python3 -m tests.gate.lint`.
+lint, test_lint and rows are commands too, as `python3 -m tests.gate.lint`.
 """

@@ -28,21 +28,13 @@ COUNTS = re.compile(r"(\d+) passed, (\d+) failed\n?")
 
 
 class Part(NamedTuple):
-    """What a part of the test came to, and the seconds that it took."""
+    """What a part of the test came to, and the seconds that it took, on the clock and of the processors."""
 
     name: str
     passed: int
     failed: int
-    wall: float
-    processor: float
-
-    def __str__(self):
-        return f"{self.name} {shown(self.wall)} ({shown(self.processor)})"
-
-
-def shown(seconds):
-    minutes, seconds = divmod(round(seconds), 60)
-    return f"{minutes} min {seconds} s" if minutes else f"{seconds} s"
+    clock: float = 0
+    processors: float = 0
 
 
 def run(name, *words):
@@ -53,53 +45,47 @@ def run(name, *words):
         process = subprocess.Popen(words, cwd=TOP, stdout=subprocess.PIPE, text=True, errors="replace")
     except OSError as fault:
         print(f"{words[0]}: {fault.strerror}", flush=True)
-        return Part(name, 0, 1, 0, 0)
+        return Part(name, 0, 1)
     for last in process.stdout:
         print(last, end="", flush=True)
-    _, status, usage = os.wait4(process.pid, 0)
-    process.returncode = status
+    _, process.returncode, usage = os.wait4(process.pid, 0)
     found = COUNTS.fullmatch(last)
     passed, failed = map(int, found.groups()) if found else (0, 1)
-    seconds = time.monotonic() - start, usage.ru_utime + usage.ru_stime
-    return Part(name, passed, failed or int(status != 0), *seconds)
+    failed = failed or int(process.returncode != 0)
+    return Part(name, passed, failed, time.monotonic() - start, usage.ru_utime + usage.ru_stime)
 
 
 def module(name, *words):
     return run(name, sys.executable, "-B", "-m", f"tests.{name}", *words)
 
 
-def is_made(path, *words):
-    """Runs a command that makes a file, and says whether it did."""
-    return subprocess.run(words, cwd=TOP).returncode == 0 and (TOP / path).is_file()
-
-
-def program(path, has_it, *words):
+def program(path, is_made, *words):
     """The tests of the program; where there is none, that is one failure."""
-    if has_it:
+    if is_made and (TOP / path).is_file():
         return module("program", *words, path)
     print(f"there is no {path} to be tested", flush=True)
-    return Part("program", 0, 1, 0, 0)
+    return Part("program", 0, 1)
 
 
 def proved():
     """Runs rt ci, and tests the program that it has built."""
-    start = time.time()
+    start, built = time.time(), TOP / PROVED
     yield run("rt ci", "rt", "ci")
-    built = TOP / PROVED
     is_new = built.is_file() and built.stat().st_mtime >= start
-    yield program(BUILT, is_new and is_made(BUILT, "tools/link", PROVED, BUILT))
+    yield program(BUILT, is_new and not subprocess.run(["tools/link", PROVED, BUILT], cwd=TOP).returncode)
 
 
 def tried():
     """Tests the program that tools/try builds."""
-    yield program(TRIED, is_made(TRIED, "make", "-s", TRIED), "--quick")
+    yield program(TRIED, not subprocess.run(["make", "-s", TRIED], cwd=TOP).returncode, "--quick")
 
 
 def main():
     parts = [module(it) for it in ("gate.lint", "gate.test_lint", "gate.rows")]
     parts += tried() if sys.argv[1:] == ["--quick"] else proved()
     failed = sum(it.failed for it in parts)
-    print(f"took (of processor time): {', '.join(map(str, parts))}")
+    print("seconds on the clock (of the processors):", end=" ")
+    print(", ".join(f"{it.name} {it.clock:.0f} ({it.processors:.0f})" for it in parts))
     print(f"{sum(it.passed for it in parts)} passed, {failed} failed", flush=True)
     return 1 if failed else 0
 
