@@ -21,7 +21,7 @@ HERE = Path(__file__).resolve().parent
 # The tests that take longest are begun first.
 LONG = ("test_judge", "test_tables", "test_queries", "test_random_work")
 # Those that take minutes over a program that checks itself.
-SLOW_UNPROVED = (*LONG, "test_hostile_shapes", "test_large_edits")
+SLOW_UNPROVED = (*LONG, "test_hostile_shapes", "test_large_edits", "test_limits")
 
 
 def said(fault):
