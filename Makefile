@@ -1,20 +1,18 @@
 # Builds, shows, tests, installs and measures mkedit. The toolchain's command, rt, proves and
 # builds the crates; this file says what is made from what.
 #
-#   make            proves and builds the program, where a source has changed, with one line a crate;
-#                   what the prover says is in crates/mkedit/out/build.log. The program,
+#   make            proves and builds the program, where a source has changed, with one line a crate
+#                   (tools/build); what rt says is in crates/mkedit/out/build.log. The program,
 #                   crates/mkedit/out/bin/mkedit, has the C library in it where the machine has a
 #                   static one, so that it starts sooner (tools/link)
 #   make demo       shows scripts at work, one that is refused, and the queries; the program that it
 #                   shows is built in a minute, with checks while it runs and without proofs
 #                   (tools/try), and is not the one of make: crates/mkedit/out/tried/mkedit
-#   make check      the test of a change (tests/gate): the house, the stored rows, the proofs of the
-#                   crates that the program stands on with a share of the wrong bodies, the tests of
-#                   all crates with run-time checks, and tests/program over what was proved and built;
-#                   the last line is 'N passed, M failed, K skipped', the sum; skipped are the wrong
-#                   bodies that were not tried
-#   make check-all  all wrong bodies, and all that rt ci does at the top of the repository; for some
-#                   crates and those below them alone with CRATES="mk_edit mk_session"
+#   make test       the quick test of a change, in minutes: the lint, the stored rows, and the tests of
+#                   the program that make demo shows; nothing is proved
+#   make check      the test of a change before it is merged (tests/gate): the lint, the stored rows, all
+#                   proofs, must-fail edits and tests of the crates (rt ci), and the tests of the program
+#                   that was proved; its last line is 'N passed, M failed', as that of make test
 #   make soak       tries the program on random makefiles and scripts for MINUTES minutes; prints
 #                   the seed, which SEED=N takes again
 #   make judge      has GNU make judge edits of random makefiles, for MINUTES minutes
@@ -46,7 +44,7 @@
 #
 # It is written for POSIX.1-2024 make, which GNU make 4 reads as well.
 .POSIX:
-.PHONY: all demo check check-all hostile judge soak fuzz rows texts dist deb install uninstall bench clean
+.PHONY: all demo test check hostile judge soak fuzz rows texts dist deb install uninstall bench clean
 
 PREFIX ?= /usr/local
 BINDIR ?= $(PREFIX)/bin
@@ -63,15 +61,13 @@ BUILT = crates/mkedit/out/mkedit
 # The same program without proofs, with checks while it runs.
 TRIED = crates/mkedit/out/tried/mkedit
 BENCH = crates/mk_bench/out/mk_bench
-SMALL = examples/config.mk
 SOURCES != find crates -name out -prune -o '(' -name '*.rt' -o -name '*.antt' ')' -print
 
 all: $(PROGRAM)
 
-# rt run is the one command of rt that leaves a linked program, and it always runs it too; tools/build
-# shows its steps. The program is linked anew each time, so that it is newer than each source.
-$(PROGRAM): crates.txt HANDLES tools/link $(SOURCES)
-	@tools/build mkedit --help
+# The program is linked each time, so that it is newer than each source.
+$(PROGRAM): crates.txt HANDLES tools/build tools/link $(SOURCES)
+	@tools/build mkedit
 	@tools/link $(BUILT) $@
 
 $(TRIED): crates.txt tools/try $(SOURCES)
@@ -83,12 +79,12 @@ demo: $(TRIED)
 	@echo "The program that ran is $(TRIED). It is built without proofs, and checks end it at a fault."
 	@echo "'make' proves mkedit, and builds the program that 'make install' installs."
 
-# Needs no program: the gate proves and builds its own, and takes nothing from what make has proved.
+test:
+	@python3 -B -m tests.gate --quick
+
+# Needs no program: rt ci proves and builds its own.
 check:
 	@python3 -B -m tests.gate
-
-check-all:
-	@python3 -B -m tests.gate --all $(CRATES)
 
 hostile: $(PROGRAM)
 	@python3 -B -m tests.hostile $(BUILT)
@@ -108,12 +104,15 @@ texts:
 judge: $(PROGRAM)
 	@python3 -B -m tests.judge --minutes $(MINUTES) $(PROGRAM)
 
-# The program is linked again, so that it tells the commit that is checked out now.
+# A release has the C library in it, for which tools/link needs the object file. The program is linked
+# again, so that it tells the commit that is checked out now.
 dist: $(PROGRAM)
+	@test -f $(BUILT).o || tools/build mkedit
 	@tools/link $(BUILT) $(PROGRAM)
 	@tools/dist $(PROGRAM) "$(DIST)"
 
 deb: $(PROGRAM)
+	@test -f $(BUILT).o || tools/build mkedit
 	@tools/link $(BUILT) $(PROGRAM)
 	@MAINTAINER="$(MAINTAINER)" tools/deb $(PROGRAM) "$(DIST)"
 
@@ -134,10 +133,8 @@ uninstall:
 	rm -f "$(DESTDIR)$(BASHCOMPDIR)/mkedit" "$(DESTDIR)$(ZSHCOMPDIR)/_mkedit"
 	rm -f "$(DESTDIR)$(FISHCOMPDIR)/mkedit.fish"
 
-# The bench measures a file. Any will do where it is only built.
-$(BENCH): crates.txt HANDLES $(SOURCES)
-	@tools/build mk_bench edits ../../$(SMALL)
-	@touch $@
+$(BENCH): crates.txt HANDLES tools/build $(SOURCES)
+	@tools/build mk_bench
 
 bench: $(PROGRAM) $(BENCH)
 	@bench/run $(PROGRAM)

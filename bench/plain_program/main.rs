@@ -15,17 +15,14 @@
 //!     a CR or a NUL, a last line without line end, an empty value in `set`
 //!     `nth`, groups, and a depth: it can undo every edit
 
-#[path = "../floor_program/bytes.rs"]
 #[allow(dead_code, reason = "numbers are not written here")]
 mod bytes;
 mod document;
 mod edits;
-#[path = "../floor_program/lines.rs"]
 #[allow(dead_code, reason = "folds are not looked at here")]
 mod lines;
 mod parts;
 mod script;
-#[path = "../floor_program/table.rs"]
 mod table;
 
 use document::Document;

@@ -1,13 +1,10 @@
-"""The gate: what has to pass before a change lands. `python3 -m tests.gate` is `make check`.
+"""The test of a change: `python3 -m tests.gate` is `make check`, with `--quick` it is `make test`.
 
-    house       what the crates say twice or say in vain (antt, names, statements, chapters, layout, repeats,
-                bodies, maps), and what one has to believe (sources, surface, believed)
+    lint        what a reader of one file does not see: documents, antt and names, believed
+    test_lint   tests of the lint
     rows        the stored files of rows
-    crates      proofs and wrong bodies: `rt ci` made quicker (proving, rounds, wrong_bodies)
-    tries       tests and programs of crates with run-time checks; the crates of tests as one (joined)
-    share       which wrong bodies a run tries
-    part        a part of the repository as a repository of its own
     listed      the crates of crates.txt
+    believed    what one has to believe, for `make texts`: surface
 
-Each of the first three is a command too, as `python3 -m tests.gate.house`. test_gate.py tests the gate itself.
+lint, test_lint and rows are commands too, as `python3 -m tests.gate.lint`.
 """

@@ -1,7 +1,5 @@
 """What one has to believe of mkedit: the definitions that its public contracts stand on.
 
-    python3 -m tests.gate.believed NAME..    the definitions of some calls, such as mk_edit::plan
-
 Believed is what the contract of a public call names, what those definitions name, and so on down; likewise
 what the types of its values show, and what it asks of devices (surface.py). All other definitions are vocabulary:
 contracts within a crate speak of them, and no public contract does. So specs/Lib.antt of each crate has its
@@ -10,7 +8,6 @@ definition stands in the first.
 """
 
 import re
-import sys
 from functools import cached_property
 from typing import NamedTuple, Tuple
 
@@ -66,8 +63,7 @@ class Believed:
     def below_type(self, place):
         """What a type shows, as definitions and types."""
         if place not in self.types:
-            found, types = self.named.of_type(place)
-            self.types[place] = [*found, *types]
+            self.types[place] = self.named.of_type(place)
         return self.types[place]
 
     def reached(self, waiting):
@@ -84,16 +80,15 @@ class Believed:
 
     def of_call(self, name):
         """What is believed of a public call."""
-        found, types = self.named.of_call(*self.call(name))
-        return self.reached([*found, *types])
+        return self.reached(self.named.of_call(*self.call(name)))
 
     def of_all(self):
         """What is believed of all public calls and types."""
         waiting = set()
         for call in self.calls.values():
-            waiting = waiting.union(*self.named.of_call(*call))
+            waiting |= self.named.of_call(*call)
         for crate in self.surface.crates:
-            waiting = waiting.union(self.surface.public[crate], self.named.of_impls(crate))
+            waiting |= self.surface.public_types(crate) | self.named.of_impls(crate)
         return self.reached(waiting)
 
     def call(self, name):
@@ -135,51 +130,13 @@ class Believed:
                 yield Share(self.files[module].shown, module, names, sum(self.lines[module, it] for it in names))
 
 
-def part_problems(shown, text, module, needed):
-    """What is wrong with the order of a crate's Lib.antt; `needed` has a definition for each module that needs one."""
-    part, told = None, []
-    for line in text.splitlines():
-        heading = line[len("-- # ") :] if line.startswith("-- # ") else ""
-        found = re.match(r"pub mod (\w+)", line)
-        if heading in (PUBLIC, PRIVATE):
-            told.append(heading)
-            part = heading
-        elif found:
-            name = needed.get(f"{module}.{found[1]}")
-            wanted = PRIVATE if name is None else PUBLIC
-            why = "no public contract needs it" if name is None else f"a public contract needs its {name}"
-            if part != wanted:
-                yield f"{shown}: {found[1]} belongs below `{wanted}`: {why}"
-    if told not in ([PUBLIC], [PRIVATE], [PUBLIC, PRIVATE]):
-        yield f"{shown}: it has not the headings `{PUBLIC}` and `{PRIVATE}`, once each and in this order"
-
-
 def problems(files=None, top=TOP):
-    """Each module that stands in the wrong part of its Lib.antt."""
-    believed = Believed(top, files)
-    found = sorted((it for it in believed.of_all() if not isinstance(it, Place)), reverse=True)
-    needed = dict(found)
+    """Each module that is in the wrong part of its Lib.antt."""
+    needed = {it[0] for it in Believed(top, files).of_all() if not isinstance(it, Place)}
     for file in sorted(top.glob("crates/*/specs/Lib.antt")):
         module = f"Rattle.{file.parent.parent.name}.specs"
-        yield from part_problems(file.relative_to(top), file.read_text(encoding="utf-8"), module, needed)
-
-
-def main():
-    if not sys.argv[1:]:
-        print(__doc__.split("\n\n")[1])
-        return 2
-    believed = Believed()
-    for name in sys.argv[1:]:
-        try:
-            shares = [*believed.shares(believed.of_call(name))]
-        except ValueError as fault:
-            print(fault)
-            return 1
-        for it in shares:
-            print(f"{it.shown}: {it.lines} lines: {', '.join(it.names)}")
-        print(f"{name}: {sum(len(it.names) for it in shares)} definitions, {sum(it.lines for it in shares)} lines")
-    return 0
-
-
-if __name__ == "__main__":
-    sys.exit(main())
+        parts = file.read_text(encoding="utf-8").partition(f"-- # {PRIVATE}")
+        for part, wanted, other in ((parts[0], PUBLIC, PRIVATE), (parts[2], PRIVATE, PUBLIC)):
+            for name in re.findall(r"^pub mod (\w+)", part, re.M):
+                if (f"{module}.{name}" in needed) != (wanted == PUBLIC):
+                    yield f"{file.relative_to(top)}: {name} belongs below `{other}`"

@@ -4,28 +4,107 @@ A call is public if it is a `pub` function of a public module, if the crate hand
 it is a function of a public type or trait. Its contract is what its clauses say of the values that it takes and
 gives. What such a value is says its type: a type with a model shows itself as the model's value, which its
 view gives; another one as its fields. What a trait asks of a device is a premise of each call that takes one.
+
+The sources are read in the layout that `rt fmt` gives: an item begins a line, deeper than the block that it
+is in. A type is found by its name: in its file, or, where the file imports the name, in its crate or the nearest
+crate below that has it.
 """
 
 import re
-from typing import NamedTuple
+from typing import NamedTuple, Tuple
 
 from tests import TOP
 
 from . import antt
-from .listed import listed
-from .sources import INNER, TYPE, imported, sources_of
+from .listed import listed, with_below
 
-MODEL = "Model"
+NO_CODE = re.compile(r"""\bb?r(#*)"[\s\S]*?"\1|b?'(?:\\[\s\S]|[^'\\])'|"(?:\\[\s\S]|[^"\\])*"|//[^\n]*""")
+ITEM = re.compile(
+    r"^(?P<indent> *)(?P<pub>pub )?(?:pub\([^)]*\) )?(?:(?:unsafe|const|default) )*"
+    r"(?P<kind>fn|struct|enum|trait|impl|mod|use|ghost|const|static|type)\b",
+    re.M,
+)
+IMPL = re.compile(r"impl(?:<.*?>)? (?:(?:\w+::)*(\w+)(?:<.*?>)? for )?&?(?:mut )?(?:'\w+ )?(?:\w+::)*(\w+)")
+NAMED = re.compile(r"(?:fn|struct|enum|trait|mod|ghost) (\w+)")
+CLAUSE = re.compile(r"^\s+(?:requires|ensures|decreases)\b", re.M)
+HANDED_OUT = re.compile(r"\bpub use ([^;]*);")
+TYPE = re.compile(r"\b[A-Z]\w*")
 # A field of a struct that users see.
 FIELD = re.compile(r"\bpub \w+: ([^\n]*)")
+MODEL = "Model"
+# What a model has for the prover alone: what holds of each value, and the steps of a proof. No reader of a
+# contract meets it.
+INNER = ("use", "invariant", "inverse", "size", "size_decreases")
 
 
 class Place(NamedTuple):
-    """An item of a crate: its module and its name."""
+    """A type or a trait of a crate: its module and its name."""
 
     crate: str
     module: tuple
     name: str
+
+
+class Function(NamedTuple):
+    """A function, and what stands before its body."""
+
+    name: str
+    is_pub: bool
+    contract: str
+
+
+class Block(NamedTuple):
+    """A type, a trait, or a block of functions: its ghost members and its functions."""
+
+    kind: str
+    trait: str
+    name: str
+    text: str
+    ghosts: Tuple[str, ...]
+    functions: Tuple[Function, ...]
+
+
+def function_of(item, text):
+    body = re.search(rf"^{item['indent']}\{{$", text, re.M)
+    end = body.start() if body else len(text) if CLAUSE.search(text) else text.find("{")
+    return Function(NAMED.search(text)[1], bool(item["pub"]), text[:end])
+
+
+class Source:
+    """A source of a crate: its module, and its items in blocks."""
+
+    def __init__(self, folder, path):
+        self.crate, self.shown = folder.name, path.relative_to(folder.parent).as_posix()
+        names = path.relative_to(folder / "src").with_suffix("").parts
+        self.module = names[:-1] if names[-1] in ("lib", "main", "mod") else names
+        self.code = NO_CODE.sub("", path.read_text(encoding="utf-8"))
+        self.uses = {}
+        for item in re.findall(r"\bghost use ([^;]*);", self.code):
+            self.uses.update((it.local, it) for it in antt.uses_of(antt.tokens_of("use " + item)))
+        self.functions, self.blocks = [], []
+        self.modules = re.findall(r"^pub mod (\w+)", self.code, re.M)
+        self.imports = {word for use in re.findall(r"\buse ([^;]*);", self.code) for word in re.findall(r"\w+", use)}
+        self.read([*ITEM.finditer(self.code)])
+
+    def text_of(self, items, at):
+        """An item up to the next one that is not deeper."""
+        ends = (it.start() for it in items[at + 1 :] if len(it["indent"]) <= len(items[at]["indent"]))
+        return self.code[items[at].start() : next(ends, len(self.code))]
+
+    def read(self, items):
+        deepest = {}
+        for at, item in enumerate(items):
+            indent, text = len(item["indent"]), self.text_of(items, at)
+            deepest = {it: block for it, block in deepest.items() if it < indent}
+            owner = deepest[max(deepest)] if deepest else None
+            if item["kind"] == "fn":
+                (owner.functions if owner else self.functions).append(function_of(item, text))
+            elif item["kind"] == "ghost" and owner and NAMED.search(text)[1] not in INNER:
+                owner.ghosts.append(text)
+            elif item["kind"] in ("struct", "enum", "trait", "impl"):
+                trait, name = IMPL.search(text).groups("") if item["kind"] == "impl" else ("", NAMED.search(text)[1])
+                deepest[indent] = Block(item["kind"], trait, name, text, [], [])
+                self.blocks.append(deepest[indent])
 
 
 class Surface:
@@ -33,54 +112,26 @@ class Surface:
 
     def __init__(self, top=TOP):
         self.crates = listed(top)
-        self.sources = {it.name: sources_of(it.name, it.folder) for it in self.crates.values()}
-        self.public = {name: self.public_of(name) for name in self.crates}
-
-    def target(self, crate, module, path):
-        """The item that a path means in a module, where a crate of ours has it, or None."""
-        sources = self.sources[crate]
-        if path[0] in ("crate", "self", "super"):
-            start = {"crate": (), "self": module, "super": module[:-1]}[path[0]]
-            places = [(crate, start + path[1:])]
-        else:
-            places = [(crate, module + path), (crate, path)]
-            places += [(path[0], path[1:])] if path[0] in self.crates and len(path) > 1 else []
-        for owner, whole in places:
-            if whole[:-1] in self.sources[owner] and (whole[:-1] != module or sources is not self.sources[owner]):
-                found = self.item(owner, whole[:-1], whole[-1])
-                if found:
-                    return found
-        return None
+        self.sources, self.places, self.handed_out = {}, {}, {}
+        for name, crate in self.crates.items():
+            found = [Source(crate.folder, it) for it in sorted((crate.folder / "src").rglob("*.rt"))]
+            self.sources[name] = {it.module: it for it in found}
+            blocks = ((it, block) for it in found for block in it.blocks if block.kind != "impl")
+            self.places[name] = [Place(name, it.module, block.name) for it, block in blocks]
+            self.handed_out[name] = {word for it in found for use in HANDED_OUT.findall(it.code) for word in re.findall(r"\w+", use)}
 
     def item(self, crate, module, name):
-        """The item that a module has under a name: a function, a type or a trait; or None."""
-        source = self.sources[crate].get(module)
-        if source is None:
-            return None
-        own = [it.name for it in source.functions] + [it.name for it in source.blocks if it.kind != "impl"]
-        if name in own:
+        """The type or trait that a name means in a module, or None."""
+        if Place(crate, module, name) in self.places[crate]:
             return Place(crate, module, name)
-        for use in source.imports:
-            for local, path in imported(use):
-                if local == name:
-                    return self.target(crate, module, path)
-        return None
+        source = self.sources[crate].get(module)
+        crates = reversed(with_below(self.crates, [crate])) if source and name in source.imports else ()
+        return next((it for owner in crates for it in self.places[owner] if it.name == name), None)
 
-    def public_of(self, crate):
-        """The places of the public items of a crate."""
-        sources, found, left = self.sources[crate], set(), [()]
-        while left:
-            module = left.pop()
-            source = sources.get(module)
-            if source is None or source.shown.endswith("main.rt"):
-                continue
-            left += [module + (it.name,) for it in source.modules if it.is_pub]
-            blocks = [it for it in source.blocks if it.kind != "impl"]
-            found |= {Place(crate, module, it.name) for it in source.functions + blocks if it.is_pub}
-            for use in (it for it in source.imports if it.is_pub):
-                handed = [self.target(crate, module, path) for _, path in imported(use)]
-                found |= {it for it in handed if it and it.crate == crate}
-        return found
+    def is_public(self, crate, module, name):
+        opened = all(it in self.sources[crate][module[:at]].modules for at, it in enumerate(module))
+        is_program = self.crates[crate].is_program
+        return not is_program and (opened or name in self.handed_out[crate])
 
     def blocks_of(self, crate):
         """All blocks of a crate, each with its source and the place of what it is a block of."""
@@ -88,77 +139,64 @@ class Surface:
             for block in source.blocks:
                 yield source, block, self.item(crate, source.module, block.name)
 
+    def public_types(self, crate):
+        return {it for it in self.places[crate] if self.is_public(*it)}
+
     def public_calls(self, crate):
         """The public functions of a crate, each with its source, its block and its path below the crate."""
         for source in self.sources[crate].values():
-            for function in source.functions:
-                place = Place(crate, source.module, function.name)
-                if place in self.public[crate]:
-                    yield source, None, function, "::".join(source.module + (function.name,))
+            for it in source.functions:
+                if it.is_pub and self.is_public(crate, source.module, it.name):
+                    yield source, None, it, "::".join((*source.module, it.name))
         for source, block, place in self.blocks_of(crate):
-            is_own = place in self.public[crate]
-            for function in block.functions if is_own or place is None else ():
-                if block.kind == "trait" or block.trait or function.is_pub:
-                    yield source, block, function, "::".join(source.module + (function.name,))
-
-
-def union(pairs):
-    """Pairs of sets as one pair."""
-    pairs = [*pairs]
-    return tuple(set().union(*(pair[part] for pair in pairs)) for part in (0, 1))
+            is_foreign = place is None or place.crate != crate
+            for it in block.functions if is_foreign or self.is_public(*place) else ():
+                if block.kind == "trait" or block.trait or it.is_pub:
+                    owner = f"{block.name} as {block.trait}" if block.trait else block.name
+                    yield source, block, it, "::".join((*source.module, owner, it.name))
 
 
 def shown_by(block):
     """The texts of a block that tell its users what a value is, or what a device has to do."""
     if block.trait == MODEL or block.kind == "trait":
-        yield from (text for name, text in block.ghosts if name not in INNER)
-        yield from (text for it in block.functions for text in (it.head, it.clauses))
-    elif block.kind == "enum":
-        yield block.text
-    elif block.kind == "struct":
-        yield from FIELD.findall(block.text)
+        return [*block.ghosts, *(it.contract for it in block.functions)]
+    return [block.text] if block.kind == "enum" else FIELD.findall(block.text) if block.kind == "struct" else []
 
 
 class Named:
-    """What the contracts name: definitions, as pairs of a module and a name, and types."""
+    """What the contracts name: definitions, as pairs of a module and a name, and types, as places."""
 
     def __init__(self, surface, names):
         self.surface, self.names = surface, names
 
-    def of_text(self, source, block, text):
-        """The definitions that a text of a source names, and the types and traits of ours."""
-        scope = {use.local: use for use in (*source.uses, *(block.uses if block else ()))}
+    def of_texts(self, source, texts):
+        """The definitions that texts of a source name, and the types and traits of ours."""
         found = set()
-        for word in antt.words_of(antt.tokens_of(text)):
-            head, _, fields = word.partition(".")
-            use = scope.get(head)
-            if use is not None and (use.name or fields):
-                found.add(self.names.origin(use.module, use.name or fields.partition(".")[0]))
-        kinds = {*TYPE.findall(text)} - {*scope}
-        types = {self.surface.item(source.crate, source.module, it) for it in kinds}
-        return found, types - {None}
-
-    def of_texts(self, source, block, texts):
-        """The same of several texts."""
-        return union(self.of_text(source, block, it) for it in texts)
+        for text in texts:
+            for word in antt.words_of(antt.tokens_of(text)):
+                head, _, fields = word.partition(".")
+                use = source.uses.get(head)
+                if use is not None and (use.name or fields):
+                    found.add(self.names.origin(use.module, use.name or fields.partition(".")[0]))
+            kinds = {*TYPE.findall(text)} - {*source.uses}
+            found |= {self.surface.item(source.crate, source.module, it) for it in kinds} - {None}
+        return found
 
     def of_type(self, place):
-        """What a type or a trait is to those who use it: the definitions that it names, and the types."""
-        own = [it for it in self.surface.blocks_of(place.crate) if it[2] == place]
+        """What a type or a trait is to those who use it."""
+        own = [(source, block) for source, block, it in self.surface.blocks_of(place.crate) if it == place]
         models = [it for it in own if it[1].trait == MODEL]
-        found, types = union(self.of_texts(source, block, shown_by(block)) for source, block, _ in models or own)
-        return found, types - {place}
+        return set().union(*(self.of_texts(source, shown_by(block)) for source, block in models or own)) - {place}
 
     def of_call(self, source, block, function):
-        """The definitions that the contract of a call names, and the types of its values."""
-        found, types = self.of_texts(source, block, [function.head, function.clauses])
+        """What the contract of a call names, and the type that it is a function of."""
         owner = self.surface.item(source.crate, source.module, block.name) if block else None
-        return found, types | ({owner} - {None})
+        return self.of_texts(source, [function.contract]) | ({owner} - {None})
 
     def of_impls(self, crate):
         """What the public types of a crate say of themselves where they have a trait, as devices do."""
-        found = set()
+        found, public = set(), self.surface.public_types(crate)
         for source, block, place in self.surface.blocks_of(crate):
-            if block.kind == "impl" and block.trait not in ("", MODEL) and place in self.surface.public[crate]:
-                found = found.union(*self.of_texts(source, block, [text for _, text in block.ghosts]))
+            if block.kind == "impl" and block.trait not in ("", MODEL) and place in public:
+                found |= self.of_texts(source, block.ghosts)
         return found

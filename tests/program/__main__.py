@@ -1,6 +1,6 @@
 """Tests the built program as its user meets it, in as many processes as there are processors.
 
-    python3 -m tests.program [--processes N] [PROGRAM]
+    python3 -m tests.program [--processes N] [--quick] [PROGRAM]
 
 It runs each test of the files test_*.py of this folder. A test counts once, or once for each of its
 subtests, which are the cases of a table. One that fails has one line, which names it for `python3 -m
@@ -20,6 +20,8 @@ from tests.lib.checks import Tally, command
 HERE = Path(__file__).resolve().parent
 # The tests that take longest are begun first.
 LONG = ("test_judge", "test_tables", "test_queries", "test_random_work")
+# Those that take minutes over a program that checks itself.
+SLOW_UNPROVED = (*LONG, "test_hostile_shapes", "test_large_edits", "test_limits")
 
 
 def said(fault):
@@ -65,12 +67,15 @@ def names_of(suite):
         yield from names_of(it) if isinstance(it, unittest.TestSuite) else [it.id()]
 
 
-def names():
-    """The name of each test, those first that take longest."""
+def names(is_quick=False):
+    """The name of each test, those first that take longest; says what a quick run leaves out."""
     loader = unittest.TestLoader()
     found = list(names_of(loader.discover(HERE, top_level_dir=TOP)))
     if loader.errors:
         sys.exit("\n".join(loader.errors))
+    for module in SLOW_UNPROVED if is_quick else ():
+        print(f"skipped tests.program.{module}: it takes minutes over a program that checks itself", flush=True)
+        found = [it for it in found if it.split(".")[2] != module]
     return sorted(found, key=lambda it: it.split(".")[2] not in LONG)
 
 
@@ -88,11 +93,12 @@ def main():
     parser = command("tests.program", "Tests the built program mkedit.")
     processors = len(os.sched_getaffinity(0))
     parser.add_argument("--processes", type=int, default=processors, help="how many processes")
+    parser.add_argument("--quick", action="store_true", help="leave out what takes minutes over a program that checks itself")
     given = parser.parse_args()
     os.environ["MKEDIT"] = str(given.program.path)
     total = Tally()
     with ProcessPoolExecutor(given.processes) as pool:
-        for passed, failed in pool.map(run, names()):
+        for passed, failed in pool.map(run, names(given.quick)):
             total.passed += passed
             total.failed += failed
     print(total)

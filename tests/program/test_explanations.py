@@ -1,6 +1,6 @@
 """What `mkedit explain` says of each refusal: the texts of their source, and that the examples are so.
 
-tools/refusals.py reads the source. The documents have the same texts from there: tests/gate/house looks
+tools/refusals.py reads the source. The documents have the same texts from there: the lint checks
 whether they do.
 """
 

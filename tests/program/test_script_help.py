@@ -1,6 +1,6 @@
 """What `mkedit help` says of each command of a script: the texts of their source, and that they are so.
 
-tools/commands.py reads the source. The documents have the same texts from there: tests/gate/house looks
+tools/commands.py reads the source. The documents have the same texts from there: the lint checks
 whether they do. That no refusal is left out is tried on every row of tests/cases.
 """
 
