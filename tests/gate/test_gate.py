@@ -430,12 +430,13 @@ class Joined(InRoom):
     def test_a_crate_that_is_named_and_not_listed_is_seen(self):
         for crate in self.crates.values():
             self.assertEqual(joined.unlisted(crate, self.crates), [], crate.name)
-        crate = self.crates["mk_diff_tests"]._replace(uses=("mk_lines",))
-        self.assertEqual(joined.unlisted(crate, self.crates), ["mk_diff", "watched"])
+        crate = self.crates["mk_document_tests"]
+        crate = crate._replace(uses=[it for it in crate.uses if it not in ("mk_diff", "test_support")])
+        self.assertEqual(joined.unlisted(crate, self.crates), ["mk_diff", "test_support"])
 
     def test_the_crates_of_tests_are_one_try(self):
-        tried = tries_of(self.crates, [self.crates["edit_rows"], *self.tests, self.crates["watched"]])
-        self.assertEqual([it.name for it in tried], [", ".join(it.name for it in self.tests), "edit_rows", "watched"])
+        tried = tries_of(self.crates, [self.crates["edit_rows"], *self.tests, self.crates["test_support"]])
+        self.assertEqual([it.name for it in tried], [", ".join(it.name for it in self.tests), "edit_rows", "test_support"])
 
 
 class Trying(InRoom):
