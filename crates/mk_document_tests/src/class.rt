@@ -96,8 +96,8 @@ fn a_context_is_stepped_along_the_lines(rt: HostRuntime) -> Result<(), Fail> {
         .step(&Class::Rough);
     assert_eq!(rt; (context.conds(), context.defines()), (1, 0));
     assert_eq!(rt; (context.flag(), context.prefix()), (RuleFlag::Rule, b'>'));
-    let (class, next) = classify(rt.alloc(), b">echo", context, &mut Meter::new())?;
+    let (class, _) = classify(rt.alloc(), b">echo", context, &mut Meter::new())?;
     assert_eq!(rt; class, Class::Recipe);
-    assert_eq!(rt; next.step(&Class::DefineHead(false)).defines(), 1);
+    assert_eq!(rt; context.step(&Class::DefineHead(false)).defines(), 1);
     Ok(())
 }
