@@ -2,8 +2,9 @@
 """Lines of JSON as equations that the checker computes, and as rows of a test.
 
 Turns a table into a file of equations, by which the checker computes the definitions of
-`crates/mk_json/specs`; with `--rust` into the rows that `crates/mk_json_tests` runs. The lines of JSON come
-from tests/lib/json_lines.py, which reads a makefile in Python and writes JSON by Python's `json`.
+`crates/mk_json/specs`; with `--rust` into the rows that `crates/mk_document_tests` runs, one for each query.
+The lines of JSON come from tests/lib/json_lines.py, which reads a makefile in Python and writes JSON by
+Python's `json`.
 
     json_rows.py [--rust] TABLE
 
@@ -80,21 +81,32 @@ def rust_text(text):
     return 'b"' + "".join(escapes.get(b) or (chr(b) if b in plain else f"\\x{b:02x}") for b in text) + '"'
 
 
+def one_of_each(table):
+    """The first row with lines of JSON of each query, asked for one name or target and asked for none."""
+    found = {}
+    for row in rows(table):
+        _, query, word, *_, text = row
+        if text:
+            found.setdefault((query, word is None), row)
+    return found.values()
+
+
 def print_rows(table):
-    count = len(list(rows(table)))
+    chosen = one_of_each(table)
     print(f"//! Makefiles, and their lines of JSON. Made by `tests/definitions/json_rows.py --rust tests/cases/{table.name}`.")
-    print("use crate::query::Query;\n")
-    print("/// A makefile with the name of its file, and the lines of JSON of a query.")
-    print("pub struct Row {")
-    for field in ("query: Query", "word: Option<&'static [u8]>", *(f"{it}: &'static [u8]" for it in ("file", "makefile", "text"))):
-        print(f"    pub {field},")
-    print("}\n")
-    print(f"pub static ROWS: [Row; {count}] = [")
-    for name, query, word, file, makefile, text in rows(table):
+    print("use super::Query;\n")
+    print("/// A query, the one name or target that it is asked for, the name of the makefile, the makefile,")
+    print("/// and the lines of JSON.")
+    print("pub type Row = (")
+    for field in ("Query", "Option<&'static [u8]>", *["&'static [u8]"] * 3):
+        print(f"    {field},")
+    print(f");\n\npub const ROWS: [Row; {len(chosen)}] = [")
+    for name, query, word, *texts in chosen:
         asked = "None" if word is None else f"Some({rust_text(word)})"
-        print(f"    // {name.replace('-', ' ')}\n    Row {{")
-        print(f"        query: Query::{query.capitalize()},\n        word: {asked},")
-        print(f"        file: {rust_text(file)},\n        makefile: {rust_text(makefile)},\n        text: {rust_text(text)},\n    }},")
+        print(f"    // {name.replace('-', ' ')}\n    (")
+        for part in (f"Query::{query.capitalize()}", asked, *map(rust_text, texts)):
+            print(f"        {part},")
+        print("    ),")
     print("];")
 
 

@@ -1,21 +1,16 @@
-//! Tests of `mk_listing`: what a makefile has, line by line, with where it stands.
-use mk_class::Meter;
+//! Tests of `mk_listing`: what a makefile has, line by line, with its places.
+use crate::texts::document;
 use mk_listing::{Position, assignments, assignments_of, line_at, numbered, rules, rules_for};
-use mk_tree::Doc;
 use std::test::Fail;
 
-const TEXT: &[u8] = b"# Tools\n\
-export override CC ?= gcc  # the compiler\n\
+const TEXT: &[u8] = b"CC ?= gcc\n\
 FLAGS = -O2 \\\n  -Wall\n\
 ifdef X\n\
 CC = cc\n\
 clean all: x\n\
 \trm x \\\n\t  y\n\
-# note\n\
-\n\
 endif\n\
 \techo done\n\
-CC += -g\n\
 main: CC = tcc\n\
 clean:: ; true\n\
 \tlast\n";
@@ -30,46 +25,38 @@ fn at(index: usize, number: usize, conditionals: u16) -> Position {
 }
 
 #[test]
-fn each_line_stands_where_it_stands(rt: HostRuntime) -> Result<(), Fail> {
-    let doc = Doc::parse(rt.alloc(), TEXT, &mut Meter::new())?;
+fn each_line_has_its_place(rt: HostRuntime) -> Result<(), Fail> {
+    let doc = document(&rt, TEXT)?;
     let wanted = [
         at(0, 1, 0),
         at(1, 2, 0),
-        at(2, 3, 0),
-        at(3, 5, 0),
+        at(2, 4, 0),
+        at(3, 5, 1),
         at(4, 6, 1),
         at(5, 7, 1),
-        at(6, 8, 1),
-        at(7, 10, 1),
-        at(8, 11, 1),
-        at(9, 12, 1),
+        at(6, 9, 1),
+        at(7, 10, 0),
+        at(8, 11, 0),
+        at(9, 12, 0),
         at(10, 13, 0),
-        at(11, 14, 0),
-        at(12, 15, 0),
-        at(13, 16, 0),
-        at(14, 17, 0),
     ];
     let mut left = wanted.iter();
     for (position, line) in numbered(&doc) {
         assert_eq!(rt; Some(&position), left.next());
-        let Some(same) = line_at(&doc, position.index) else {
-            return Err(Fail::from("there is no such line"));
-        };
-        assert_eq!(rt; same.bytes(), line.bytes());
+        let same = line_at(&doc, position.index);
+        assert!(rt; same.is_some_and(|same| same.bytes() == line.bytes()));
     }
     assert!(rt; left.next().is_none());
-    assert!(rt; line_at(&doc, 15).is_none());
     Ok(())
 }
 
 #[test]
-fn the_assignments_are_listed(rt: HostRuntime) -> Result<(), Fail> {
-    let doc = Doc::parse(rt.alloc(), TEXT, &mut Meter::new())?;
-    let wanted: [(Position, u32, &[u8]); 4] = [
-        (at(1, 2, 0), 1, b"gcc"),
-        (at(2, 3, 0), 2, b"-O2 -Wall"),
-        (at(4, 6, 1), 3, b"cc"),
-        (at(11, 14, 0), 4, b"-g"),
+fn the_assignments_have_their_numbers(rt: HostRuntime) -> Result<(), Fail> {
+    let doc = document(&rt, TEXT)?;
+    let wanted: [(Position, u32, &[u8]); 3] = [
+        (at(0, 1, 0), 1, b"gcc"),
+        (at(1, 2, 0), 2, b"-O2 -Wall"),
+        (at(3, 5, 1), 3, b"cc"),
     ];
     let mut left = wanted.iter();
     for found in assignments(&doc) {
@@ -77,36 +64,23 @@ fn the_assignments_are_listed(rt: HostRuntime) -> Result<(), Fail> {
         assert_eq!(rt; Some(&seen), left.next());
     }
     assert!(rt; left.next().is_none());
-    Ok(())
-}
-
-#[test]
-fn the_assignments_of_one_name_have_their_numbers(rt: HostRuntime) -> Result<(), Fail> {
-    let doc = Doc::parse(rt.alloc(), TEXT, &mut Meter::new())?;
-    let wanted: [(Position, u32, &[u8]); 3] = [
-        (at(1, 2, 0), 1, b"gcc"),
-        (at(4, 6, 1), 2, b"cc"),
-        (at(11, 14, 0), 3, b"-g"),
-    ];
-    let mut left = wanted.iter();
-    for found in assignments_of(&doc, b"CC") {
-        let seen = (found.position, found.nth, found.assignment.value());
-        assert_eq!(rt; Some(&seen), left.next());
-    }
-    assert!(rt; left.next().is_none());
-    assert!(rt; assignments_of(&doc, b"C").next().is_none());
+    let second = assignments_of(&doc, b"CC").nth(1);
+    assert_eq!(rt;
+        second.map(|found| (found.position, found.nth)),
+        Some((at(3, 5, 1), 2))
+    );
     Ok(())
 }
 
 #[test]
 fn the_rules_are_listed_with_their_recipe_lines(rt: HostRuntime) -> Result<(), Fail> {
-    let doc = Doc::parse(rt.alloc(), TEXT, &mut Meter::new())?;
-    let wanted = [(at(5, 7, 1), 1), (at(13, 16, 0), 2)];
+    let doc = document(&rt, TEXT)?;
+    let wanted = [(at(4, 6, 1), 1), (at(9, 12, 0), 2)];
     let mut rules_left = wanted.iter();
     let lines: [(Position, u32, &[u8]); 3] = [
-        (at(6, 8, 1), 1, b"rm x y"),
-        (at(10, 13, 0), 2, b"echo done"),
-        (at(14, 17, 0), 1, b"last"),
+        (at(5, 7, 1), 1, b"rm x y"),
+        (at(7, 10, 0), 2, b"echo done"),
+        (at(10, 13, 0), 1, b"last"),
     ];
     let mut lines_left = lines.iter();
     for rule in rules(&doc) {
@@ -117,18 +91,7 @@ fn the_rules_are_listed_with_their_recipe_lines(rt: HostRuntime) -> Result<(), F
         }
     }
     assert!(rt; rules_left.next().is_none() && lines_left.next().is_none());
-    Ok(())
-}
-
-#[test]
-fn the_rules_for_one_target_have_their_numbers(rt: HostRuntime) -> Result<(), Fail> {
-    let doc = Doc::parse(rt.alloc(), TEXT, &mut Meter::new())?;
     assert_eq!(rt; rules_for(&doc, b"clean").count(), 2);
-    assert_eq!(rt; rules_for(&doc, b"all").count(), 1);
     assert_eq!(rt; rules_for(&doc, b"main").count(), 0);
-    let Some(second) = rules_for(&doc, b"clean").nth(1) else {
-        return Err(Fail::from("a rule is not listed"));
-    };
-    assert_eq!(rt; (second.position, second.nth), (at(13, 16, 0), 2));
     Ok(())
 }

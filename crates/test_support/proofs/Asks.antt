@@ -16,8 +16,8 @@ use denote.Steps.{nothing, only}
 use denote.Triple.Statement.{Contract}
 use denote.Triple.Spec.{triple_of}
 use Rattle.std.specs.contracts.cell.Cell as CE
-use Rattle.watched.specs.contracts.Watch as W
-use Rattle.watched.specs.contracts.refuses as RF
+use Rattle.test_support.specs.contracts.watched.Watch as W
+use Rattle.test_support.specs.contracts.watched.refuses as RF
 
 abbrev Kept : RattleType
 Kept = CE.the_row W.the_row

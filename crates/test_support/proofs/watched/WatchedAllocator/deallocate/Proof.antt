@@ -38,11 +38,11 @@ use denote.RawPtr.{Ptr, block_ptr, null_ptr, ptr_val, rawptr_vals, rawptr_Tells}
 use denote.Builtin.{usize, RawPtr, RefOf}
 use denote.Triple.Call.{calls_at}
 use Rattle.std.proofs.alloc.Calls.{Al, α, seen, token, gives_key, Gives, at_gives, Gives-goes, Gives-Gives}
-use Rattle.watched.specs.contracts.Watched as wrapper
-use Rattle.watched.specs.contracts.WatchedAllocator.deallocate as F
-use Rattle.watched.specs.contracts.WatchedAllocator.deallocate.Key as key
-use Rattle.watched.proofs.WatchedAllocator.deallocate.Statement as stated
-use Rattle.watched.proofs.WatchedAllocator.deallocate.Code as code
+use Rattle.test_support.specs.contracts.watched.Watched as wrapper
+use Rattle.test_support.specs.contracts.watched.WatchedAllocator.deallocate as F
+use Rattle.test_support.specs.contracts.watched.WatchedAllocator.deallocate.Key as key
+use Rattle.test_support.proofs.watched.WatchedAllocator.deallocate.Statement as stated
+use Rattle.test_support.proofs.watched.WatchedAllocator.deallocate.Code as code
 
 module _ (Z : Al) where
   abbrev args : Args

@@ -5,7 +5,6 @@
 //! no refusal. Or it refuses all growths from some call on. Or it compares the growths of two
 //! calls. A growth of a collection is one allocation, since `grow` and `shrink` are the trait's
 //! own: allocate, copy, free.
-#![tactic(auto)]
 
 use std::alloc::{AllocError, Allocator};
 use std::cell::Cell;
@@ -158,108 +157,5 @@ unsafe impl<B: Allocator> Allocator for Watched<B> {
 
     unsafe fn deallocate(&self, ptr: *mut u8, size: usize, align: usize) {
         self.inner.deallocate(ptr, size, align);
-    }
-}
-
-#[cfg(test)]
-mod tests {
-    use super::*;
-    use std::test::Fail;
-
-    fn pushed<A: Allocator>(alloc: A, count: u8) -> Result<usize, AllocError> {
-        let mut numbers = Vec::new(alloc);
-        for number in 0..count {
-            numbers.push(number)?;
-        }
-        Ok(numbers.len())
-    }
-
-    #[test]
-    fn refuses_each_growth_in_turn(rt: HostRuntime) -> Result<(), Fail> {
-        let heap = Watched::new(rt.alloc());
-        // 8, 16, 32, 64 and 128 bytes
-        for admitted in 0..5 {
-            heap.refuse_one_after(admitted);
-            assert!(rt; pushed(&heap, 100).is_err() && heap.has_refused());
-            assert!(rt; pushed(&heap, 100).is_ok());
-        }
-        heap.refuse_one_after(5);
-        assert!(rt; pushed(&heap, 100).is_ok() && !heap.has_refused());
-        Ok(())
-    }
-
-    #[test]
-    fn refuses_all_until_it_is_told_otherwise(rt: HostRuntime) -> Result<(), Fail> {
-        let heap = Watched::new(rt.alloc());
-        heap.refuse_all();
-        assert!(rt; pushed(&heap, 1).is_err() && pushed(&heap, 1).is_err());
-        heap.refuse_none();
-        assert!(rt; pushed(&heap, 1).is_ok() && !heap.has_refused());
-        Ok(())
-    }
-
-    #[test]
-    fn growths_are_told_apart_by_their_sizes(rt: HostRuntime) -> Result<(), Fail> {
-        let heap = Watched::new(rt.alloc());
-        pushed(&heap, 100)?;
-        let first = heap.passed();
-        // 8, 16, 32, 64 and 128 bytes
-        assert!(rt; first.count == 5 && first.bytes == 248);
-        heap.refuse_none();
-        pushed(&heap, 70)?;
-        assert_eq!(rt; heap.passed(), first);
-        heap.refuse_none();
-        pushed(&heap, 60)?;
-        assert_eq!(rt; heap.passed().count, 4);
-        heap.refuse_none();
-        for _ in 0..5 {
-            pushed(&heap, 1)?;
-        }
-        assert!(rt; heap.passed().count == 5 && heap.passed() != first);
-        Ok(())
-    }
-}
-
-#[cfg(test)]
-mod one_refusal {
-    use super::*;
-    use std::test::Fail;
-
-    fn hundred_pushed<A: Allocator>(alloc: A) -> Result<usize, AllocError> {
-        let mut numbers = Vec::new(alloc);
-        for number in 0..100u8 {
-            numbers.push(number)?;
-        }
-        Ok(numbers.len())
-    }
-
-    fn boxed<A: Allocator>(alloc: A) -> Result<u8, AllocError> {
-        Ok(Box::into_inner(Box::new(alloc, 1u8)?))
-    }
-
-    #[test]
-    fn refuses_each_growth_in_turn(rt: HostRuntime) -> Result<(), Fail> {
-        let mut growths = 0;
-        for admitted in 0..100 {
-            let heap = Watched::refusing_one_after(rt.alloc(), admitted);
-            let answer = hundred_pushed(&heap);
-            assert_eq!(rt; answer.is_err(), heap.has_refused());
-            if !heap.has_refused() {
-                break;
-            }
-            growths = admitted + 1;
-        }
-        // 8, 16, 32, 64 and 128 bytes
-        assert_eq!(rt; growths, 5);
-        Ok(())
-    }
-
-    #[test]
-    fn refuses_once(rt: HostRuntime) -> Result<(), Fail> {
-        let heap = Watched::refusing_one_after(rt.alloc(), 1);
-        boxed(&heap)?;
-        assert!(rt; boxed(&heap).is_err());
-        boxed(&heap)?;
-        Ok(())
     }
 }

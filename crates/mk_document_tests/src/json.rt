@@ -1,9 +1,14 @@
-//! The queries by name.
+//! Tests of `mk_json`: lines of JSON as Python writes them.
 ghost use Rattle.mk_tree.specs.Documents.{IsFaithful};
 
-use mk_json::{caveats, check, recipes, rules, vars};
+mod rows;
+
+use crate::texts::document;
+use mk_json::{caveats, check, push_text_line, recipes, rules, vars};
 use mk_tree::Doc;
+use rows::ROWS;
 use std::alloc::{AllocError, Allocator};
+use std::test::Fail;
 
 /// A query.
 #[derive(Clone, Copy)]
@@ -34,4 +39,16 @@ impl Query {
             Query::Caveats => caveats(alloc, file, doc),
         }
     }
+}
+
+#[test]
+fn rows_are_as_python_writes_them(rt: HostRuntime) -> Result<(), Fail> {
+    for (query, word, file, makefile, wanted) in ROWS {
+        let doc = document(&rt, makefile)?;
+        let text = query.ask(rt.alloc(), file, &doc, word)?;
+        assert!(rt; text.as_slice() == wanted);
+    }
+    let line = push_text_line(Vec::new(rt.alloc()), rt.alloc(), b"a", false)?;
+    assert_eq!(rt; line.as_slice(), b"{\"text\":\"a\"}\n".as_slice());
+    Ok(())
 }
