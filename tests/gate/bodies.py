@@ -6,8 +6,6 @@ from .listed import listed
 from .sources import sources_of
 
 MOST = 40
-# One list of rows, and no steps.
-LISTS = {("mk_run_tests/src/run/rows.rt", "rows")}
 
 
 def problems(top=TOP):
@@ -15,5 +13,5 @@ def problems(top=TOP):
     for crate in listed(top).values():
         for source in sources_of(crate.name, crate.folder).values():
             for it in source.all_functions():
-                if it.body > MOST and (source.shown, it.name) not in LISTS:
+                if it.body > MOST:
                     yield f"crates/{source.shown}:{it.line} {it.name} has {it.body} lines, and may have {MOST}"

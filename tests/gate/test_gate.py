@@ -378,7 +378,7 @@ class WithRt(InRoom):
         path = os.environ["PATH"]
         self.addCleanup(os.environ.__setitem__, "PATH", path)
         os.environ["PATH"] = f"{rt.parent}:{path}"
-        self.crate = listed(TOP)["session_example"]
+        self.crate = listed(TOP)["caller_example"]
 
     def says(self, out, status=0):
         (self.room / "out").write_bytes(out if isinstance(out, bytes) else out.encode())
