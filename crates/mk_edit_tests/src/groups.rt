@@ -41,10 +41,9 @@ fn a_group_is_one_step_and_its_dry_run_is_none(rt: HostRuntime) -> Result<(), Fa
     assert!(rt; has_text(session.doc(), EDITED));
     session.undo()?;
     assert!(rt; is_unchanged(session));
-    let missing = [
-        edit_of(rt.alloc(), b"unset B")?,
-        edit_of(rt.alloc(), b"unset B")?,
-    ];
+    let unset = edit_of(rt.alloc(), b"unset B")?;
+    let again = edit_of(rt.alloc(), b"unset B")?;
+    let missing = [unset, again];
     assert_eq!(rt; session.dry_run(&missing), Err((1, Refusal::NoSuch)));
     assert_eq!(rt; session.group(&missing), Err((1, Refusal::NoSuch)));
     assert!(rt; is_unchanged(session));

@@ -176,7 +176,11 @@ fn make(rt: &HostRuntime, indexed: &mut IndexedDoc, line: &[u8]) -> Result<(), F
 {
     let edit = edit_of(rt.alloc(), line)?;
     let known = indexed.known(rt.alloc(), &edit);
-    let patch = plan_with(rt.alloc(), indexed.doc(), &edit, &known, &mut Meter::new())?;
+    let planned = plan_with(rt.alloc(), indexed.doc(), &edit, &known, &mut Meter::new());
+    let patch = match planned {
+        Ok(patch) => patch,
+        Err(refusal) => return Err(Fail::from(refusal)),
+    };
     let _back = indexed.make_planned(patch);
     Ok(())
 }

@@ -61,7 +61,10 @@ fn is_made(doc: &mut Doc, patch: Patch, text: &[u8]) -> (bool, [(usize, usize); 
 fn a_removal_holds_its_lines_once_it_is_made(rt: HostRuntime) -> Result<(), Fail> {
     let edit = edit_of(rt.alloc(), b"unrule c")?;
     let mut doc = document(&rt, RULES)?;
-    let patch = plan(rt.alloc(), &doc, &edit, &mut Meter::new())?;
+    let patch = match plan(rt.alloc(), &doc, &edit, &mut Meter::new()) {
+        Ok(patch) => patch,
+        Err(refusal) => return Err(Fail::from(refusal)),
+    };
     assert_eq!(rt; is_made(&mut doc, patch, b"d:\n"), (true, [(0, 5), (5, 0)]));
     Ok(())
 }

@@ -12,15 +12,16 @@ const LINES: [&[u8]; 5] = [b"set CC clang\n", b"\n", b"# c\r\n", b"\0\xff\n", b"
 
 #[test]
 fn lines_are_read_and_no_byte_after_them(rt: HostRuntime) {
-    let mut source = MemorySource::new(INPUT, 100);
     let mut line = Vec::new(rt.alloc());
-    let mut left = INPUT.len();
+    let mut rest = INPUT;
     for expected in LINES {
+        let mut source = MemorySource::new(rest, 100);
         assert_eq!(rt; read_line(&mut source, &mut line), Ok(LineRead::Line));
         assert_eq!(rt; line.as_slice(), expected);
-        left = left.saturating_sub(expected.len());
-        assert_eq!(rt; source.left(), left);
+        rest = rest.strip_prefix(expected).unwrap_or_default();
+        assert_eq!(rt; source.left(), rest.len());
     }
+    let mut source = MemorySource::new(rest, 100);
     assert_eq!(rt; read_line(&mut source, &mut line), Ok(LineRead::End));
 }
 
