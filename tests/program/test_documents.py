@@ -8,7 +8,7 @@ In an example `⏎` is a line feed, `⇥` a tab, `␌` a form feed and `␀` a N
 
 In the last chapter of docs/LANGUAGE.md each section with an example also names, as `5: opaque`, what
 `mkedit check` prints of the section's first makefile, and as "`caveats` names line 6" of which line
-`mkedit caveats` tells. docs/LIBRARY.md shows lines of three files.
+`mkedit caveats` tells. docs/LIBRARY.md shows lines of two files.
 """
 
 import re
@@ -20,7 +20,6 @@ from tests.lib.rooms import RoomCase
 
 EDITS, LANGUAGE, LIBRARY = (DOCS / f"{it}.md" for it in ("EDITS", "LANGUAGE", "LIBRARY"))
 QUOTED = (
-    "crates/session_example/src/main.rt",
     "crates/caller_example/src/main.rt",
     "crates/mk_session/src/session.rt",
 )

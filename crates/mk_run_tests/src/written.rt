@@ -1,11 +1,10 @@
-//! Tests of `mk_written`: edits with their lines, and an allocator that refuses each growth in turn.
-
+//! The lines of edits: there and back, with each growth refused in turn.
 use mk_script::{Step, parse_script};
 use mk_session::{Command, Edit, MakeEdit};
 use mk_written::{LineError, line_of_edit};
-use std::alloc::{AllocError, Allocator};
+use std::alloc::{Allocator, Global};
 use std::test::Fail;
-use watched::Watched;
+use test_support::Watched;
 
 // Lines of each edit, place, operator and separator, with fields that stand between quotes only where
 // they have to.
@@ -55,7 +54,7 @@ const LINES: [&[u8]; 42] = [
 ];
 
 // The edit of a script that is an edit and nothing else.
-fn edit_of<A: Allocator + Copy>(alloc: A, script: &[u8]) -> Option<Edit<A>> {
+fn edit_of(alloc: Global, script: &[u8]) -> Option<Edit> {
     match parse_script(alloc, script).ok()?.pop()? {
         Step::Alone(numbered) => match numbered.command {
             Command::Apply(edit) => Some(edit),
@@ -65,52 +64,43 @@ fn edit_of<A: Allocator + Copy>(alloc: A, script: &[u8]) -> Option<Edit<A>> {
     }
 }
 
-#[test]
-fn lines_are_those_of_their_edits(rt: HostRuntime) {
-    for line in LINES {
-        let written = edit_of(rt.alloc(), line).map(|edit| line_of_edit(rt.alloc(), &edit));
-        assert!(rt; matches!(written, Some(Ok(text)) if text.as_slice() == line));
-    }
+// Whether an edit has this line, or finds no memory for it.
+fn is_written<A: Allocator + Copy>(alloc: A, edit: &Edit, line: &[u8]) -> Result<bool, LineError> {
+    Ok(line_of_edit(alloc, edit)?.as_slice() == line)
 }
 
 #[test]
-fn an_edit_with_a_line_feed_has_no_line(rt: HostRuntime) -> Result<(), Fail> {
-    for edit in [
-        Edit::set(rt.alloc(), b"X", b"a\nb")?,
-        Edit::rename(rt.alloc(), b"\n", b"a")?,
-        Edit::recipe_set(rt.alloc(), b"t", 1, b"\"\n")?,
-    ] {
-        let written = line_of_edit(rt.alloc(), &edit);
-        assert!(rt; matches!(written, Err(LineError::LineFeed)));
-    }
-    Ok(())
-}
-
-#[test]
-fn each_growth_refused_in_turn(rt: HostRuntime) -> Result<(), Fail> {
+fn each_growth_of_a_line_is_refused_in_turn(rt: HostRuntime) -> Result<(), Fail> {
     for line in LINES {
         let Some(edit) = edit_of(rt.alloc(), line) else {
-            return Err(AllocError.into());
+            return Err(Fail::from("a line is no edit"));
         };
         for admitted in 0..100 {
             let heap = Watched::refusing_one_after(rt.alloc(), admitted);
-            let written = line_of_edit(&heap, &edit);
+            let written = is_written(&heap, &edit, line);
             if !heap.has_refused() {
-                assert!(rt; admitted > 0);
-                assert!(rt; matches!(written, Ok(text) if text.as_slice() == line));
+                assert_eq!(rt; (written, admitted > 0), (Ok(true), true));
                 break;
             }
-            assert!(rt; matches!(written, Err(LineError::NoMemory)));
+            assert_eq!(rt; written, Err(LineError::NoMemory));
         }
     }
     Ok(())
 }
 
 #[test]
-fn errors_have_texts(rt: HostRuntime) -> Result<(), Fail> {
-    let feed = format!(in rt.alloc(); "{}", LineError::LineFeed)?;
-    assert_eq!(rt; feed.as_str(), "a text of the edit has a line feed");
-    let memory = format!(in rt.alloc(); "{}", LineError::NoMemory)?;
-    assert_eq!(rt; memory.as_str(), "no memory");
+fn an_edit_with_a_line_feed_has_no_line(rt: HostRuntime) -> Result<(), Fail> {
+    let edit = Edit::set(rt.alloc(), b"X", b"a\nb")?;
+    assert_eq!(rt;
+        is_written(rt.alloc(), &edit, b""),
+        Err(LineError::LineFeed)
+    );
+    for (error, text) in [
+        (LineError::LineFeed, "a text of the edit has a line feed"),
+        (LineError::NoMemory, "no memory"),
+    ] {
+        let shown = format!(in rt.alloc(); "{error}")?;
+        assert_eq!(rt; shown.as_str(), text);
+    }
     Ok(())
 }

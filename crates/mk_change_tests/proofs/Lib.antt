@@ -1,2 +1,0 @@
--- The steps of a session over four bytes
-mod DraftLemmas

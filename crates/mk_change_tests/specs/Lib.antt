@@ -1,2 +1,0 @@
--- # Vocabulary of private contracts
-pub mod SetBytes
