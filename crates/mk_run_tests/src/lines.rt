@@ -3,8 +3,7 @@ use mk_lines::{ByteSource, Fault};
 use mk_prompt::{LineRead, MAX_LINE, line_length, lines_between, read_line};
 use std::alloc::Allocator;
 use std::test::Fail;
-use test_support::MemorySource;
-use test_support::Watched;
+use test_support::{MemorySource, Watched};
 
 const INPUT: &[u8] = b"set CC clang\n\n# c\r\n\0\xff\nundo";
 

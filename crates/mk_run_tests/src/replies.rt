@@ -4,8 +4,7 @@ use mk_lines::Fault;
 use mk_prompt::{Heard, Obeyed, answer_line, obey_line, text_of};
 use mk_session::{Refusal, Session};
 use std::test::Fail;
-use test_support::MemorySink;
-use test_support::Watched;
+use test_support::{MemorySink, Watched};
 
 const MAKEFILE: &[u8] = b"CC = gcc # c\nX = 1\nX = 2\n";
 

@@ -5,8 +5,7 @@ ghost use Rattle.std.specs.Prelude.{◌<◌};
 use mk_run::{Outcome, run, status};
 use std::alloc::{Allocator, Global};
 use std::process::Abort;
-use test_support::{MemorySink, MemorySource};
-use test_support::Watched;
+use test_support::{MemorySink, MemorySource, Watched};
 
 /// A run, and what has to come of it.
 #[derive(Clone, Copy)]

@@ -3,8 +3,7 @@ use mk_lines::sink::write_parts;
 use mk_lines::{ByteSink, Fault};
 use mk_prompt::{After, Listener, MAX_LINE, converse, write_greeting, write_too_long};
 use std::test::Fail;
-use test_support::{MemorySink, MemorySource};
-use test_support::Watched;
+use test_support::{MemorySink, MemorySource, Watched};
 
 // Replies to a line with the line between brackets, and ends at a line that begins with `q`.
 #[derive(Drop)]
