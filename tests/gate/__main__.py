@@ -4,7 +4,7 @@
     python3 -m tests.gate --quick    `make test`: the same without `rt ci`, and so without a proof, in minutes
 
 `rt ci` proves every crate with its tests, has the prover refuse each must-fail edit, and runs the tests and
-the programs. It leaves the program, which is then linked as `make` links it, and tested. The quick test is of
+the programs. An edit that does not apply or compile is a failure. It leaves the program, which is then linked as `make` links it, and tested. The quick test is of
 the program that `tools/try` builds, which checks itself while it runs. It leaves out tests that take
 minutes over that program.
 
@@ -25,6 +25,8 @@ from tests.lib.checks import BUILT
 
 PROVED, TRIED = "crates/mkedit/out/mkedit", "crates/mkedit/out/tried/mkedit"
 COUNTS = re.compile(r"(\d+) passed, (\d+) failed\n?")
+# What rt ci says of a must-fail edit that does not apply or compile. It fails nothing there, and shows nothing.
+BAD_EDIT = ": BAD EDIT: "
 
 
 class Part(NamedTuple):
@@ -38,9 +40,9 @@ class Part(NamedTuple):
 
 
 def run(name, *words):
-    """Runs a command, shows what it says, and returns what the counts in its last line come to."""
+    """Runs a command, shows what it says, and returns what the counts in its last line come to, with bad edits as failures."""
     print(f"== {name}", flush=True)
-    start, last = time.monotonic(), ""
+    start, last, bad = time.monotonic(), "", 0
     try:
         process = subprocess.Popen(words, cwd=TOP, stdout=subprocess.PIPE, text=True, errors="replace")
     except OSError as fault:
@@ -48,6 +50,7 @@ def run(name, *words):
         return Part(name, 0, 1)
     for last in process.stdout:
         print(last, end="", flush=True)
+        bad += BAD_EDIT in last
     _, process.returncode, usage = os.wait4(process.pid, 0)
     found = COUNTS.fullmatch(last)
     passed, failed = map(int, found.groups()) if found else (0, 1)
