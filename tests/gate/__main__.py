@@ -4,9 +4,9 @@
     python3 -m tests.gate --quick    `make test`: the same without `rt ci`, and so without a proof, in minutes
 
 `rt ci` proves every crate with its tests, has the prover refuse each must-fail edit, and runs the tests and
-the programs. An edit that does not apply or compile is a failure. It leaves the program, which is then linked as `make` links it, and tested. The quick test is of
-the program that `tools/try` builds, which checks itself while it runs. It leaves out tests that take
-minutes over that program.
+the programs. Here an edit that does not apply or compile is a failure too. `rt ci` leaves the program, which
+is then linked as `make` links it, and tested. The quick test is of the program that `tools/try` builds, which
+checks itself while it runs. It leaves out tests that take minutes over that program.
 
 A part that fails does not end the run. A part without its counts is one failure. The last line is the sum,
 'N passed, M failed'; the line above it says how long each part took. The status is 0 only where nothing
@@ -40,7 +40,10 @@ class Part(NamedTuple):
 
 
 def run(name, *words):
-    """Runs a command, shows what it says, and returns what the counts in its last line come to, with bad edits as failures."""
+    """Runs a command, shows what it says, and returns what the counts in its last line come to.
+
+    Each bad edit that it names is one failure more.
+    """
     print(f"== {name}", flush=True)
     start, last, bad = time.monotonic(), "", 0
     try:
@@ -54,7 +57,7 @@ def run(name, *words):
     _, process.returncode, usage = os.wait4(process.pid, 0)
     found = COUNTS.fullmatch(last)
     passed, failed = map(int, found.groups()) if found else (0, 1)
-    failed = failed or int(process.returncode != 0)
+    failed = failed + bad or int(process.returncode != 0)
     return Part(name, passed, failed, time.monotonic() - start, usage.ru_utime + usage.ru_stime)
 
 
