@@ -127,27 +127,15 @@ fn each_refused_growth_is_no_memory(rt: HostRuntime) {
 // What no contract says: how often a call asks for memory.
 #[test]
 fn calls_take_few_growths(rt: HostRuntime) -> Result<(), Fail> {
-    let folds = repeated(&rt, b"a \\\n b", 20)?;
-    let few_folds = folds.get(..96).unwrap_or_default();
-    let mut long = Vec::from_slice(rt.alloc(), b"A = ")?;
-    long.extend_from_slice(&repeated(&rt, b"x", 252)?)?;
-    let short = long.get(..255).unwrap_or_default();
     for (call, growths) in [
         (Call::Cells(b"sources = main.c # in order\n"), 0),
-        // The bytes of the stack, the joined text, and the folds' ends: at once for up to 16 folds.
-        (Call::Cells(few_folds), 3),
-        (Call::Cells(&folds), 4),
         (Call::Classify(b"sources = main.c # in order\n"), 0),
-        (Call::Classify(&folds), 4),
         // The text and the count of its owners, the node, and a box for a class that is not short.
         (Call::Parse(b"all: a | b\n"), 3),
         (Call::Parse(b".RECIPEPREFIX = >\n"), 4),
         (Call::Parse(b"all: X = 1\n"), 4),
         (Call::Parse(b"all: a ; b\n"), 4),
         (Call::Parse(b"a.o: %.o: %.c\n"), 4),
-        // A class is short as long as none of its offsets is greater than 255.
-        (Call::Parse(short), 3),
-        (Call::Parse(&long), 4),
         // The text and the count of its owners, a node of each line, and four for the fold.
         (Call::Parse(LINES), 10),
         (Call::ParseVec(LINES), 10),
@@ -159,5 +147,17 @@ fn calls_take_few_growths(rt: HostRuntime) -> Result<(), Fail> {
     ] {
         assert_eq!(rt; call.growths(&rt), Some(growths));
     }
+    // The bytes of the stack, the joined text, and the folds' ends: at once for up to 16 folds.
+    let folds = repeated(&rt, b"a \\\n b", 16)?;
+    assert_eq!(rt; Call::Cells(&folds).growths(&rt), Some(3));
+    let folds = repeated(&rt, b"a \\\n b", 20)?;
+    assert_eq!(rt; Call::Cells(&folds).growths(&rt), Some(4));
+    assert_eq!(rt; Call::Classify(&folds).growths(&rt), Some(4));
+    // A class is short as long as none of its offsets is greater than 255.
+    let mut line = Vec::from_slice(rt.alloc(), b"A = ")?;
+    line.extend_from_slice(&repeated(&rt, b"x", 251)?)?;
+    assert_eq!(rt; Call::Parse(&line).growths(&rt), Some(3));
+    line.push(b'x')?;
+    assert_eq!(rt; Call::Parse(&line).growths(&rt), Some(4));
     Ok(())
 }

@@ -22,12 +22,12 @@ pub enum Query {
 
 impl Query {
     /// Asks it of a document, for one name or target if there is one.
-    pub fn ask<'a, A: Allocator, B: Allocator + Copy>(
+    pub fn ask<A: Allocator, B: Allocator + Copy>(
         self,
         alloc: B,
         file: &[u8],
-        doc: &'a Doc<A>,
-        word: Option<&'a [u8]>,
+        doc: &Doc<A>,
+        word: Option<&[u8]>,
     ) -> Result<Vec<u8, B>, AllocError>
         requires { IsFaithful doc.now }
     {

@@ -91,7 +91,8 @@ fn the_rules_are_listed_with_their_recipe_lines(rt: HostRuntime) -> Result<(), F
         }
     }
     assert!(rt; rules_left.next().is_none() && lines_left.next().is_none());
-    assert_eq!(rt; rules_for(&doc, b"clean").count(), 2);
-    assert_eq!(rt; rules_for(&doc, b"main").count(), 0);
+    let mut of_clean = rules_for(&doc, b"clean");
+    assert!(rt; of_clean.next().is_some() && of_clean.next().is_some());
+    assert!(rt; of_clean.next().is_none() && rules_for(&doc, b"main").next().is_none());
     Ok(())
 }

@@ -16,15 +16,8 @@ fn two_edits<A: Allocator + Copy>(alloc: A) -> Result<[Edit<A>; 2], Fail> {
     Ok([first, second])
 }
 
-// A session on the first text with an edit to redo.
-fn with_redo<'a, A: Allocator + Copy + 'a>(
-    rt: &HostRuntime,
-    alloc: A,
-) -> Result<&'a mut Session<A>, Fail> {
-    let session = opened(rt, alloc, FIRST)?;
-    obey_all(alloc, session, &[b"set A 2", b"undo"])?;
-    Ok(session)
-}
+// What leaves a session on the first text with an edit to redo.
+const UNDONE: [&[u8]; 2] = [b"set A 2", b"undo"];
 
 // Whether such a session is as it was.
 fn is_unchanged<A: Allocator + Copy>(session: &Session<A>) -> bool {
@@ -33,7 +26,8 @@ fn is_unchanged<A: Allocator + Copy>(session: &Session<A>) -> bool {
 
 #[test]
 fn a_group_is_one_step_and_its_dry_run_is_none(rt: HostRuntime) -> Result<(), Fail> {
-    let session = with_redo(&rt, rt.alloc())?;
+    let session = opened(&rt, rt.alloc(), FIRST)?;
+    obey_all(rt.alloc(), session, &UNDONE)?;
     let edits = two_edits(rt.alloc())?;
     assert_eq!(rt; session.dry_run(&edits), Ok(()));
     assert!(rt; is_unchanged(session));
@@ -59,7 +53,8 @@ fn is_refused<'a>(
     is_dry: bool,
     admitted: u64,
 ) -> Result<bool, Fail> {
-    let session = with_redo(rt, heap)?;
+    let session = opened(rt, heap, FIRST)?;
+    obey_all(heap, session, &UNDONE)?;
     heap.refuse_one_after(admitted);
     let answer = if is_dry {
         session.dry_run(edits)
@@ -98,7 +93,8 @@ fn each_growth_of_a_group_is_refused_in_turn(rt: HostRuntime) -> Result<(), Fail
 #[test]
 fn the_first_edit_keeps_its_cause_without_memory(rt: HostRuntime) -> Result<(), Fail> {
     let heap = Watched::new(rt.alloc());
-    let session = with_redo(&rt, &heap)?;
+    let session = opened(&rt, &heap, FIRST)?;
+    obey_all(&heap, session, &UNDONE)?;
     for (line, cause) in [
         (b"set A 3".as_slice(), Refusal::NoMemory),
         (b"unset C", Refusal::NoSuch),

@@ -157,14 +157,19 @@ fn the_second_edit_needs_no_walk_over_all_lines(rt: HostRuntime) -> Result<(), F
     Ok(())
 }
 
+// Whether something is known of the lines of a rename, then of another edit, then of the rename again.
+fn knows_renames_and(rt: &HostRuntime, other: &[u8]) -> Result<bool, Fail> {
+    let mut indexed = indexed(rt, 1_024)?;
+    indexed.expect_renames();
+    let before = is_known(rt, &mut indexed, b"rename mid w")?;
+    let between = is_known(rt, &mut indexed, other)?;
+    Ok(before && between && is_known(rt, &mut indexed, b"rename mid w")?)
+}
+
 #[test]
 fn an_index_for_renames_gives_way_to_one_for_all_edits(rt: HostRuntime) -> Result<(), Fail> {
     for other in [b"set A 2".as_slice(), b"all set A 2", b"unrule all"] {
-        let mut indexed = indexed(&rt, 1_024)?;
-        indexed.expect_renames();
-        assert!(rt; is_known(&rt, &mut indexed, b"rename mid w")?);
-        assert!(rt; is_known(&rt, &mut indexed, other)?);
-        assert!(rt; is_known(&rt, &mut indexed, b"rename mid w")?);
+        assert!(rt; knows_renames_and(&rt, other)?);
     }
     Ok(())
 }
