@@ -5,8 +5,9 @@ mod rows;
 
 use crate::texts::document;
 use mk_json::{caveats, check, push_text_line, recipes, rules, vars};
+use mk_lines::Fault;
 use mk_tree::Doc;
-use rows::ROWS;
+use rows::{ROWS, Row};
 use std::alloc::{AllocError, Allocator};
 use std::test::Fail;
 
@@ -41,12 +42,18 @@ impl Query {
     }
 }
 
+// Whether the query of a row gives its lines.
+fn is_given(rt: &HostRuntime, row: &Row) -> Result<bool, Fault> {
+    let (query, word, file, makefile, wanted) = *row;
+    let doc = document(rt, makefile)?;
+    let text = query.ask(rt.alloc(), file, &doc, word)?;
+    Ok(text.as_slice() == wanted)
+}
+
 #[test]
 fn rows_are_as_python_writes_them(rt: HostRuntime) -> Result<(), Fail> {
-    for (query, word, file, makefile, wanted) in ROWS {
-        let doc = document(&rt, makefile)?;
-        let text = query.ask(rt.alloc(), file, &doc, word)?;
-        assert!(rt; text.as_slice() == wanted);
+    for row in &ROWS {
+        assert_eq!(rt; is_given(&rt, row), Ok(true));
     }
     let line = push_text_line(Vec::new(rt.alloc()), rt.alloc(), b"a", false)?;
     assert_eq!(rt; line.as_slice(), b"{\"text\":\"a\"}\n".as_slice());

@@ -48,7 +48,9 @@ impl Query {
 }
 
 // A query, a makefile, and the text that the query gives.
-const ROWS: [(Query, &[u8], &[u8]); 8] = [
+type Row = (Query, &'static [u8], &'static [u8]);
+
+const ROWS: [Row; 8] = [
     (
         Query::Vars,
         b"ifdef A\nexport CC ?= gcc  # c\nendif\nfoo: X += 1\nY :=\n",
@@ -109,32 +111,30 @@ fn is_cut(query: Query, doc: &Doc, text: &[u8], passed: usize, mut out: MemorySi
     answer.is_ok() == (passed == text.len()) && is_front && out.flushes() == 0
 }
 
-// Whether a query gives each front of its text where the next write fails, or takes nothing.
-fn gives_fronts(rt: &HostRuntime, query: Query, doc: &Doc, text: &[u8]) -> bool
-    requires { IsFaithful doc.now }
-{
+// Whether the query of a row gives each front of its text where the next write fails, or takes nothing.
+fn gives_fronts(rt: &HostRuntime, row: &Row) -> Result<bool, Fault> {
+    let (query, makefile, text) = *row;
+    let doc = document(rt, makefile)?;
     let end = text.len() + 1;
     for passed in 0..end {
         let call = Some(passed as u64 + 1);
         let failing = sink(rt, 1).failing_at(call);
         let taking_nothing = sink(rt, 1).taking_nothing_at(call);
-        if !is_cut(query, doc, text, passed, failing) {
-            return false;
+        if !is_cut(query, &doc, text, passed, failing) {
+            return Ok(false);
         }
-        if !is_cut(query, doc, text, passed, taking_nothing) {
-            return false;
+        if !is_cut(query, &doc, text, passed, taking_nothing) {
+            return Ok(false);
         }
     }
-    true
+    Ok(true)
 }
 
 #[test]
-fn rows_are_given_up_to_the_write_that_fails(rt: HostRuntime) -> Result<(), Fail> {
-    for (query, makefile, text) in ROWS {
-        let doc = document(&rt, makefile)?;
-        assert!(rt; gives_fronts(&rt, query, &doc, text));
+fn rows_are_given_up_to_the_write_that_fails(rt: HostRuntime) {
+    for row in &ROWS {
+        assert_eq!(rt; gives_fronts(&rt, row), Ok(true));
     }
-    Ok(())
 }
 
 // Whether the text of 10,000 equal lines goes out in few writes; and where the second fails, the

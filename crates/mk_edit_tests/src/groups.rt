@@ -75,15 +75,27 @@ fn is_refused<'a>(
     Ok(refused)
 }
 
+// How many growths a group or its dry run has, each of which is refused in turn; 100 if it has more.
+fn growths_of<'a>(
+    rt: &HostRuntime,
+    heap: &'a Heap,
+    edits: &[Edit<&'a Heap>],
+    is_dry: bool,
+) -> Result<u64, Fail> {
+    for admitted in 0..100 {
+        if !is_refused(rt, heap, edits, is_dry, admitted)? {
+            return Ok(admitted);
+        }
+    }
+    Ok(100)
+}
+
 #[test]
 fn each_growth_of_a_group_is_refused_in_turn(rt: HostRuntime) -> Result<(), Fail> {
     let heap = Watched::new(rt.alloc());
     let edits = two_edits(&heap)?;
     for is_dry in [false, true] {
-        let mut growths = 0u64;
-        while growths < 100 && is_refused(&rt, &heap, &edits, is_dry, growths)? {
-            growths += 1;
-        }
+        let growths = growths_of(&rt, &heap, &edits, is_dry)?;
         // two rings for the group, and some for each edit
         assert!(rt; growths > 4 && growths < 100);
     }
