@@ -80,11 +80,11 @@ demo: $(TRIED)
 	@echo "'make' proves mkedit, and builds the program that 'make install' installs."
 
 test:
-	@python3 -B -m tests.gate --quick
+	@python3 -B -m tests.gate
 
 # Needs no program: rt ci proves and builds its own.
 check:
-	@python3 -B -m tests.gate
+	@python3 -B -m tests.gate rt ci
 
 hostile: $(PROGRAM)
 	@python3 -B -m tests.hostile $(BUILT)

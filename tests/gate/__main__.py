@@ -1,7 +1,7 @@
 """The test of a change.
 
-    python3 -m tests.gate            `make check`: the lint, the stored rows, `rt ci`, the tests of the program
-    python3 -m tests.gate --quick    `make test`: the same without `rt ci`, and so without a proof, in minutes
+    python3 -m tests.gate rt ci    `make check`: the lint, the stored rows, `rt ci`, the tests of the program
+    python3 -m tests.gate          `make test`: the same without `rt ci`, and so without a proof, in minutes
 
 `rt ci` proves every crate with its tests, has the prover refuse each must-fail edit, and runs the tests and
 the programs. Here an edit that does not apply or compile is a failure too. `rt ci` leaves the program, which
@@ -73,10 +73,10 @@ def program(path, is_made, *words):
     return Part("program", 0, 1)
 
 
-def proved():
+def proved(command):
     """Runs rt ci, and tests the program that it has built."""
     start, built = time.time(), TOP / PROVED
-    yield run("rt ci", "rt", "ci")
+    yield run(" ".join(command), *command)
     is_new = built.is_file() and built.stat().st_mtime >= start
     yield program(BUILT, is_new and not subprocess.run(["tools/link", PROVED, BUILT], cwd=TOP).returncode)
 
@@ -88,7 +88,7 @@ def tried():
 
 def main():
     parts = [module(it) for it in ("gate.lint", "gate.test_lint", "gate.rows")]
-    parts += tried() if sys.argv[1:] == ["--quick"] else proved()
+    parts += proved(sys.argv[1:]) if sys.argv[1:] else tried()
     failed = sum(it.failed for it in parts)
     print("seconds on the clock (of the processors):", end=" ")
     print(", ".join(f"{it.name} {it.clock:.0f} ({it.processors:.0f})" for it in parts))
