@@ -3,6 +3,7 @@
 use mk_lines::Fault;
 use mk_prompt::{Heard, Obeyed, answer_line, obey_line, text_of};
 use mk_session::{Refusal, Session};
+use std::alloc::Global;
 use std::test::Fail;
 use test_support::{MemorySink, Watched};
 
@@ -41,46 +42,60 @@ fn lines_have_these_replies(rt: HostRuntime) -> Result<(), Fail> {
     Ok(())
 }
 
+// Whether an edit is made and a front of its reply is out where this write fails, if there are so many.
+fn is_front_out(rt: &HostRuntime, call: u64) -> Result<bool, Fail> {
+    let mut session = Session::open(rt.alloc(), MAKEFILE, 100)?;
+    let mut out = MemorySink::new(Vec::new(rt.alloc()), 2).failing_at(Some(call));
+    let line = b"set CC clang\n";
+    let answer = answer_line(rt.alloc(), &mut session, line, &mut out, &mut ());
+    let expected = if out.writes() < call {
+        Ok(Heard::Command)
+    } else {
+        Err(Fault::Write)
+    };
+    let is_front = answer == expected && b"ok\n".starts_with(out.bytes());
+    Ok(is_front && text_of(rt.alloc(), session.doc())?.as_slice() == EDITED)
+}
+
 #[test]
 fn each_write_fails_in_turn(rt: HostRuntime) -> Result<(), Fail> {
-    for call in 1..4u64 {
-        let mut session = Session::open(rt.alloc(), MAKEFILE, 100)?;
-        let mut out = MemorySink::new(Vec::new(rt.alloc()), 2).failing_at(Some(call));
-        let line = b"set CC clang\n";
-        let answer = answer_line(rt.alloc(), &mut session, line, &mut out, &mut ());
-        let expected = if out.writes() < call {
-            Ok(Heard::Command)
-        } else {
-            Err(Fault::Write)
-        };
-        assert_eq!(rt; answer, expected);
-        assert!(rt; b"ok\n".starts_with(out.bytes()));
-        assert_eq!(rt; text_of(rt.alloc(), session.doc())?.as_slice(), EDITED);
+    for call in 1..4 {
+        assert!(rt; is_front_out(&rt, call)?);
     }
     Ok(())
+}
+
+// Refuses a growth of an edit, and says whether it has so many. An error if the reply or the text is
+// another than that of an edit that was refused, or made.
+fn is_refused(rt: &HostRuntime, heap: &Watched<Global>, admitted: u64) -> Result<bool, Fail> {
+    heap.refuse_none();
+    let mut session = Session::open(heap, MAKEFILE, 100)?;
+    let mut out = MemorySink::new(Vec::new(rt.alloc()), 100);
+    heap.refuse_one_after(admitted);
+    let answer = answer_line(heap, &mut session, b"set CC clang\n", &mut out, &mut ());
+    let refused = heap.has_refused();
+    let (reply, text) = if refused {
+        (b"fault no memory\n".as_slice(), MAKEFILE)
+    } else {
+        (b"ok\n".as_slice(), EDITED)
+    };
+    if answer != Ok(Heard::Command) || out.bytes() != reply {
+        return Err(Fail::from("another reply"));
+    }
+    if text_of(rt.alloc(), session.doc())?.as_slice() != text {
+        return Err(Fail::from("another text"));
+    }
+    Ok(refused)
 }
 
 #[test]
 fn each_growth_is_refused_in_turn(rt: HostRuntime) -> Result<(), Fail> {
     let heap = Watched::new(rt.alloc());
     for admitted in 0..100 {
-        heap.refuse_none();
-        let mut session = Session::open(&heap, MAKEFILE, 100)?;
-        let mut out = MemorySink::new(Vec::new(rt.alloc()), 100);
-        heap.refuse_one_after(admitted);
-        let answer = answer_line(&heap, &mut session, b"set CC clang\n", &mut out, &mut ());
-        assert_eq!(rt; answer, Ok(Heard::Command));
-        let (reply, text) = if heap.has_refused() {
-            (b"fault no memory\n".as_slice(), MAKEFILE)
-        } else {
-            (b"ok\n".as_slice(), EDITED)
-        };
-        assert_eq!(rt; out.bytes(), reply);
-        assert_eq!(rt; text_of(rt.alloc(), session.doc())?.as_slice(), text);
-        if !heap.has_refused() {
+        if !is_refused(&rt, &heap, admitted)? {
             assert!(rt; admitted > 0);
-            break;
+            return Ok(());
         }
     }
-    Ok(())
+    Err(Fail::from("each growth was refused"))
 }

@@ -14,15 +14,22 @@ fn edit<A: Allocator + Copy>(alloc: A, session: &mut Session<A>) {
     }
 }
 
+type Answer = Result<Reverted, Refusal>;
+
+// What a session of this depth answers after two edits, and then in a group.
+fn answers(rt: &HostRuntime, depth: u32) -> Result<(Answer, Answer), Fail> {
+    let mut session = Session::open(rt.alloc(), MAKEFILE, depth)?;
+    edit(rt.alloc(), &mut session);
+    let alone = revert(rt.alloc(), &mut session, MAKEFILE);
+    session.begin()?;
+    Ok((alone, revert(rt.alloc(), &mut session, MAKEFILE)))
+}
+
 #[test]
 fn all_is_undone_within_the_depth(rt: HostRuntime) -> Result<(), Fail> {
     for (depth, reverted) in [(1, Reverted::BeyondDepth), (2, Reverted::Opened)] {
-        let mut session = Session::open(rt.alloc(), MAKEFILE, depth)?;
-        edit(rt.alloc(), &mut session);
-        assert_eq!(rt; revert(rt.alloc(), &mut session, MAKEFILE), Ok(reverted));
-        session.begin()?;
-        let refused = revert(rt.alloc(), &mut session, MAKEFILE);
-        assert_eq!(rt; refused, Err(Refusal::GroupOpen));
+        let expected = (Ok(reverted), Err(Refusal::GroupOpen));
+        assert_eq!(rt; answers(&rt, depth)?, expected);
     }
     Ok(())
 }
