@@ -114,6 +114,8 @@ class Releases(RoomCase):
     def test_make_packs_both(self):
         self.room.copy_program()
         shutil.copy(self.program.path, self.room.folder / "built")
+        # (an empty object file is none for tools/link, and for make there is no program to be built)
+        self.room.write("built.o", b"")
         given = {"PROGRAM": self.room.program.path, "BUILT": self.room.folder / "built", "DIST": self.out}
         words = ["make", "dist", "deb", *(f"{name}={value}" for name, value in given.items())]
         kept = {it: os.environ[it] for it in ("PATH", "HOME", "TMPDIR") if it in os.environ}
