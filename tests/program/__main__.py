@@ -20,8 +20,15 @@ from tests.lib.checks import Tally, command
 HERE = Path(__file__).resolve().parent
 # The tests that take longest are begun first.
 LONG = ("test_judge", "test_tables", "test_queries", "test_random_work")
-# Those that take minutes over a program that checks itself.
-SLOW_UNPROVED = (*LONG, "test_hostile_shapes", "test_large_edits", "test_limits")
+# Those that take minutes over a program that checks itself, or that bound its memory: modules, and a test.
+UNPROVED_SKIPPED = (
+    *LONG,
+    "test_address_space",
+    "test_hostile_shapes",
+    "test_json.Json.test_without_memory_for_the_lines_none_of_them_is_printed",
+    "test_large_edits",
+    "test_limits",
+)
 
 
 def said(fault):
@@ -73,9 +80,9 @@ def names(is_quick=False):
     found = list(names_of(loader.discover(HERE, top_level_dir=TOP)))
     if loader.errors:
         sys.exit("\n".join(loader.errors))
-    for module in SLOW_UNPROVED if is_quick else ():
-        print(f"skipped tests.program.{module}: it takes minutes over a program that checks itself", flush=True)
-        found = [it for it in found if it.split(".")[2] != module]
+    for skipped in UNPROVED_SKIPPED if is_quick else ():
+        print(f"skipped tests.program.{skipped}: a program that checks itself takes minutes, or more memory", flush=True)
+        found = [it for it in found if not f"{it}.".startswith(f"tests.program.{skipped}.")]
     return sorted(found, key=lambda it: it.split(".")[2] not in LONG)
 
 
@@ -93,7 +100,7 @@ def main():
     parser = command("tests.program", "Tests the built program mkedit.")
     processors = len(os.sched_getaffinity(0))
     parser.add_argument("--processes", type=int, default=processors, help="how many processes")
-    parser.add_argument("--quick", action="store_true", help="leave out what takes minutes over a program that checks itself")
+    parser.add_argument("--quick", action="store_true", help="leave out what takes minutes, or more memory, with a program that checks itself")
     given = parser.parse_args()
     os.environ["MKEDIT"] = str(given.program.path)
     total = Tally()

@@ -66,7 +66,9 @@ class Building(RoomCase):
             path.chmod(0o755)
 
     def run_words(self, *words):
-        environment = {**os.environ, "PATH": f"{self.names}:{os.environ['PATH']}"}
+        # (under make, a make that is started says so)
+        environment = {name: value for name, value in os.environ.items() if not name.startswith(("MAKE", "MFLAGS"))}
+        environment["PATH"] = f"{self.names}:{os.environ['PATH']}"
         ran = subprocess.run(words, cwd=self.top, env=environment, timeout=SECONDS, capture_output=True)
         return Outcome(re.sub(rb"(\d+ min )?\d+ s\n", b"N s\n", ran.stdout), ran.stderr, ran.returncode)
 
