@@ -81,14 +81,12 @@ def proved(command):
     yield program(BUILT, is_new and not subprocess.run(["tools/link", PROVED, BUILT], cwd=TOP).returncode)
 
 
-def tried():
-    """Tests the program that tools/try builds."""
-    yield program(TRIED, not subprocess.run(["make", "-s", TRIED], cwd=TOP).returncode, "--quick")
-
-
 def main():
+    command = sys.argv[1:]
+    # (the program of the quick test is built beside the lint)
+    build = None if command else subprocess.Popen(["make", "-s", TRIED], cwd=TOP)
     parts = [module(it) for it in ("gate.lint", "gate.test_lint", "gate.rows")]
-    parts += proved(sys.argv[1:]) if sys.argv[1:] else tried()
+    parts += proved(command) if command else [program(TRIED, not build.wait(), "--quick")]
     failed = sum(it.failed for it in parts)
     print("seconds on the clock (of the processors):", end=" ")
     print(", ".join(f"{it.name} {it.clock:.0f} ({it.processors:.0f})" for it in parts))

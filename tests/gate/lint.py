@@ -5,7 +5,6 @@
     twins      definitions and lemmas of some length that are equal but for their names
     uncited    definitions and lemmas that no source, row, law or answer to the prover is built on
     pub        what is `pub`, and no other file names
-    imports    imports that their file does not name
     parts      files of definitions in the wrong part of specs/Lib.antt (believed.py)
 
 A finding has one line; the last line is 'N passed, M failed', where N counts definitions and lemmas. The
@@ -21,7 +20,7 @@ from tests import TOP
 from tests.lib.checks import Tally
 
 from . import antt, believed, documents
-from .names import Names, citations, words_in
+from .names import Names, citations
 
 GHOST_USE = re.compile(r"ghost use ([^;]*);")
 USING = re.compile(r"\busing\(([^)]*)\)")
@@ -148,16 +147,6 @@ class Citations:
             if it.is_pub and not users and not is_met and not is_left and not is_answer(file, it):
                 yield place
 
-    def unused_imports(self):
-        """Imports that their file does not name."""
-        for file in (file for file in self.files.values() if not file.is_rows):
-            words = {word for it in file.declarations for word in words_in(it)} | set(file.opened)
-            heads = words | {word.partition(".")[0] for word in words}
-            for use in file.uses:
-                parts = [part for part in use.local.split("◌") if part]
-                if not use.is_pub and use.local not in heads and not heads.issuperset(parts):
-                    yield f"{file.shown}:{use.line} {use.local}"
-
 
 def main():
     cited, tally = Citations(), Tally()
@@ -167,7 +156,6 @@ def main():
         ("twins", cited.twins()),
         ("uncited", cited.uncited()),
         ("pub", cited.needlessly_pub()),
-        ("imports", cited.unused_imports()),
         ("parts", believed.problems(cited.files)),
     ):
         for problem in found:

@@ -31,8 +31,7 @@ class Names:
         """What each name of a file means: a pair, or the name of a module."""
         scope = {}
         for use in file.uses:
-            path = f"{use.module}"
-            scope[use.local] = path if use.name is None else self.origin(path, use.name)
+            scope[use.local] = use.module if use.name is None else self.origin(use.module, use.name)
         for declaration in file.declarations:
             for name in declaration.own:
                 scope[name] = (file.module, name)
@@ -49,13 +48,8 @@ class Names:
         return None if found is None or isinstance(found, str) else (found, fields)
 
 
-def words_in(declaration):
-    """All words of a declaration."""
-    return declaration.parameters + declaration.statement + declaration.body
-
-
 def citations(names, file, declaration):
     """What a declaration names, apart from itself."""
-    meanings = (names.meaning(file.module, word) for word in words_in(declaration))
+    meanings = (names.meaning(file.module, word) for word in declaration.parameters + declaration.statement + declaration.body)
     own = {(file.module, name) for name in declaration.own}
     return {meaning[0] for meaning in meanings if meaning} - own

@@ -8,20 +8,15 @@ says which script makes which file of which table.
                                           which differ; the last line is 'N passed, M failed', and the
                                           status is 0 where none failed
     python3 -m tests.gate.rows --write    stores each
-    python3 -m tests.gate.rows --judge    compares the rows of the tables with what the judge says
 
-Run the second after a table or a script has changed, the third after a row was added, the first in
-every test of the whole project.
+Run the second after a table or a script has changed; the first is a part of every test.
 """
 
-import argparse
 import subprocess
 import sys
 from typing import NamedTuple
 
 from tests import TOP
-from tests.lib.checks import Tally
-from tests.soak.tables import check_judge
 
 
 class Stored(NamedTuple):
@@ -88,24 +83,10 @@ def problem_of(stored, write):
     return None
 
 
-def judged():
-    """Compares the rows of the tables with the judge."""
-    tally = Tally()
-    check_judge(tally)
-    print(tally, flush=True)
-    return 1 if tally.failed else 0
-
-
 def main():
-    parser = argparse.ArgumentParser(description="Compares the stored files of rows with what makes them.")
-    parser.add_argument("--write", action="store_true", help="store what is made")
-    parser.add_argument("--judge", action="store_true", help="compare the tables with the judge")
-    given = parser.parse_args()
-    if given.judge:
-        return judged()
-    failed = 0
+    failed, write = 0, sys.argv[1:] == ["--write"]
     for stored in STORED:
-        problem = problem_of(stored, given.write)
+        problem = problem_of(stored, write)
         if problem:
             failed += 1
             print(f"FAILED crates/{stored.crate}/{stored.name}: {problem}")

@@ -76,7 +76,6 @@ class Lint(unittest.TestCase):
         self.assertEqual([*cited.twins()], [f"{one}, {two}"])
         self.assertEqual([*cited.uncited()], [spare, one, two])
         self.assertEqual([*cited.needlessly_pub()], [spare])
-        self.assertEqual([*cited.unused_imports()], ["crates/low/specs/Base.antt:1 IsHeld"])
 
     def test_what_public_contracts_need_is_found(self):
         self.write_all()

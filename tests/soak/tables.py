@@ -1,6 +1,11 @@
-"""The judge beside the tables of runs and edits, whose answers come from elsewhere."""
+"""The judge beside the tables of runs and edits, whose answers come from elsewhere.
 
-from tests.lib.checks import Outcome, differences
+    python3 -m tests.soak.tables    compares them; the last line is 'N passed, M failed'
+"""
+
+import sys
+
+from tests.lib.checks import Outcome, Tally, differences
 from tests.lib.tables import rows, unescape
 
 from .cases import USUAL_DEPTH
@@ -38,7 +43,13 @@ def judged_rows():
             yield f"the judge on {table}: {row['name']}", list(problems_of(row))
 
 
-def check_judge(tally):
-    """Compares the judge with the tables."""
+def main():
+    tally = Tally()
     for name, problems in judged_rows():
         tally.add(name, problems)
+    print(tally, flush=True)
+    return 1 if tally.failed else 0
+
+
+if __name__ == "__main__":
+    sys.exit(main())
