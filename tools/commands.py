@@ -1,8 +1,7 @@
 """What is said of each command of a script, read from its one source, and the forms in which the documents have it.
 
-The forms of the commands stand in crates/mkedit/src/script_command.rt, and the texts in command_texts.rt
-beside it, as the program prints them: what the command does, its refusals, and an example, with an empty
-line between the three.
+The commands and their texts stand in crates/mkedit/src/command_texts.rt, as the program prints them: what
+the command does, its refusals, and an example, with an empty line between the three.
 """
 
 import re
@@ -13,11 +12,10 @@ import mdoc
 from refusals import CONSTANT, ESCAPE, ESCAPED, cell, on_one_line, outdented
 
 TOP = Path(__file__).resolve().parent.parent
-FORMS = "crates/mkedit/src/script_command.rt"
 TEXTS = "crates/mkedit/src/command_texts.rt"
 
-FORM = re.compile(r'^ +ScriptCommand::(\w+) => "(.*)",$', re.M)
-CHOICE = re.compile(r"^ +ScriptCommand::(\w+) => ([A-Z_]+),$", re.M)
+# A command's form, and the constant that has its text.
+ROW = re.compile(r'^ +\("(.*)", ([A-Z_]+)\),$', re.M)
 PARTS = re.compile(
     r"(.*?)\n\nIs refused with (.*?)\.\n\nExample: over\n(.*?)\nthe script\n(.*?)\nmakes\n(.*)\n", re.S
 )
@@ -62,13 +60,13 @@ def command_of(form, text):
 
 
 def commands(top=TOP):
-    """All commands, in the order of the program. A ValueError says what the sources have in another form."""
-    forms, source = ((top / it).read_text(encoding="utf-8") for it in (FORMS, TEXTS))
+    """All commands, in the order of the program. A ValueError says what the source has in another form."""
+    source = (top / TEXTS).read_text(encoding="utf-8")
     texts = {name: ESCAPE.sub(lambda it: ESCAPED[it[1]], text) for name, text in CONSTANT.findall(source)}
-    chosen, forms = dict(CHOICE.findall(source)), FORM.findall(forms)
-    if [*chosen] != [name for name, _ in forms] or sorted(texts) != sorted(chosen.values()):
-        raise ValueError(f"{FORMS} and {TEXTS} have not the same commands")
-    return [command_of(form, texts[chosen[name]]) for name, form in forms]
+    rows = ROW.findall(source)
+    if sorted(texts) != sorted(name for _, name in rows):
+        raise ValueError(f"{TEXTS} has not one text for each command")
+    return [command_of(form, texts[name]) for form, name in rows]
 
 
 def table(found):

@@ -6,4 +6,3 @@ pub mod ScriptLemmas
 pub mod OneLemmas
 pub mod WrittenLines
 pub mod CommandLemmas
-pub mod MistakeLemmas

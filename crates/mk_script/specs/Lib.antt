@@ -8,15 +8,13 @@ pub mod Lines
 pub mod Scripts
 pub mod ScriptsOfCommands
 pub mod ScriptLaws
--- What is wrong with a line that is no command; how its fields and words are read
-pub mod FieldReading
-pub mod NumberReading
+-- The words of a script, and words that are spelled alike
 pub mod WordReading
-pub mod ReaderAnswers
 pub mod Spelling
-pub mod Mistakes
 -- # Vocabulary of private contracts
 -- How the code reads a line: what the contracts within this crate say
+pub mod FieldReading
+pub mod NumberReading
+pub mod ReaderAnswers
 pub mod SeenFields
-pub mod SeenFaults
 pub mod CommandReading

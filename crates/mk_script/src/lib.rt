@@ -35,7 +35,7 @@ pub mod spelling;
 pub mod step;
 mod word;
 
-pub use mistake::{FieldName, Mistake, MistakeCause, mistake_at, mistake_of, nearest_at};
+pub use mistake::{FieldName, Mistake, MistakeCause, mistake_at, nearest_at};
 pub use mk_command::Command;
 pub use script::{ScriptFault, parse_script};
 pub use step::{Chain, NumberedCommand, NumberedEdit, Step};

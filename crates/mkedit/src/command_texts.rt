@@ -3,8 +3,6 @@
 //! `make texts` makes of this file what README.md, docs/EDITS.md, docs/mkedit-script.5 and the completions
 //! say of commands in the same words.
 
-use crate::script_command::ScriptCommand;
-
 const SET: &str = "\
 Gives an assignment another value.
 
@@ -409,35 +407,34 @@ makes
     CC = clang
 ";
 
-/// What is said of a command: what it does, with which refusals, and an example.
-pub fn command_text(command: ScriptCommand) -> &'static str {
-    match command {
-        ScriptCommand::Set => SET,
-        ScriptCommand::Append => APPEND,
-        ScriptCommand::Add => ADD,
-        ScriptCommand::Drop => DROP,
-        ScriptCommand::Unset => UNSET,
-        ScriptCommand::Assign => ASSIGN,
-        ScriptCommand::Rule => RULE,
-        ScriptCommand::Unrule => UNRULE,
-        ScriptCommand::Depend => DEPEND,
-        ScriptCommand::DependOrder => DEPEND_ORDER,
-        ScriptCommand::Undepend => UNDEPEND,
-        ScriptCommand::Recipe => RECIPE,
-        ScriptCommand::RecipeInsert => RECIPE_INSERT,
-        ScriptCommand::RecipeSet => RECIPE_SET,
-        ScriptCommand::RecipeDel => RECIPE_DEL,
-        ScriptCommand::RecipeReplace => RECIPE_REPLACE,
-        ScriptCommand::RecipeRemove => RECIPE_REMOVE,
-        ScriptCommand::Rename => RENAME,
-        ScriptCommand::Nth => NTH,
-        ScriptCommand::All => ALL,
-        ScriptCommand::Undo => UNDO,
-        ScriptCommand::Redo => REDO,
-        ScriptCommand::Begin => BEGIN,
-        ScriptCommand::End => END,
-        ScriptCommand::Cancel => CANCEL,
-        ScriptCommand::Try => TRY,
-        ScriptCommand::Or => OR,
-    }
-}
+/// The commands of a script, and the words that may stand before one: the form of each, which is its word
+/// and its fields, and what is said of it.
+pub const COMMANDS: [(&str, &str); 27] = [
+    ("set NAME VALUE", SET),
+    ("append NAME VALUE", APPEND),
+    ("add NAME WORD", ADD),
+    ("drop NAME WORD", DROP),
+    ("unset NAME", UNSET),
+    ("assign PLACE NAME OP VALUE", ASSIGN),
+    ("rule PLACE TARGETS SEP PREREQS", RULE),
+    ("unrule TARGET", UNRULE),
+    ("depend TARGET WORD", DEPEND),
+    ("depend-order TARGET WORD", DEPEND_ORDER),
+    ("undepend TARGET WORD", UNDEPEND),
+    ("recipe TARGET LINE", RECIPE),
+    ("recipe-insert TARGET K LINE", RECIPE_INSERT),
+    ("recipe-set TARGET K LINE", RECIPE_SET),
+    ("recipe-del TARGET K", RECIPE_DEL),
+    ("recipe-replace TARGET OLD LINE", RECIPE_REPLACE),
+    ("recipe-remove TARGET OLD", RECIPE_REMOVE),
+    ("rename OLD NEW", RENAME),
+    ("nth N COMMAND", NTH),
+    ("all COMMAND", ALL),
+    ("undo", UNDO),
+    ("redo", REDO),
+    ("begin", BEGIN),
+    ("end", END),
+    ("cancel", CANCEL),
+    ("try COMMAND", TRY),
+    ("or COMMAND", OR),
+];

@@ -1,22 +1,19 @@
 //! How the program ends: a message on standard error, and the status.
-ghost use Rattle.std.specs.Prelude.{◌≡◌, ◌≢◌, ◌++◌, None, false, option_map, max, if◌then◌else◌};
-ghost use Rattle.std.specs.Option.{option_or};
+ghost use Rattle.std.specs.Prelude.{◌≡◌, ◌≢◌, ◌++◌, [], false, max, string_bytes};
 ghost use Rattle.std.specs.Io.KnownBytes.{Appends};
 ghost use Rattle.std.specs.Process.{exit_status};
 ghost use Rattle.clap.specs.Values.{kind_of};
 ghost use Rattle.clap.specs.declared.error.kind.ErrorKind.TheVariants.{DisplayHelp, DisplayVersion};
-ghost use Rattle.mk_lines.specs.Device.{AppendsPrefix};
-ghost use Rattle.mk_lines.specs.Device.{Writes};
+ghost use Rattle.mk_lines.specs.Device.{AppendsPrefix, Writes};
 ghost use Rattle.mk_run.specs.Outcome.{message_of, status_of};
-ghost use Rattle.mkedit.specs.Endings.{said_of_end};
-ghost use Rattle.mkedit.specs.MistakeNotes.{mistake_notes, seen_mistake};
-ghost use Rattle.mkedit.specs.Notes.{notes_of};
 
 use crate::files::CannotOpen;
-use crate::mistakes::{ScriptMistake, put_mistake};
-use crate::notes::{SystemFault, put_notes};
+use crate::mistakes::{ScriptMistake, push_mistake};
+use crate::notes::SystemFault;
+use mk_lines::sink::write_all;
 use mk_lines::{ByteSink, Fault, StdSink};
 use mk_run::{Outcome, message, status};
+use std::alloc::{AllocError, Global};
 use std::process::ExitCode;
 
 /// The status of a bad command line.
@@ -39,9 +36,7 @@ pub struct End<'a> {
 impl<'a> End<'a> {
     /// An end of which no fault of the system is told, and no mistake.
     pub fn of(outcome: Outcome) -> End<'a>
-        ensures outcome { result.outcome ≡ outcome }
-        ensures fault { result.fault ≡ None }
-        ensures mistake { result.mistake ≡ None }
+        ensures { result.outcome ≡ outcome }
     {
         End {
             outcome,
@@ -52,9 +47,7 @@ impl<'a> End<'a> {
 
     /// The same end, with this fault where it has none.
     pub fn with_fault(self, fault: Option<SystemFault<'a>>) -> End<'a>
-        ensures outcome { result.outcome ≡ self.entry.outcome }
-        ensures fault { result.fault ≡ option_or self.entry.fault fault.entry }
-        ensures mistake { result.mistake ≡ self.entry.mistake }
+        ensures { result.outcome ≡ self.entry.outcome }
     {
         match self.fault {
             Some(_) => self,
@@ -64,74 +57,59 @@ impl<'a> End<'a> {
 
     /// The same end, with this mistake of the script.
     pub fn with_mistake(self, mistake: Option<ScriptMistake<'a>>) -> End<'a>
-        ensures outcome { result.outcome ≡ self.entry.outcome }
-        ensures fault { result.fault ≡ self.entry.fault }
-        ensures mistake { result.mistake ≡ mistake.entry }
+        ensures { result.outcome ≡ self.entry.outcome }
     {
         End { mistake, ..self }
     }
 
-    /// The fault that is told: none without notes.
-    pub fn told_fault(&self, notes: bool) -> Option<SystemFault<'a>>
-        ensures { result ≡ (if notes then self.now.fault else None) }
-    {
-        if notes { self.fault } else { None }
-    }
-
-    // The mistake that is told: none without notes.
-    fn told_mistake(&self, notes: bool) -> Option<ScriptMistake<'a>>
-        ensures { result ≡ (if notes then self.now.mistake else None) }
-    {
-        if notes { self.mistake } else { None }
+    // The notes on its fault and on its mistake.
+    fn notes(&self, alloc: Global) -> Result<String, AllocError> {
+        let mut notes = String::new(alloc);
+        if let Some(fault) = self.fault {
+            writeln!(notes, "{fault}")?;
+        }
+        if let Some(found) = &self.mistake {
+            push_mistake(&mut notes, found)?;
+        }
+        Ok(notes)
     }
 }
 
-// Writes the notes on a fault and on a mistake of the script.
-fn tell_notes<W: ByteSink>(
-    fault: Option<SystemFault<'_>>,
-    mistake: Option<ScriptMistake<'_>>,
-    errors: &mut W,
-) -> Result<(), Fault>
-    requires { W.failed errors.old ≡ false }
-    ensures { Writes W.contents W.failed W.flushes errors.old errors.new result
-        (notes_of fault.entry ++ mistake_notes (option_map seen_mistake mistake.entry)) }
+/// The notes on an end, where there are notes; nothing where memory ends.
+pub fn notes_on(alloc: Global, end: &End<'_>, notes: bool) -> String
+    ensures { notes ≡ false → string_bytes result ≡ [] }
 {
-    put_notes(fault, errors)?;
-    put_mistake(mistake, errors)
+    if !notes {
+        return String::new(alloc);
+    }
+    match end.notes(alloc) {
+        Ok(notes) => notes,
+        Err(_) => String::new(alloc),
+    }
 }
 
-// Writes the message on an outcome, and below it the notes on a fault and on a mistake of the script.
-fn tell<W: ByteSink>(
-    outcome: &Outcome,
-    fault: Option<SystemFault<'_>>,
-    mistake: Option<ScriptMistake<'_>>,
-    errors: &mut W,
-) -> Result<(), Fault>
+// Writes the message on an outcome, and some notes below it.
+fn tell<W: ByteSink>(outcome: &Outcome, notes: &[u8], errors: &mut W) -> Result<(), Fault>
     requires { W.failed errors.old ≡ false }
     ensures { Writes W.contents W.failed W.flushes errors.old errors.new result
-        (message_of outcome.now ++ (notes_of fault.entry ++ mistake_notes (option_map seen_mistake mistake.entry))) }
+        (message_of outcome.now ++ notes.now) }
 {
     message(outcome, errors)?;
-    tell_notes(fault, mistake, errors)
+    write_all(errors, notes)
 }
 
-// Puts the message on an end out, and below it its notes where there are notes, and answers the
-// outcome's status. A fault of the message changes no status.
-fn told<W: ByteSink>(end: &End<'_>, notes: bool, errors: &mut W) -> ExitCode
+// Puts the message on an outcome out, and some notes below it, and answers the outcome's status. A fault
+// of the message changes no status.
+fn told<W: ByteSink>(outcome: &Outcome, notes: &[u8], errors: &mut W) -> ExitCode
     requires { W.failed errors.old ≡ false }
-    ensures status { exit_status result ≡ status_of end.now.outcome }
-    ensures message { W.failed errors.new ≡ false
-        → Appends (W.contents errors.old) (W.contents errors.new) (said_of_end end.now notes) }
+    ensures status { exit_status result ≡ status_of outcome.now }
+    ensures message { W.failed errors.new ≡ false → Appends (W.contents errors.old)
+        (W.contents errors.new) (message_of outcome.now ++ notes.now) }
     ensures prefix { AppendsPrefix (W.contents errors.old) (W.contents errors.new)
-        (said_of_end end.now notes) }
+        (message_of outcome.now ++ notes.now) }
 {
-    let _ = tell(
-        &end.outcome,
-        end.told_fault(notes),
-        end.told_mistake(notes),
-        errors,
-    );
-    ExitCode::from(status(&end.outcome))
+    let _ = tell(outcome, notes, errors);
+    ExitCode::from(status(outcome))
 }
 
 /// Puts the message on an end out on standard error, with the notes on its fault and on its mistake
@@ -139,8 +117,9 @@ fn told<W: ByteSink>(end: &End<'_>, notes: bool, errors: &mut W) -> ExitCode
 pub fn ended(rt: &HostRuntime, end: &End<'_>, notes: bool) -> ExitCode
     ensures { exit_status result ≡ status_of end.now.outcome }
 {
+    let below = notes_on(rt.alloc(), end, notes);
     let mut errors = StdSink::new(rt.stderr());
-    told(end, notes, &mut errors)
+    told(&end.outcome, below.as_bytes(), &mut errors)
 }
 
 /// Says that a file cannot be opened, and why where there are notes.
@@ -148,7 +127,8 @@ pub fn tell_not_opened(rt: &HostRuntime, file: &CannotOpen<'_>, notes: bool) {
     let name = file.0.name;
     let _ = eprintln!(rt; "mkedit: cannot open {name}");
     if notes {
-        let _ = put_notes(Some(file.0), &mut StdSink::new(rt.stderr()));
+        let fault = file.0;
+        let _ = eprintln!(rt; "{fault}");
     }
 }
 

@@ -28,8 +28,7 @@ pub fn with_exchanged<'a>(
     end: End<'a>,
     file: Option<&Input<'a>>,
 ) -> End<'a>
-    ensures outcome { result.outcome ≡ end.entry.outcome }
-    ensures fault { result.fault ≡ end.entry.fault }
+    ensures { result.outcome ≡ end.entry.outcome }
 {
     let (Script::From(_), Some(found), Some(Input::File(name))) = (&words.script, end.mistake, file)
     else {

@@ -1,6 +1,5 @@
 //! Files beside the standard streams.
 ghost use Rattle.std.specs.Prelude.{◌≡◌, IfOk, IfErr};
-ghost use Rattle.std.specs.IoError.{error_kind};
 
 use crate::notes::{Cause, SystemFault};
 use std::fs::{File, OpenOptions};
@@ -12,8 +11,7 @@ pub struct CannotOpen<'a>(pub SystemFault<'a>);
 
 // A file of this name cannot be opened for this error.
 fn cannot_open<'a>(name: &'a str, error: io::Error) -> CannotOpen<'a>
-    ensures name { result.0.name ≡ name.entry }
-    ensures cause { result.0.cause ≡ Cause.System (error_kind error) }
+    ensures { result.0.name ≡ name.entry }
 {
     let cause = Cause::from(error);
     CannotOpen(SystemFault { name, cause })

@@ -8,7 +8,6 @@
 //! - `comparison`: whether its bytes are those of the makefile.
 ghost use Rattle.std.specs.Prelude.{◌≡◌, ◌||◌, ◌≤◌, None, Some, false, is_err, length, IfOk, IfErr, IfSome, IsSomeAnd, OnErr, OnOk};
 ghost use Rattle.mk_lines.specs.Device.{is_refused};
-ghost use Rattle.mkedit.specs.Notes.{fault_if};
 ghost use Rattle.mkedit.specs.Settled.{IsKeptUnder, draft_of};
 
 mod comparison;
@@ -104,9 +103,7 @@ impl<'a> InPlaceFile<'a> {
     }
 
     /// Why the makefile could not be written, if it has failed.
-    pub fn fault(&self) -> Option<SystemFault<'a>>
-        ensures { result ≡ fault_if self.now.is_failed self.now.name self.now.cause }
-    {
+    pub fn fault(&self) -> Option<SystemFault<'a>> {
         if self.is_failed {
             Some(SystemFault {
                 name: self.name,

@@ -9,7 +9,7 @@
 //! - `query`: what a makefile has, by [`mk_queries`], [`mk_json`] and [`mk_lookup`]; `question`: what is
 //!   asked of it, and what is found.
 //! - `explain`: why a command is refused; `explanations` has the texts.
-//! - `help`: what a command of a script does; `script_command` has the commands, `command_texts` the texts.
+//! - `help`: what a command of a script does; `command_texts` has the commands and the texts.
 //! - `files`: files beside the standard streams.
 //! - `noted`: readers and writers that remember why they failed.
 //! - `kept`: a source whose bytes are kept; `mistakes`: the notes on a line of a script that is no command;
@@ -47,7 +47,6 @@ mod progress;
 mod query;
 mod question;
 mod refused;
-mod script_command;
 mod session;
 mod several;
 

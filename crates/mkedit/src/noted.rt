@@ -1,6 +1,5 @@
 //! Readers and writers of std that remember why they failed.
-ghost use Rattle.std.specs.Prelude.{◌≡◌, None};
-ghost use Rattle.mkedit.specs.Notes.{cause_by, fault_named};
+ghost use Rattle.std.specs.Prelude.{◌≡◌};
 
 use crate::notes::{Cause, SystemFault};
 use std::io;
@@ -17,8 +16,7 @@ pub struct Noted<D> {
 impl<D> Noted<D> {
     /// A device that has answered no error yet.
     pub fn new(device: D) -> Noted<D>
-        ensures device { result.device ≡ device }
-        ensures error { result.error ≡ None }
+        ensures { result.device ≡ device }
     {
         Noted {
             device,
@@ -27,29 +25,18 @@ impl<D> Noted<D> {
     }
 
     /// The kind of the last error, if there was one.
-    pub fn error(&self) -> Option<ErrorKind>
-        ensures { result ≡ self.now.error }
-    {
+    pub fn error(&self) -> Option<ErrorKind> {
         self.error
     }
 
     /// Why a device of this name failed, if it answered an error.
-    pub fn fault<'a>(&self, name: &'a str) -> Option<SystemFault<'a>>
-        ensures { result ≡ fault_named name.entry self.now.error }
-    {
-        match self.error {
-            Some(kind) => Some(SystemFault {
-                name,
-                cause: Cause::System(kind),
-            }),
-            None => None,
-        }
+    pub fn fault<'a>(&self, name: &'a str) -> Option<SystemFault<'a>> {
+        let cause = Cause::System(self.error?);
+        Some(SystemFault { name, cause })
     }
 
     /// Why a write failed that has failed: without an error it took nothing.
-    pub fn cause(&self) -> Cause
-        ensures { result ≡ cause_by self.now.error }
-    {
+    pub fn cause(&self) -> Cause {
         match self.error {
             Some(kind) => Cause::System(kind),
             None => Cause::TookNothing,

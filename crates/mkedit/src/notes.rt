@@ -1,14 +1,7 @@
 //! Notes: below a message, what the system said of a file or of a standard stream.
-ghost use Rattle.std.specs.Prelude.{◌≡◌, ◌||◌, false, None, Some};
-ghost use Rattle.std.specs.IoError.{error_kind};
-ghost use Rattle.mk_lines.specs.Device.{Writes};
-ghost use Rattle.mkedit.specs.declared.notes.Cause.TheVariants.{System};
-ghost use Rattle.mkedit.specs.Notes.{note_line, notes_of, part_of, said_by, said_of};
 
-use mk_lines::sink::{write_all, write_parts};
-use mk_lines::{ByteSink, Fault};
-use std::io;
 use std::io::ErrorKind;
+use std::{fmt, io};
 
 /// What standard input is called.
 pub const STANDARD_INPUT: &str = "standard input";
@@ -16,7 +9,7 @@ pub const STANDARD_INPUT: &str = "standard input";
 /// What standard output is called.
 pub const STANDARD_OUTPUT: &str = "standard output";
 
-/// Why a file or a standard stream failed.
+/// Why a file or a standard stream failed. It is shown in words.
 #[derive(Clone, Copy)]
 pub enum Cause {
     /// The system said so.
@@ -31,7 +24,7 @@ pub enum Cause {
     TookNothing,
 }
 
-/// What failed, and why.
+/// What failed, and why. It is shown as the line of its note.
 #[derive(Clone, Copy)]
 pub struct SystemFault<'a> {
     /// The name of the file, as the command line has it, or what the stream is called.
@@ -41,17 +34,13 @@ pub struct SystemFault<'a> {
 }
 
 impl From<io::Error> for Cause {
-    ghost from_gives = { λ error cause. cause ≡ System (error_kind error) };
-
     fn from(error: io::Error) -> Cause {
         Cause::System(error.kind())
     }
 }
 
 // What the system said, in words.
-fn said_by<'a>(kind: ErrorKind) -> &'a str
-    ensures { result.now ≡ said_by kind }
-{
+fn said_by(kind: ErrorKind) -> &'static str {
     match kind {
         ErrorKind::NotFound => "no such file",
         ErrorKind::PermissionDenied => "permission denied",
@@ -73,53 +62,22 @@ fn said_by<'a>(kind: ErrorKind) -> &'a str
     }
 }
 
-impl Cause {
-    // What failed of a file that was to be replaced; empty where it is the file itself.
-    fn part<'a>(self) -> &'a str
-        ensures { result.now ≡ part_of self }
-    {
-        match self {
-            Cause::NewFile(_) => "no new file beside it: ",
-            Cause::OldFile(_) => "the old file is not kept: ",
-            Cause::System(_) | Cause::NotRegular | Cause::TookNothing => "",
-        }
-    }
-
-    // The cause itself, in words.
-    fn said<'a>(self) -> &'a str
-        ensures { result.now ≡ said_of self }
-    {
-        match self {
-            Cause::System(kind) | Cause::NewFile(kind) | Cause::OldFile(kind) => said_by(kind),
-            Cause::NotRegular => "is no regular file",
-            Cause::TookNothing => "takes nothing",
-        }
+impl fmt::Display for Cause {
+    fn fmt<W: fmt::Write>(&self, f: &mut fmt::Formatter<W>) -> fmt::Result {
+        let (part, said) = match *self {
+            Cause::System(kind) => ("", said_by(kind)),
+            Cause::NewFile(kind) => ("no new file beside it: ", said_by(kind)),
+            Cause::OldFile(kind) => ("the old file is not kept: ", said_by(kind)),
+            Cause::NotRegular => ("", "is no regular file"),
+            Cause::TookNothing => ("", "takes nothing"),
+        };
+        write!(f, "{part}{said}")
     }
 }
 
-// Writes the line of a note on a file or a stream of this name.
-fn put_note<W: ByteSink>(name: &str, cause: Cause, out: &mut W) -> Result<(), Fault>
-    requires { W.failed out.old ≡ false }
-    ensures { Writes W.contents W.failed W.flushes out.old out.new result
-        (note_line name.now cause) }
-{
-    let name = name.as_bytes();
-    let part = cause.part().as_bytes();
-    let said = cause.said().as_bytes();
-    write_parts(out, &[name, b": note: ", part, said, b"\n"])
-}
-
-/// Writes the note on a fault, if there is one.
-///
-/// # Errors
-///
-/// [`Fault::Write`] where the sink failed. A prefix of the note is out then.
-pub fn put_notes<W: ByteSink>(fault: Option<SystemFault<'_>>, out: &mut W) -> Result<(), Fault>
-    requires { W.failed out.old ≡ false }
-    ensures { Writes W.contents W.failed W.flushes out.old out.new result (notes_of fault.entry) }
-{
-    match fault {
-        Some(fault) => put_note(fault.name, fault.cause, out),
-        None => write_all(out, b""),
+impl fmt::Display for SystemFault<'_> {
+    fn fmt<W: fmt::Write>(&self, f: &mut fmt::Formatter<W>) -> fmt::Result {
+        let (name, cause) = (self.name, self.cause);
+        write!(f, "{name}: note: {cause}")
     }
 }

@@ -1,7 +1,6 @@
 //! The file that a text goes to.
 ghost use Rattle.std.specs.Prelude.{◌≡◌, ◌||◌, ◌≤◌, None, Some, false, is_err, length, IfOk, IfErr, IfSome, IsSomeAnd};
 ghost use Rattle.mk_lines.specs.Device.{is_refused};
-ghost use Rattle.mkedit.specs.Notes.{fault_if};
 
 use crate::files::{CannotOpen, Created, create};
 use crate::noted::Noted;
@@ -39,9 +38,7 @@ impl<'a> OutFile<'a> {
     }
 
     /// Why the file has failed, if it has.
-    pub fn fault(&self) -> Option<SystemFault<'a>>
-        ensures { result ≡ fault_if self.now.is_failed self.now.name self.now.cause }
-    {
+    pub fn fault(&self) -> Option<SystemFault<'a>> {
         if self.is_failed {
             Some(SystemFault {
                 name: self.name,

@@ -184,7 +184,7 @@ fn put_named_answer<W: ByteSink>(
 ) -> Result<(), Fault>
     requires { W.failed out.old ≡ false }
 {
-    put_named(alloc, name, answer, &[], None, out)?;
+    put_named(alloc, name, answer, &[], b"", out)?;
     ByteSink::flush(out)
 }
 

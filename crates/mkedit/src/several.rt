@@ -9,12 +9,11 @@ ghost use Rattle.mk_script.specs.Scripts.{step_of};
 ghost use Rattle.mk_run.specs.RunEnds.{IsRunOver, TellsFaults, written};
 ghost use Rattle.mk_run.specs.RunSteps.{GivesSteps};
 ghost use Rattle.mkedit.specs.NamedLines.{named_lines};
-ghost use Rattle.mkedit.specs.Notes.{notes_of};
 
 use crate::destination::{Destination, destination_of, name_of};
 use crate::diff::{DiffForm, run_steps_diff};
 use crate::edit::form_of;
-use crate::ending::{CANNOT_OPEN, End, Statuses, ended, not_opened, tell_not_opened};
+use crate::ending::{CANNOT_OPEN, End, Statuses, ended, not_opened, notes_on, tell_not_opened};
 use crate::exchanged::with_exchanged;
 use crate::files::{CannotOpen, open};
 use crate::in_place::InPlaceFile;
@@ -22,7 +21,7 @@ use crate::kept::Kept;
 use crate::mistakes::COMMAND_LINES;
 use crate::named::named_lines;
 use crate::noted::Noted;
-use crate::notes::{Cause, STANDARD_INPUT, STANDARD_OUTPUT, SystemFault, put_notes};
+use crate::notes::{Cause, STANDARD_INPUT, STANDARD_OUTPUT, SystemFault};
 use crate::out_file::OutFile;
 use crate::progress::Progress;
 use crate::refused::{Names, NotesKept};
@@ -92,7 +91,7 @@ pub fn kept_outcome(outcome: Outcome, is_failed: bool) -> Outcome
 }
 
 /// Writes what is said of a makefile: some lines, each with the makefile's name before it and its notes
-/// below it, and below them the note on a fault.
+/// below it, and below them other notes.
 ///
 /// # Errors
 ///
@@ -102,7 +101,7 @@ pub fn put_named<A, W>(
     name: &str,
     lines: &[u8],
     below: &[Vec<u8>],
-    fault: Option<SystemFault<'_>>,
+    notes: &[u8],
     out: &mut W,
 ) -> Result<(), Fault>
 where
@@ -110,14 +109,14 @@ where
     W: ByteSink,
     requires { W.failed out.old ≡ false }
     ensures whole { OnOk result (Appends (W.contents out.old) (W.contents out.new)
-        (named_lines name.now lines.now (map (λ notes. notes.items) below.now) ++ notes_of fault.entry)) }
+        (named_lines name.now lines.now (map (λ notes. notes.items) below.now) ++ notes.now)) }
     ensures prefix { AppendsPrefix (W.contents out.old) (W.contents out.new)
-        (named_lines name.now lines.now (map (λ notes. notes.items) below.now) ++ notes_of fault.entry) }
+        (named_lines name.now lines.now (map (λ notes. notes.items) below.now) ++ notes.now) }
     ensures works { OnOk result (W.failed out.new ≡ false) }
 {
-    let named = named_lines(alloc, name.as_bytes(), lines, below)?;
-    write_all(out, named.as_slice())?;
-    put_notes(fault, out)
+    let mut named = named_lines(alloc, name.as_bytes(), lines, below)?;
+    named.extend_from_slice(notes)?;
+    write_all(out, named.as_slice())
 }
 
 // The witness that keeps the notes below the lines of a report, if there are notes.
@@ -298,8 +297,8 @@ pub fn tell_named(
     notes: bool,
 ) -> u8 {
     let outcome = keep_message(end.outcome, report);
-    let fault = end.told_fault(notes);
-    if !report.is_empty() || fault.is_some() {
+    let notes = notes_on(rt.alloc(), end, notes);
+    if !report.is_empty() || !notes.is_empty() {
         progress.wipe();
     }
     let mut errors = StdSink::new(rt.stderr());
@@ -308,7 +307,7 @@ pub fn tell_named(
         name_of(file),
         report.as_slice(),
         below,
-        fault,
+        notes.as_bytes(),
         &mut errors,
     ) {
         Ok(()) => status(&outcome),

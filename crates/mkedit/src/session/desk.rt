@@ -14,13 +14,10 @@ use super::journal::{EditMade, Journal};
 use super::not_done::{NotDone, shown_name};
 use super::on_disk::{look, look_missing, put, put_or_make};
 use super::text_lines::text_lines;
-use crate::command_texts::command_text;
 use crate::diff::diff_name;
-use crate::explain::{put_out, refusal_of};
-use crate::explanations::explanation;
-use crate::help::put_help;
+use crate::explain::{put_explanation, refusal_of};
+use crate::help::{command_called, put_help};
 use crate::question::{json_lines, put_lines};
-use crate::script_command::command_called;
 use mk_command_line::{Form, Input, Query, SessionWords};
 use mk_diff::diff;
 use mk_json as json;
@@ -220,7 +217,7 @@ impl<'a> Desk<'a> {
             return Err(NotDone::NoRefusal);
         };
         let mut sink = TextSink::new(self.rt.alloc());
-        match put_out(&refusal, explanation(&refusal), &mut sink) {
+        match put_explanation(&refusal, &mut sink) {
             Ok(()) => Ok(sink.text),
             Err(_) => Err(NotDone::NoMemory),
         }
@@ -235,7 +232,7 @@ impl<'a> Desk<'a> {
             return Err(NotDone::NoCommand);
         };
         let mut sink = TextSink::new(self.rt.alloc());
-        match put_help(command, command_text(command), &mut sink) {
+        match put_help(command, &mut sink) {
             Ok(()) => Ok(sink.text),
             Err(_) => Err(NotDone::NoMemory),
         }

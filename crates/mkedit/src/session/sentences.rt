@@ -1,13 +1,8 @@
 //! What is said at a terminal, as sentences.
-ghost use Rattle.std.specs.Prelude.{◌≡◌, false};
-ghost use Rattle.mk_lines.specs.Device.{Writes};
-ghost use Rattle.mkedit.specs.SessionSentences.{sentence_text};
 
 use super::not_done::NotDone;
 use crate::explanations::explanation;
-use crate::mistakes::{ScriptMistake, put_nearest, said_of, script_mistake};
-use mk_lines::sink::{write_all, write_parts};
-use mk_lines::{ByteSink, Fault};
+use crate::mistakes::{ScriptMistake, script_mistake};
 use mk_prompt::{TextSink, line_length};
 use mk_run::{Outcome, write_refusal};
 use mk_script::MistakeCause;
@@ -15,58 +10,13 @@ use mk_session::Refusal;
 use std::alloc::{AllocError, Global};
 
 /// What is said where no memory is left to say more.
-pub const NO_MEMORY: &[u8] = b"There is no memory for this.\n";
+pub const NO_MEMORY: &str = "There is no memory for this.\n";
 
 /// What is said of a command that was done and has changed no byte.
 pub const AS_IT_WAS: &[u8] = b"Done; the text is as it was.\n";
 
 /// What is said of a line that is too long.
 pub const TOO_LONG: &[u8] = b"This line is too long.\n";
-
-/// Writes why a request is not done, as a sentence. A makefile is shown by this name.
-///
-/// # Errors
-///
-/// [`Fault::Write`] if the sink failed. A prefix of the sentence is out then.
-pub fn put_sentence<W: ByteSink>(not_done: NotDone, name: &[u8], out: &mut W) -> Result<(), Fault>
-    requires { W.failed out.old ≡ false }
-    ensures { Writes W.contents W.failed W.flushes out.old out.new result
-        (sentence_text not_done name.now) }
-{
-    match not_done {
-        NotDone::Refused(refusal) => write_refusal(out, refusal),
-        NotDone::NotACommand => {
-            write_all(
-                out,
-                b"This is no command and no request; `help` lists them.\n",
-            )
-        }
-        NotDone::NoMemory => write_all(out, NO_MEMORY),
-        NotDone::NoRefusal => write_all(out, b"No refusal has this name or this number.\n"),
-        NotDone::NoCommand => write_all(out, b"No command of a script has this word.\n"),
-        NotDone::CannotRead => {
-            write_parts(out, &[name, b" cannot be read, and is not written.\n"])
-        }
-        NotDone::CannotWrite => write_parts(out, &[name, b" cannot be written.\n"]),
-        NotDone::HasChanged => write_parts(
-            out,
-            &[
-                name,
-                b" has changed since, and is not written; `write!` writes it.\n",
-            ],
-        ),
-        NotDone::BeyondDepth => {
-            write_all(
-                out,
-                b"All is undone that can be; the text is another than at first.\n",
-            )
-        }
-        NotDone::Unwritten => write_all(
-            out,
-            b"There are unwritten changes: `write` writes them, and `quit` once more drops them.\n",
-        ),
-    }
-}
 
 // Puts the first sentence of a text behind a line, with blanks for its line ends. A full stop ends it
 // which a blank or a line end follows.
@@ -85,13 +35,8 @@ fn push_sentence(line: &mut Vec<u8>, text: &[u8]) -> Result<(), AllocError> {
     line.extend_from_slice(b"\n")
 }
 
-/// Why a refusal comes, in one line: what a report says of it, and the first sentence of its
-/// explanation.
-///
-/// # Errors
-///
-/// Want of memory.
-pub fn refusal_sentence(alloc: Global, refusal: Refusal) -> Result<Vec<u8>, AllocError> {
+// Why a refusal comes, in one line: what a report says of it, and the first sentence of its explanation.
+fn refusal_sentence(alloc: Global, refusal: Refusal) -> Result<Vec<u8>, AllocError> {
     let mut report = TextSink::new(alloc);
     if write_refusal(&mut report, refusal).is_err() {
         return Err(AllocError);
@@ -103,20 +48,47 @@ pub fn refusal_sentence(alloc: Global, refusal: Refusal) -> Result<Vec<u8>, Allo
     Ok(line)
 }
 
+// What is said of the makefile, behind its name, where a request is not done; or of the request alone.
+fn said_of(not_done: NotDone) -> &'static str {
+    match not_done {
+        NotDone::Refused(_) => "",
+        NotDone::NotACommand => "This is no command and no request; `help` lists them.\n",
+        NotDone::NoMemory => NO_MEMORY,
+        NotDone::NoRefusal => "No refusal has this name or this number.\n",
+        NotDone::NoCommand => "No command of a script has this word.\n",
+        NotDone::CannotRead => " cannot be read, and is not written.\n",
+        NotDone::CannotWrite => " cannot be written.\n",
+        NotDone::HasChanged => " has changed since, and is not written; `write!` writes it.\n",
+        NotDone::BeyondDepth => "All is undone that can be; the text is another than at first.\n",
+        NotDone::Unwritten => {
+            "There are unwritten changes: `write` writes them, and `quit` once more drops them.\n"
+        }
+    }
+}
+
+/// Why a request is not done, as a sentence. A makefile is shown by this name.
+///
+/// # Errors
+///
+/// Want of memory.
+pub fn sentence(alloc: Global, not_done: NotDone, name: &[u8]) -> Result<Vec<u8>, AllocError> {
+    if let NotDone::Refused(refusal) = not_done {
+        return refusal_sentence(alloc, refusal);
+    }
+    let mut said = Vec::new(alloc);
+    if matches!(
+        not_done,
+        NotDone::CannotRead | NotDone::CannotWrite | NotDone::HasChanged
+    ) {
+        said.extend_from_slice(name)?;
+    }
+    said.extend_from_slice(said_of(not_done).as_bytes())?;
+    Ok(said)
+}
+
 // Whether it is told what is wrong with a line. It is not where its first word is like that of no command.
 fn is_told(found: &ScriptMistake<'_>) -> bool {
     !matches!(found.mistake.cause, MistakeCause::UnknownCommand) || found.nearest.is_some()
-}
-
-// Writes what is wrong with a line that is no command.
-fn put_mistake_in<W: ByteSink>(found: &ScriptMistake<'_>, out: &mut W) -> Result<(), Fault>
-    requires { W.failed out.old ≡ false }
-{
-    let mut digits = itoa::Buffer::new();
-    let column = digits.format(found.mistake.column).as_bytes();
-    let said = said_of(found.mistake.cause).as_bytes();
-    write_parts(out, &[b"Column ", column, b": ", said])?;
-    put_nearest(found.nearest, out)
 }
 
 /// What is wrong with a line that is no command, as the notes on a script say it. It is empty where the
@@ -125,15 +97,13 @@ fn put_mistake_in<W: ByteSink>(found: &ScriptMistake<'_>, out: &mut W) -> Result
 /// # Errors
 ///
 /// Want of memory.
-pub fn mistake_sentence(alloc: Global, line: &[u8]) -> Result<Vec<u8>, AllocError> {
-    let mut sink = TextSink::new(alloc);
-    let put = match script_mistake("", line, Outcome::NotACommand(1)) {
-        Some(found) if is_told(&found) => put_mistake_in(&found, &mut sink),
-        _ => Ok(()),
-    };
-    match put {
-        Ok(()) => Ok(sink.text),
-        Err(_) => Err(AllocError),
+pub fn mistake_sentence(alloc: Global, line: &[u8]) -> Result<String, AllocError> {
+    match script_mistake("", line, Outcome::NotACommand(1)) {
+        Some(found) if is_told(&found) => {
+            let column = found.mistake.column;
+            format!(in alloc; "Column {column}: {found}\n")
+        }
+        _ => Ok(String::new(alloc)),
     }
 }
 

@@ -6,9 +6,7 @@ ghost use Rattle.mkedit.specs.DiffRuns.{shown_diff};
 
 use super::desk::Desk;
 use super::not_done::{NotDone, shown_name};
-use super::sentences::{
-    AS_IT_WAS, NO_MEMORY, TOO_LONG, changed_lines, mistake_sentence, put_sentence, refusal_sentence,
-};
+use super::sentences::{AS_IT_WAS, NO_MEMORY, TOO_LONG, changed_lines, mistake_sentence, sentence};
 use crate::diff::{diff_name, shown};
 use mk_command_line::Input;
 use mk_diff::diff;
@@ -79,14 +77,7 @@ impl<'a> Terminal<'a> {
 
     // The sentence on a request that is not done. A file is shown by this name.
     fn sentence(&self, not_done: NotDone, name: &[u8]) -> Result<Vec<u8>, NotDone> {
-        if let NotDone::Refused(refusal) = not_done {
-            return Ok(refusal_sentence(self.desk.runtime().alloc(), refusal)?);
-        }
-        let mut sink = TextSink::new(self.desk.runtime().alloc());
-        match put_sentence(not_done, name, &mut sink) {
-            Ok(()) => Ok(sink.text),
-            Err(_) => Err(NotDone::NoMemory),
-        }
+        Ok(sentence(self.desk.runtime().alloc(), not_done, name)?)
     }
 
     // A diff as it is shown.
@@ -171,7 +162,7 @@ impl<'a> Terminal<'a> {
     fn no_command(&self, line: &[u8]) -> Result<Vec<u8>, NotDone> {
         let mut said = self.sentence(NotDone::NotACommand, b"")?;
         let mistake = mistake_sentence(self.desk.runtime().alloc(), line)?;
-        said.extend_from_slice(mistake.as_slice())?;
+        said.extend_from_slice(mistake.as_bytes())?;
         Ok(said)
     }
 
@@ -229,7 +220,7 @@ impl<'a> Terminal<'a> {
 fn text_said(said: &Result<Vec<u8>, NotDone>) -> &[u8] {
     match said {
         Ok(text) => text.as_slice(),
-        Err(_) => NO_MEMORY,
+        Err(_) => NO_MEMORY.as_bytes(),
     }
 }
 

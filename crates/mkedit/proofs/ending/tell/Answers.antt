@@ -4,7 +4,7 @@ use Rattle.mk_run.proofs.WritesLemmas.{writes-then}
 use Rattle.mkedit.proofs.ending.tell.Goals as goal
 
 pub returns : goal.returns
-returns g c = writes-then c.in_ok-message.ensures c.tell_notes.ensures
+returns g c = writes-then c.in_ok-message.ensures c.write_all.ensures
 
 pub returns-in_err-message : goal.returns-in_err-message
 returns-in_err-message g c = record {
