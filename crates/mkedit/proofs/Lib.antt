@@ -1,6 +1,3 @@
--- Lemmas on sinks and sources
-mod UntoldLemmas
-mod ComparisonLemmas
 -- Lemmas on lines with a name
 mod NamedLineLemmas
 -- Lemmas on runs whose makefile could not be read

@@ -3,7 +3,6 @@
 pub mod QueryTexts
 pub mod Destinations
 pub mod NamedLines
-pub mod Settled
 pub mod DiffRuns
 pub mod SessionFaults
 pub mod SessionForms

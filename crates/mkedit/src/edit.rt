@@ -7,16 +7,12 @@ use crate::destination::{Destination, destination_of};
 use crate::diff::{DiffForm, diff_name, run_diff};
 use crate::ending::{End, finished};
 use crate::exchanged::with_exchanged;
-use crate::files::{CannotOpen, open};
-use crate::in_place::InPlaceFile;
 use crate::kept::Kept;
 use crate::mistakes::{COMMAND_LINES, script_mistake};
-use crate::noted::Noted;
-use crate::notes::{STANDARD_INPUT, STANDARD_OUTPUT};
-use crate::out_file::OutFile;
 use crate::refused::{Names, NotesBelow};
 use crate::several::edit_each;
 use mk_command_line::{EditWords, Input, Script};
+use mk_fs::{CannotOpen, InPlaceFile, OutFile, STANDARD_INPUT, STANDARD_OUTPUT, WithError, open};
 use mk_lines::{ByteSink, ByteSource, StdSink, StdSource};
 use mk_run::{Outcome, Witness, run};
 use std::alloc::{Allocator, Global};
@@ -157,7 +153,7 @@ fn run_over<'a, R: ByteSource, S: ByteSource>(
         }
         Destination::Standard => {
             let form = form_of(rt, words, file, rt.stdout().is_terminal());
-            let mut device = Noted::new(rt.stdout());
+            let mut device = WithError::new(rt.stdout());
             let mut out = StdSink::new(&mut device);
             let outcome = print_to(rt, words, form, file, makefile, script, &mut out);
             End::of(outcome).with_fault(device.fault(STANDARD_OUTPUT))
@@ -176,7 +172,7 @@ fn run_named<'a, R: Read + Drop, S: ByteSource>(
 ) -> End<'a>
     requires script_works { S.failed script.old ≡ false }
 {
-    let mut makefile = Noted::new(makefile);
+    let mut makefile = WithError::new(makefile);
     let end = run_over(rt, words, file, &mut StdSource::new(&mut makefile), script);
     end.with_fault(makefile.fault(name))
 }
@@ -220,7 +216,7 @@ fn run_script<'a, S: Read + Drop>(
     name: &'a str,
     script: S,
 ) -> Result<End<'a>, CannotOpen<'a>> {
-    let mut script = Noted::new(script);
+    let mut script = WithError::new(script);
     let end = run_kept(rt, words, file, name, StdSource::new(&mut script))?;
     Ok(end.with_fault(script.fault(name)))
 }

@@ -7,9 +7,8 @@ ghost use Rattle.clap.specs.declared.error.kind.ErrorKind.TheVariants.{DisplayHe
 ghost use Rattle.mk_lines.specs.Device.{AppendsPrefix, Writes};
 ghost use Rattle.mk_run.specs.Outcome.{message_of, status_of};
 
-use crate::files::CannotOpen;
 use crate::mistakes::{ScriptMistake, push_mistake};
-use crate::notes::SystemFault;
+use mk_fs::{CannotOpen, SystemFault};
 use mk_lines::sink::write_all;
 use mk_lines::{ByteSink, Fault, StdSink};
 use mk_run::{Outcome, message, status};

@@ -2,9 +2,9 @@
 ghost use Rattle.std.specs.Prelude.{◌≡◌};
 
 use crate::ending::End;
-use crate::files::{is_regular, open};
 use crate::mistakes::{ScriptMistake, is_script};
 use mk_command_line::{EditWords, Input, Script};
+use mk_fs::{is_regular, open};
 use mk_lines::StdSource;
 
 // Whether the file of a name is a script that has a command. It is opened for this alone, and another

@@ -1,5 +1,5 @@
 //! The program `mkedit`: edits a makefile by a script, and keeps every byte that no edit concerns.
-//! What its words ask for, [`mk_command_line`] reads.
+//! What its words ask for, [`mk_command_line`] reads; files are read and written by [`mk_fs`].
 //!
 //! - `edit`: a script over a makefile, by [`mk_run::run`].
 //! - `diff`: the diff of a makefile and its text, in place of that text, by [`mk_diff`].
@@ -10,14 +10,10 @@
 //!   asked of it, and what is found.
 //! - `explain`: why a command is refused; `explanations` has the texts.
 //! - `help`: what a command of a script does; `command_texts` has the commands and the texts.
-//! - `files`: files beside the standard streams.
-//! - `noted`: readers and writers that remember why they failed.
 //! - `kept`: a source whose bytes are kept; `mistakes`: the notes on a line of a script that is no command;
 //!   `exchanged`: whether script and makefile may be exchanged.
 //! - `named`: lines that begin with the name of a file.
-//! - `notes`: what is said of that below a message.
 //! - `refused`: the notes below the lines on refusals, by [`mk_notes`].
-//! - `out_file`: the file that a text goes to; `in_place`: the makefile itself.
 //! - `ending`: the message and the status.
 //! - `progress`: how many of several makefiles are done, at a terminal.
 //! - `session`: a makefile that is edited step by step, by [`mk_prompt`].
@@ -34,15 +30,10 @@ mod ending;
 mod exchanged;
 mod explain;
 mod explanations;
-mod files;
 mod help;
-mod in_place;
 mod kept;
 mod mistakes;
 mod named;
-mod noted;
-mod notes;
-mod out_file;
 mod progress;
 mod query;
 mod question;

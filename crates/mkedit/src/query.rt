@@ -15,13 +15,11 @@ ghost use Rattle.mkedit.specs.Destinations.{name_of};
 
 use crate::destination::name_of;
 use crate::ending::{CANNOT_OPEN, End, Statuses, finished, tell_not_opened};
-use crate::files::{CannotOpen, open};
-use crate::noted::Noted;
-use crate::notes::{STANDARD_INPUT, STANDARD_OUTPUT};
 use crate::progress::Progress;
 use crate::question::{Found, Inquiry, Question, Unanswered, found_for, put_found};
 use crate::several::{kept_outcome, put_named, tell_named};
 use mk_command_line::{Form, Input};
+use mk_fs::{CannotOpen, STANDARD_INPUT, STANDARD_OUTPUT, WithError, open};
 use mk_lines::source::{BUFFER, MAX_TEXT, read_all};
 use mk_lines::{ByteSink, ByteSource, Fault, StdSink, StdSource};
 use mk_run::{Outcome, write_refusal};
@@ -235,8 +233,8 @@ struct Asked<'a> {
 fn end_of_query<'a, R, W>(
     outcome: Outcome,
     name: &'a str,
-    makefile: &Noted<R>,
-    out: &Noted<W>,
+    makefile: &WithError<R>,
+    out: &WithError<W>,
 ) -> Asked<'a> {
     let is_left = matches!(out.error(), Some(ErrorKind::BrokenPipe));
     let end = End::of(query_outcome(outcome, is_left))
@@ -257,8 +255,8 @@ fn print_out<'a, R: Read + Drop, P: ByteSink>(
 ) -> Asked<'a>
     requires { P.failed report.old ≡ false }
 {
-    let mut makefile = Noted::new(makefile);
-    let mut out = Noted::new(rt.stdout());
+    let mut makefile = WithError::new(makefile);
+    let mut out = WithError::new(rt.stdout());
     let mut source = StdSource::new(&mut makefile);
     let mut sink = StdSink::new(&mut out);
     let alloc = rt.alloc();

@@ -4,8 +4,8 @@ ghost use Rattle.std.specs.Prelude.{◌≡◌};
 ghost use Rattle.mkedit.specs.Destinations.{input_name};
 
 use crate::mistakes::COMMAND_LINES;
-use crate::notes::STANDARD_INPUT;
 use mk_command_line::{EditWords, Input, Script};
+use mk_fs::STANDARD_INPUT;
 use mk_lines::sink::write_all;
 use mk_lines::{ByteSink, StdSink};
 use mk_notes::{Told, edit_notes, refusal_notes};

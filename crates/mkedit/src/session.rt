@@ -23,11 +23,9 @@ mod text_lines;
 
 use crate::color::has_color;
 use crate::ending::{End, finished};
-use crate::files::{CannotOpen, open};
-use crate::noted::Noted;
-use crate::notes::{Cause, STANDARD_OUTPUT, SystemFault};
 use desk::Desk;
 use mk_command_line::{Form, SessionWords};
+use mk_fs::{CannotOpen, Cause, STANDARD_OUTPUT, SystemFault, WithError, open};
 use mk_lines::source::read_all;
 use mk_lines::{ByteSink, ByteSource, Fault, StdSink, StdSource};
 use mk_prompt::converse;
@@ -124,7 +122,7 @@ fn reply<S: ByteSource, W: ByteSink>(
 fn talk<'a>(rt: &'a HostRuntime, words: SessionWords<'a>, desk: Desk<'a>) -> End<'a> {
     let asker = asker_of(rt, words);
     let mut source = StdSource::new(rt.stdin());
-    let mut device = Noted::new(rt.stdout());
+    let mut device = WithError::new(rt.stdout());
     let mut out = StdSink::new(&mut device);
     let talked = reply(rt, asker, desk, &mut source, &mut out);
     End::of(outcome_of(talked)).with_fault(device.fault(STANDARD_OUTPUT))

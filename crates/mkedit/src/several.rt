@@ -15,17 +15,16 @@ use crate::diff::{DiffForm, run_steps_diff};
 use crate::edit::form_of;
 use crate::ending::{CANNOT_OPEN, End, Statuses, ended, not_opened, notes_on, tell_not_opened};
 use crate::exchanged::with_exchanged;
-use crate::files::{CannotOpen, open};
-use crate::in_place::InPlaceFile;
 use crate::kept::Kept;
 use crate::mistakes::COMMAND_LINES;
 use crate::named::named_lines;
-use crate::noted::Noted;
-use crate::notes::{Cause, STANDARD_INPUT, STANDARD_OUTPUT, SystemFault};
-use crate::out_file::OutFile;
 use crate::progress::Progress;
 use crate::refused::{Names, NotesKept};
 use mk_command_line::{EditWords, Input, Output, Script};
+use mk_fs::{
+    CannotOpen, Cause, InPlaceFile, OutFile, STANDARD_INPUT, STANDARD_OUTPUT, SystemFault,
+    WithError, open,
+};
 use mk_history::history::is_bad_depth;
 use mk_lines::sink::write_all;
 use mk_lines::{ByteSink, ByteSource, Fault, StdSink, StdSource};
@@ -224,7 +223,7 @@ fn run_over<'a, R: ByteSource>(
         }
         Destination::Standard => {
             let form = form_of(rt, words, file, rt.stdout().is_terminal());
-            let mut device = Noted::new(rt.stdout());
+            let mut device = WithError::new(rt.stdout());
             let mut out = StdSink::new(&mut device);
             let outcome = run_kept(
                 alloc, words, form, steps, makefile, &mut out, report, witness,
@@ -247,7 +246,7 @@ fn run_noted<'a, R: Read + Drop>(
 ) -> End<'a>
     requires { IsBadDepth words.now.depth → ⊥ }
 {
-    let mut makefile = Noted::new(makefile);
+    let mut makefile = WithError::new(makefile);
     let end = run_over(
         rt,
         words,
@@ -391,7 +390,7 @@ fn read_steps<'a, S: Read + Drop>(
     name: &'a str,
     script: S,
 ) -> Result<Vec<Step<Global>>, End<'a>> {
-    let mut script = Noted::new(script);
+    let mut script = WithError::new(script);
     match steps_kept(rt, notes, name, StdSource::new(&mut script)) {
         Ok(steps) => Ok(steps),
         Err(end) => Err(end.with_fault(script.fault(name))),

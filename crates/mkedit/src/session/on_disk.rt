@@ -2,8 +2,7 @@
 ghost use Rattle.std.specs.Prelude.{◌≡◌, false};
 
 use super::not_done::NotDone;
-use crate::files::{is_regular, open};
-use crate::in_place::{InPlaceFile, same_bytes};
+use mk_fs::{InPlaceFile, is_regular, open, same_bytes};
 use mk_lines::sink::write_all;
 use mk_lines::{ByteSink, StdSource};
 use std::fs;

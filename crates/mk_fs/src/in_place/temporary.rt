@@ -1,22 +1,22 @@
-//! A draft: a new file beside a makefile, which is to take the makefile's name.
+//! A temporary file: a new file beside a makefile, which is to take the makefile's name.
 //!
-//! What becomes of a draft is told by types. Each call takes the value of the step before it, and
+//! What becomes of a temporary file is told by types. Each call takes the value of the step before it, and
 //! nothing outside this file makes such a value otherwise:
 //!
 //! | Type | Made by | Says |
 //! |---|---|---|
-//! | [`Draft`] | [`Draft::begin`] | there is a new file under a name of its own |
-//! | [`Synced`] | [`Draft::sync`], [`Synced::keep_old`] | the draft's bytes are on the disk; and the old makefile is kept under another name too |
-//! | [`Placed`] | [`Synced::rename`] | after that, the draft took the makefile's name |
-//! | [`Unchanged`] | [`Draft::leave`] | the draft has the makefile's bytes, and its own name was taken away |
-//! | [`Removed`] | [`Draft::remove`] | the draft's own name was taken away in place of all that |
+//! | [`TemporaryFile`] | [`TemporaryFile::begin`] | there is a new file under a name of its own |
+//! | [`Synced`] | [`TemporaryFile::sync`], [`Synced::keep_old`] | the temporary file's bytes are on the disk; and the old makefile is kept under another name too |
+//! | [`Persisted`] | [`Synced::rename`] | after that, the temporary file took the makefile's name |
+//! | [`Unchanged`] | [`TemporaryFile::leave`] | the temporary file has the makefile's bytes, and its own name was taken away |
+//! | [`Removed`] | [`TemporaryFile::remove`] | the temporary file's own name was taken away in place of all that |
 ghost use Rattle.std.specs.Prelude.{◌≡◌, ◌++◌, None, Some, false, true, IfOk, IfErr, string_bytes};
 ghost use Rattle.std.specs.Fs.{asks_create_new, asks_write};
 ghost use Rattle.std.specs.Path.{path_buf_bytes};
 
 use super::comparison::{SameBytes, same_bytes};
+use crate::fault::Cause;
 use crate::files::beside_standard_streams;
-use crate::notes::Cause;
 use mk_lines::StdSource;
 use std::alloc::AllocError;
 use std::fs::{File, Metadata, OpenOptions};
@@ -33,7 +33,7 @@ const FIRST_MODE: u32 = 0o600;
 
 /// A new file beside a makefile, which does not have the makefile's name yet.
 #[derive(Drop)]
-pub struct Draft<'a> {
+pub struct TemporaryFile<'a> {
     // The name that the makefile was called by.
     name: &'a str,
     path: PathBuf,
@@ -42,39 +42,39 @@ pub struct Draft<'a> {
     makefile: PathBuf,
 }
 
-/// A draft whose bytes are on the disk.
+/// A temporary file whose bytes are on the disk.
 #[derive(Drop)]
 pub struct Synced<'a> {
-    draft: Draft<'a>,
+    temporary: TemporaryFile<'a>,
     // The suffix of the name under which the old makefile is kept.
     kept: Option<&'a str>,
 }
 
-/// A draft that could not be settled, and why.
+/// A temporary file that could not be committed, and why.
 #[derive(Drop)]
-pub struct Unsettled<'a> {
-    pub draft: Draft<'a>,
+pub struct NotCommitted<'a> {
+    pub temporary: TemporaryFile<'a>,
     pub cause: Cause,
 }
 
-/// What was a draft, and has the makefile's name.
+/// What was a temporary file, and has the makefile's name.
 #[derive(Drop)]
-pub struct Placed<'a> {
-    draft: Draft<'a>,
+pub struct Persisted<'a> {
+    temporary: TemporaryFile<'a>,
     kept: Option<&'a str>,
 }
 
-/// What was a draft with the bytes that the makefile has, and was given up for that.
+/// What was a temporary file with the bytes that the makefile has, and was given up for that.
 #[derive(Drop)]
 pub struct Unchanged<'a> {
     removed: Removed<'a>,
     same: SameBytes,
 }
 
-/// What was a draft, and was given up.
+/// What was a temporary file, and was given up.
 #[derive(Drop)]
 pub struct Removed<'a> {
-    draft: Draft<'a>,
+    temporary: TemporaryFile<'a>,
 }
 
 // How a new file is opened: one that is there already, or a link, is no new file.
@@ -222,14 +222,14 @@ fn source(rt: &HostRuntime, path: &PathBuf) -> io::Result<StdSource<File>>
     Ok(StdSource::new(beside_standard_streams(File::open(rt, path)?)?))
 }
 
-impl<'a> Draft<'a> {
-    /// Makes the draft of the makefile of this name. It is empty, and has the makefile's mode.
+impl<'a> TemporaryFile<'a> {
+    /// Makes the temporary file of the makefile of this name. It is empty, and has the makefile's mode.
     ///
     /// # Errors
     ///
     /// That of the step that fails; the makefile has to be a regular file. No new file stays then.
-    pub fn begin(rt: &HostRuntime, name: &'a str) -> Result<Draft<'a>, Cause>
-        ensures name { IfOk result (λ draft. draft.name.now ≡ name.now) }
+    pub fn begin(rt: &HostRuntime, name: &'a str) -> Result<TemporaryFile<'a>, Cause>
+        ensures name { IfOk result (λ temporary. temporary.name.now ≡ name.now) }
     {
         let makefile = fs::canonicalize(rt, name)?;
         let old = fs::metadata(rt, &makefile)?;
@@ -237,7 +237,7 @@ impl<'a> Draft<'a> {
             return Err(Cause::NotRegular);
         }
         match new_file_like(rt, &makefile, &old) {
-            Ok((path, file)) => Ok(Draft {
+            Ok((path, file)) => Ok(TemporaryFile {
                 name,
                 path,
                 file,
@@ -254,16 +254,16 @@ impl<'a> Draft<'a> {
         &self.file
     }
 
-    /// Compares the draft with the makefile as it is. Files that cannot be read are not the same.
+    /// Compares the temporary file with the makefile as it is. Files that cannot be read are not the same.
     pub fn compare(&self, rt: &HostRuntime) -> Option<SameBytes> {
         let mut old = source(rt, &self.makefile).ok()?;
         let mut new = source(rt, &self.path).ok()?;
         same_bytes(&mut old, &mut new).ok()?
     }
 
-    /// Gives up a draft that has the makefile's bytes, and leaves the makefile alone.
+    /// Gives up a temporary file that has the makefile's bytes, and leaves the makefile alone.
     pub fn leave(self, rt: &HostRuntime, same: SameBytes) -> Unchanged<'a>
-        ensures { result.removed.draft ≡ self.entry }
+        ensures { result.removed.temporary ≡ self.entry }
     {
         Unchanged {
             removed: self.remove(rt),
@@ -271,33 +271,33 @@ impl<'a> Draft<'a> {
         }
     }
 
-    /// Waits until the draft's bytes are on the disk.
+    /// Waits until the temporary file's bytes are on the disk.
     ///
     /// # Errors
     ///
-    /// The draft itself, where the system does not say so.
-    pub fn sync(self) -> Result<Synced<'a>, Unsettled<'a>>
-        ensures synced { IfOk result (λ synced. (synced.draft ≡ self.entry) × (synced.kept ≡ None)) }
-        ensures draft { IfErr result (λ unsettled. unsettled.draft ≡ self.entry) }
+    /// The temporary file itself, where the system does not say so.
+    pub fn sync(self) -> Result<Synced<'a>, NotCommitted<'a>>
+        ensures synced { IfOk result (λ synced. (synced.temporary ≡ self.entry) × (synced.kept ≡ None)) }
+        ensures temporary { IfErr result (λ not_committed. not_committed.temporary ≡ self.entry) }
     {
         match self.file.sync_all() {
             Ok(()) => Ok(Synced {
-                draft: self,
+                temporary: self,
                 kept: None,
             }),
-            Err(error) => Err(Unsettled {
-                draft: self,
+            Err(error) => Err(NotCommitted {
+                temporary: self,
                 cause: Cause::NewFile(error.kind()),
             }),
         }
     }
 
-    /// Takes the draft's own name away. Where that fails the name stays.
+    /// Takes the temporary file's own name away. Where that fails the name stays.
     pub fn remove(self, rt: &HostRuntime) -> Removed<'a>
-        ensures { result.draft ≡ self.entry }
+        ensures { result.temporary ≡ self.entry }
     {
         let _ = fs::remove_file(rt, &self.path);
-        Removed { draft: self }
+        Removed { temporary: self }
     }
 }
 
@@ -307,39 +307,39 @@ impl<'a> Synced<'a> {
     ///
     /// # Errors
     ///
-    /// The draft, where the system refuses. The makefile is as it was then, and so is a file of that
+    /// The temporary file, where the system refuses. The makefile is as it was then, and so is a file of that
     /// name.
-    pub fn keep_old(self, rt: &HostRuntime, suffix: &'a str) -> Result<Synced<'a>, Unsettled<'a>>
-        ensures kept { IfOk result (λ synced. (synced.draft ≡ self.entry.draft) × (synced.kept ≡ Some suffix.entry)) }
-        ensures draft { IfErr result (λ unsettled. unsettled.draft ≡ self.entry.draft) }
+    pub fn keep_old(self, rt: &HostRuntime, suffix: &'a str) -> Result<Synced<'a>, NotCommitted<'a>>
+        ensures kept { IfOk result (λ synced. (synced.temporary ≡ self.entry.temporary) × (synced.kept ≡ Some suffix.entry)) }
+        ensures temporary { IfErr result (λ not_committed. not_committed.temporary ≡ self.entry.temporary) }
     {
-        let draft = self.draft;
-        match keep_old(rt, &draft.makefile, suffix) {
+        let temporary = self.temporary;
+        match keep_old(rt, &temporary.makefile, suffix) {
             Ok(()) => Ok(Synced {
-                draft,
+                temporary,
                 kept: Some(suffix),
             }),
-            Err(error) => Err(Unsettled {
-                draft,
+            Err(error) => Err(NotCommitted {
+                temporary,
                 cause: Cause::OldFile(error.kind()),
             }),
         }
     }
 
-    /// Gives the draft the makefile's name, in one step. The old file has no name any more.
+    /// Gives the temporary file the makefile's name, in one step. The old file has no name any more.
     ///
     /// # Errors
     ///
-    /// The draft, where the system refuses. The makefile is as it was then.
-    pub fn rename(self, rt: &HostRuntime) -> Result<Placed<'a>, Unsettled<'a>>
-        ensures placed { IfOk result (λ placed. (placed.draft ≡ self.entry.draft) × (placed.kept ≡ self.entry.kept)) }
-        ensures draft { IfErr result (λ unsettled. unsettled.draft ≡ self.entry.draft) }
+    /// The temporary file, where the system refuses. The makefile is as it was then.
+    pub fn rename(self, rt: &HostRuntime) -> Result<Persisted<'a>, NotCommitted<'a>>
+        ensures persisted { IfOk result (λ persisted. (persisted.temporary ≡ self.entry.temporary) × (persisted.kept ≡ self.entry.kept)) }
+        ensures temporary { IfErr result (λ not_committed. not_committed.temporary ≡ self.entry.temporary) }
     {
-        let Synced { draft, kept } = self;
-        match fs::rename(rt, &draft.path, &draft.makefile) {
-            Ok(()) => Ok(Placed { draft, kept }),
-            Err(error) => Err(Unsettled {
-                draft,
+        let Synced { temporary, kept } = self;
+        match fs::rename(rt, &temporary.path, &temporary.makefile) {
+            Ok(()) => Ok(Persisted { temporary, kept }),
+            Err(error) => Err(NotCommitted {
+                temporary,
                 cause: Cause::NewFile(error.kind()),
             }),
         }

@@ -1,8 +1,8 @@
 use Rattle.std.proofs.Common.{rules, ℕ, List, ◌++◌, take, sym, subst}
 use Rattle.std.specs.Io.KnownBytes.{Consumes}
 use Rattle.std.proofs.KnownBytes.{Consumes-trans}
-use Rattle.mkedit.proofs.ComparisonLemmas.{differ_at, other_pieces, same_at, same_pieces}
-use Rattle.mkedit.proofs.in_place.comparison.same_bytes.Goals as goal
+use Rattle.mk_fs.proofs.ComparisonLemmas.{differ_at, other_pieces, same_at, same_pieces}
+use Rattle.mk_fs.proofs.in_place.comparison.same_bytes.Goals as goal
 
 pub loop-preserved : goal.loop-preserved
 loop-preserved g c =

@@ -1,5 +1,5 @@
-use Rattle.mkedit.proofs.UntoldLemmas.{untold-write, untold-count, untold-reset}
-use Rattle.mkedit.proofs.in_place.InPlaceFileByteSink.TheImpl.Goals as goal
+use Rattle.mk_fs.proofs.UntoldLemmas.{untold-write, untold-count, untold-reset}
+use Rattle.mk_fs.proofs.in_place.InPlaceFileByteSink.TheImpl.Goals as goal
 
 pub write-tells : goal.write-tells
 write-tells g c = search (untold-write)

@@ -4,42 +4,43 @@
 //! text is whole and on the disk. So the name stands for the old file or for the new one at every
 //! moment. Where the text is the one that the makefile has, the makefile is left alone.
 //!
-//! - `draft`: the new file, and what becomes of it.
+//! - `temporary`: the new file, and what becomes of it.
 //! - `comparison`: whether its bytes are those of the makefile.
 ghost use Rattle.std.specs.Prelude.{◌≡◌, ◌||◌, ◌≤◌, None, Some, false, is_err, length, IfOk, IfErr, IfSome, IsSomeAnd, OnErr, OnOk};
 ghost use Rattle.mk_lines.specs.Device.{is_refused};
-ghost use Rattle.mkedit.specs.Settled.{IsKeptUnder, draft_of};
+ghost use Rattle.mk_fs.specs.Commits.{IsKeptUnder, temporary_of};
 
 mod comparison;
-mod draft;
+mod temporary;
 
-use crate::noted::Noted;
-use crate::notes::{Cause, SystemFault};
-pub(crate) use comparison::same_bytes;
-use draft::{Draft, Placed, Removed, Unchanged, Unsettled};
+use crate::fault::{Cause, SystemFault};
+use crate::with_error::WithError;
+pub use comparison::{SameBytes, same_bytes};
 use mk_lines::{ByteSink, Fault, StdSink};
+pub use temporary::Removed;
+use temporary::{NotCommitted, Persisted, TemporaryFile, Unchanged};
 
-// What became of a draft that was written to its end.
+// What became of a temporary file that was written to its end.
 #[derive(Drop)]
-enum Settled<'a> {
+enum Committed<'a> {
     // It has the makefile's name.
-    Placed(Placed<'a>),
+    Persisted(Persisted<'a>),
     // It had the makefile's bytes.
     Unchanged(Unchanged<'a>),
 }
 
 // Makes the text sure, and puts it into the makefile's place. The old makefile is kept before, where
-// there is a suffix for it. Where one of these fails, the draft stays one.
+// there is a suffix for it. Where one of these fails, the temporary file stays one.
 fn put_into_place<'a>(
     rt: &HostRuntime,
-    draft: Draft<'a>,
+    temporary: TemporaryFile<'a>,
     backup: Option<&'a str>,
-) -> Result<Placed<'a>, Unsettled<'a>>
-    ensures placed { IfOk result (λ placed. placed.draft ≡ draft.entry) }
-    ensures kept { IfOk result (λ placed. placed.kept ≡ backup.entry) }
-    ensures draft { IfErr result (λ unsettled. unsettled.draft ≡ draft.entry) }
+) -> Result<Persisted<'a>, NotCommitted<'a>>
+    ensures persisted { IfOk result (λ persisted. persisted.temporary ≡ temporary.entry) }
+    ensures kept { IfOk result (λ persisted. persisted.kept ≡ backup.entry) }
+    ensures temporary { IfErr result (λ not_committed. not_committed.temporary ≡ temporary.entry) }
 {
-    let synced = draft.sync()?;
+    let synced = temporary.sync()?;
     match backup {
         Some(suffix) => synced.keep_old(rt, suffix)?.rename(rt),
         None => synced.rename(rt),
@@ -47,19 +48,19 @@ fn put_into_place<'a>(
 }
 
 // Puts the text into the makefile's place, or leaves the makefile alone where that is its text.
-// Where this fails, the draft stays one.
-fn settle<'a>(
+// Where this fails, the temporary file stays one.
+fn commit<'a>(
     rt: &HostRuntime,
-    draft: Draft<'a>,
+    temporary: TemporaryFile<'a>,
     backup: Option<&'a str>,
-) -> Result<Settled<'a>, Unsettled<'a>>
-    ensures settled { IfOk result (λ settled. draft_of settled ≡ draft.entry) }
+) -> Result<Committed<'a>, NotCommitted<'a>>
+    ensures committed { IfOk result (λ committed. temporary_of committed ≡ temporary.entry) }
     ensures kept { IfOk result (IsKeptUnder backup.entry) }
-    ensures draft { IfErr result (λ unsettled. unsettled.draft ≡ draft.entry) }
+    ensures temporary { IfErr result (λ not_committed. not_committed.temporary ≡ temporary.entry) }
 {
-    match draft.compare(rt) {
-        Some(same) => Ok(Settled::Unchanged(draft.leave(rt, same))),
-        None => Ok(Settled::Placed(put_into_place(rt, draft, backup)?)),
+    match temporary.compare(rt) {
+        Some(same) => Ok(Committed::Unchanged(temporary.leave(rt, same))),
+        None => Ok(Committed::Persisted(put_into_place(rt, temporary, backup)?)),
     }
 }
 
@@ -68,14 +69,14 @@ fn settle<'a>(
 ///
 /// Without a write or a flush nothing is touched. A fault leaves the makefile as it was.
 ///
-/// Such a sink cannot be dropped: [`InPlaceFile::close`] ends it, so no run leaves a draft behind.
+/// Such a sink cannot be dropped: [`InPlaceFile::close`] ends it, so no run leaves a temporary file behind.
 pub struct InPlaceFile<'a> {
     rt: &'a HostRuntime,
     name: &'a str,
     // The suffix of the name under which the old makefile is kept, if it is.
     backup: Option<&'a str>,
-    draft: Option<Draft<'a>>,
-    settled: Option<Settled<'a>>,
+    temporary: Option<TemporaryFile<'a>>,
+    committed: Option<Committed<'a>>,
     is_failed: bool,
     // Why it has failed, where it has.
     cause: Cause,
@@ -87,16 +88,16 @@ impl<'a> InPlaceFile<'a> {
     pub fn new(rt: &'a HostRuntime, name: &'a str, backup: Option<&'a str>) -> InPlaceFile<'a>
         ensures name { result.name.now ≡ name.now }
         ensures backup { result.backup ≡ backup.entry }
-        ensures closed { result.draft ≡ None }
-        ensures unsettled { result.settled ≡ None }
+        ensures closed { result.temporary ≡ None }
+        ensures not_committed { result.committed ≡ None }
         ensures works { result.is_failed ≡ false }
     {
         InPlaceFile {
             rt,
             name,
             backup,
-            draft: None,
-            settled: None,
+            temporary: None,
+            committed: None,
             is_failed: false,
             cause: Cause::TookNothing,
         }
@@ -116,40 +117,40 @@ impl<'a> InPlaceFile<'a> {
 
     /// Takes the new file away where it does not have the makefile's name.
     pub fn close(self) -> Option<Removed<'a>>
-        ensures removed { IfSome self.entry.draft (λ draft. IsSomeAnd result (λ removed. removed.draft ≡ draft)) }
-        ensures none { self.entry.draft ≡ None → result ≡ None }
+        ensures removed { IfSome self.entry.temporary (λ temporary. IsSomeAnd result (λ removed. removed.temporary ≡ temporary)) }
+        ensures none { self.entry.temporary ≡ None → result ≡ None }
     {
         let InPlaceFile {
             rt,
             name: _,
             backup: _,
-            draft,
-            settled: _,
+            temporary,
+            committed: _,
             is_failed: _,
             cause: _,
         } = self;
-        match draft {
-            Some(draft) => Some(draft.remove(rt)),
+        match temporary {
+            Some(temporary) => Some(temporary.remove(rt)),
             None => None,
         }
     }
 
     // The new file; it is made where it has not been yet, and that alone can fail.
-    fn take_draft(&mut self) -> Result<Draft<'a>, Fault>
-        ensures open { IfSome self.old.draft (λ draft. result ≡ Ok draft) }
-        ensures begun { self.old.draft ≡ None → IfOk result (λ draft. draft.name.now ≡ self.old.name.now) }
+    fn take_temporary(&mut self) -> Result<TemporaryFile<'a>, Fault>
+        ensures open { IfSome self.old.temporary (λ temporary. result ≡ Ok temporary) }
+        ensures begun { self.old.temporary ≡ None → IfOk result (λ temporary. temporary.name.now ≡ self.old.name.now) }
         ensures fault { IfErr result (λ fault. fault ≡ Fault.Write) }
         ensures failed { self.new.is_failed ≡ (self.old.is_failed || is_err result) }
-        ensures taken { self.new.draft ≡ None }
-        ensures settled { self.new.settled ≡ self.old.settled }
+        ensures taken { self.new.temporary ≡ None }
+        ensures committed { self.new.committed ≡ self.old.committed }
         ensures name { self.new.name ≡ self.old.name }
         ensures backup { self.new.backup ≡ self.old.backup }
     {
-        if let Some(draft) = self.draft.take() {
-            return Ok(draft);
+        if let Some(temporary) = self.temporary.take() {
+            return Ok(temporary);
         }
-        match Draft::begin(self.rt, self.name) {
-            Ok(draft) => Ok(draft),
+        match TemporaryFile::begin(self.rt, self.name) {
+            Ok(temporary) => Ok(temporary),
             Err(cause) => {
                 self.is_failed = true;
                 self.cause = cause;
@@ -164,19 +165,19 @@ impl ByteSink for InPlaceFile<'_> {
 
     fn write(&mut self, text: &[u8]) -> Result<usize, Fault>
         ensures bound { IfOk result (λ count. count ≤ length text.now) }
-        ensures draft { IfSome self.old.draft (λ draft. self.new.draft ≡ Some draft) }
-        ensures begun { self.old.draft ≡ None → IfOk result (λ _. IsSomeAnd self.new.draft (λ draft. draft.name.now ≡ self.old.name.now)) }
-        ensures settled { self.new.settled ≡ self.old.settled }
+        ensures temporary { IfSome self.old.temporary (λ temporary. self.new.temporary ≡ Some temporary) }
+        ensures begun { self.old.temporary ≡ None → IfOk result (λ _. IsSomeAnd self.new.temporary (λ temporary. temporary.name.now ≡ self.old.name.now)) }
+        ensures committed { self.new.committed ≡ self.old.committed }
         ensures fault { IfErr result (λ fault. fault ≡ Fault.Write) }
         ensures failed { self.new.is_failed ≡ (self.old.is_failed || is_refused result text.now) }
         ensures name { self.new.name ≡ self.old.name }
         ensures backup { self.new.backup ≡ self.old.backup }
     {
-        let draft = self.take_draft()?;
-        let mut device = Noted::new(draft.file());
+        let temporary = self.take_temporary()?;
+        let mut device = WithError::new(temporary.file());
         let answer = StdSink::new(&mut device).write(text);
         self.cause = device.cause();
-        self.draft = Some(draft);
+        self.temporary = Some(temporary);
         let is_refused = match answer {
             Ok(count) => count == 0 && !text.is_empty(),
             Err(_) => true,
@@ -185,29 +186,29 @@ impl ByteSink for InPlaceFile<'_> {
         answer
     }
 
-    // Where it fails, a draft that was there stays, for `close`.
+    // Where it fails, a temporary file that was there stays, for `close`.
     fn flush(&mut self) -> Result<(), Fault>
-        ensures closed { OnOk result (self.new.draft ≡ None) }
-        ensures settled { OnOk result (IfSome self.old.draft (λ draft. IsSomeAnd self.new.settled (λ settled. draft_of settled ≡ draft))) }
-        ensures begun { self.old.draft ≡ None → OnOk result (IsSomeAnd self.new.settled (λ settled. (draft_of settled).name.now ≡ self.old.name.now)) }
-        ensures kept { OnOk result (IsSomeAnd self.new.settled (IsKeptUnder self.old.backup)) }
-        ensures unsettled { OnErr result (self.new.settled ≡ self.old.settled) }
-        ensures draft { OnErr result (IfSome self.old.draft (λ draft. self.new.draft ≡ Some draft)) }
+        ensures closed { OnOk result (self.new.temporary ≡ None) }
+        ensures committed { OnOk result (IfSome self.old.temporary (λ temporary. IsSomeAnd self.new.committed (λ committed. temporary_of committed ≡ temporary))) }
+        ensures begun { self.old.temporary ≡ None → OnOk result (IsSomeAnd self.new.committed (λ committed. (temporary_of committed).name.now ≡ self.old.name.now)) }
+        ensures kept { OnOk result (IsSomeAnd self.new.committed (IsKeptUnder self.old.backup)) }
+        ensures not_committed { OnErr result (self.new.committed ≡ self.old.committed) }
+        ensures temporary { OnErr result (IfSome self.old.temporary (λ temporary. self.new.temporary ≡ Some temporary)) }
         ensures fault { IfErr result (λ fault. fault ≡ Fault.Write) }
         ensures failed { self.new.is_failed ≡ (self.old.is_failed || is_err result) }
         ensures name { self.new.name ≡ self.old.name }
         ensures backup { self.new.backup ≡ self.old.backup }
     {
-        let settled = match settle(self.rt, self.take_draft()?, self.backup) {
-            Ok(settled) => settled,
-            Err(unsettled) => {
-                self.draft = Some(unsettled.draft);
-                self.cause = unsettled.cause;
+        let committed = match commit(self.rt, self.take_temporary()?, self.backup) {
+            Ok(committed) => committed,
+            Err(not_committed) => {
+                self.temporary = Some(not_committed.temporary);
+                self.cause = not_committed.cause;
                 self.is_failed = true;
                 return Err(Fault::Write);
             }
         };
-        self.settled = Some(settled);
+        self.committed = Some(committed);
         Ok(())
     }
 

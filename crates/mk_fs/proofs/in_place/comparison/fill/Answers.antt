@@ -1,8 +1,8 @@
 use Rattle.std.proofs.Common.{rules, ◌-◌, drop, length, subst, sym}
 use Rattle.std.specs.Io.KnownBytes.{Consumes}
 use Rattle.std.proofs.KnownBytes.{Consumes-trans}
-use Rattle.mkedit.proofs.ComparisonLemmas.{filled_more, filled_size}
-use Rattle.mkedit.proofs.in_place.comparison.fill.Goals as goal
+use Rattle.mk_fs.proofs.ComparisonLemmas.{filled_more, filled_size}
+use Rattle.mk_fs.proofs.in_place.comparison.fill.Goals as goal
 
 pub loop-filled-preserved : goal.loop-filled-preserved
 loop-filled-preserved g c =

@@ -2,9 +2,9 @@
 ghost use Rattle.std.specs.Prelude.{◌≡◌, ◌||◌, ◌≤◌, None, Some, false, is_err, length, IfOk, IfErr, IfSome, IsSomeAnd};
 ghost use Rattle.mk_lines.specs.Device.{is_refused};
 
+use crate::fault::{Cause, SystemFault};
 use crate::files::{CannotOpen, Created, create};
-use crate::noted::Noted;
-use crate::notes::{Cause, SystemFault};
+use crate::with_error::WithError;
 use mk_lines::{ByteSink, Fault, StdSink};
 
 /// A sink to the file of this name, which is opened and emptied at the first write or flush.
@@ -83,7 +83,7 @@ impl ByteSink for OutFile<'_> {
         ensures name { self.new.name ≡ self.old.name }
     {
         let file = self.take_file()?;
-        let mut device = Noted::new(file.file());
+        let mut device = WithError::new(file.file());
         let answer = StdSink::new(&mut device).write(text);
         self.cause = device.cause();
         self.file = Some(file);
@@ -103,7 +103,7 @@ impl ByteSink for OutFile<'_> {
         ensures name { self.new.name ≡ self.old.name }
     {
         let file = self.take_file()?;
-        let mut device = Noted::new(file.file());
+        let mut device = WithError::new(file.file());
         let answer = StdSink::new(&mut device).flush();
         self.cause = device.cause();
         self.file = Some(file);

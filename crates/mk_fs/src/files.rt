@@ -1,7 +1,7 @@
 //! Files beside the standard streams.
 ghost use Rattle.std.specs.Prelude.{◌≡◌, IfOk, IfErr};
 
-use crate::notes::{Cause, SystemFault};
+use crate::fault::{Cause, SystemFault};
 use std::fs::{File, OpenOptions};
 use std::{fs, io};
 
@@ -38,7 +38,7 @@ pub fn open<'a>(rt: &HostRuntime, name: &'a str) -> Result<File, CannotOpen<'a>>
 }
 
 /// Whether a name is that of a regular file: to open another, such as a pipe, may wait without end.
-pub(crate) fn is_regular(rt: &HostRuntime, name: &str) -> bool {
+pub fn is_regular(rt: &HostRuntime, name: &str) -> bool {
     match fs::metadata(rt, name) {
         Ok(metadata) => metadata.is_file(),
         Err(_) => false,

@@ -1,7 +1,7 @@
 -- What has come is at the front of the buffer.
 use Rattle.std.proofs.Common.{◌≡◌, ◌≤◌, ◌-◌, length, take}
 use Rattle.std.specs.Io.KnownBytes.{Consumes}
-use Rattle.mkedit.proofs.in_place.comparison.fill.Given as goal
+use Rattle.mk_fs.proofs.in_place.comparison.fill.Given as goal
 
 abbrev pub invariant-loop-filled : goal.invariant-loop-filled
 invariant-loop-filled g l =

@@ -1,24 +1,24 @@
 //! Readers and writers of std that remember why they failed.
 ghost use Rattle.std.specs.Prelude.{◌≡◌};
 
-use crate::notes::{Cause, SystemFault};
+use crate::fault::{Cause, SystemFault};
 use std::io;
 use std::io::{ErrorKind, Read, Write};
 
 /// A reader or a writer, with the kind of the last error that it answered. A call that a signal
 /// interrupted, which is made again, is none.
 #[derive(Drop)]
-pub struct Noted<D> {
+pub struct WithError<D> {
     device: D,
     error: Option<ErrorKind>,
 }
 
-impl<D> Noted<D> {
+impl<D> WithError<D> {
     /// A device that has answered no error yet.
-    pub fn new(device: D) -> Noted<D>
+    pub fn new(device: D) -> WithError<D>
         ensures { result.device ≡ device }
     {
-        Noted {
+        WithError {
             device,
             error: None,
         }
@@ -55,8 +55,8 @@ impl<D> Noted<D> {
     }
 }
 
-impl<R: Read> Read for Noted<R> {
-    ghost remaining = { λ noted. R.remaining noted.device };
+impl<R: Read> Read for WithError<R> {
+    ghost remaining = { λ with_error. R.remaining with_error.device };
 
     fn read(&mut self, buf: &mut [u8]) -> io::Result<usize> {
         let answer = self.device.read(buf);
@@ -65,8 +65,8 @@ impl<R: Read> Read for Noted<R> {
     }
 }
 
-impl<W: Write> Write for Noted<W> {
-    ghost contents = { λ noted. W.contents noted.device };
+impl<W: Write> Write for WithError<W> {
+    ghost contents = { λ with_error. W.contents with_error.device };
 
     fn write(&mut self, buf: &[u8]) -> io::Result<usize> {
         let answer = self.device.write(buf);

@@ -1,7 +1,7 @@
 -- The same bytes have come of both sources.
 use Rattle.std.proofs.Common.{ℕ, List}
 use Rattle.std.specs.Io.KnownBytes.{Consumes}
-use Rattle.mkedit.proofs.in_place.comparison.same_bytes.Given as goal
+use Rattle.mk_fs.proofs.in_place.comparison.same_bytes.Given as goal
 
 abbrev pub invariant-loop : goal.invariant-loop
 invariant-loop g l =

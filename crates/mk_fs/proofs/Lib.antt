@@ -1,0 +1,3 @@
+-- Lemmas on sinks and sources
+mod UntoldLemmas
+mod ComparisonLemmas

@@ -1,0 +1,5 @@
+-- # What the public contracts say
+-- What became of a temporary file
+pub mod Commits
+
+-- # Vocabulary of private contracts
