@@ -1,4 +1,6 @@
-//! What is wrong with a line that is no command: `tests/cases/notes.tsv` has a row for each mistake.
+//! What is wrong with a line that is no command, of which `tests/cases/notes.tsv` has a row for each
+//! mistake; and words that are spelled alike.
+use mk_script::spelling::are_alike;
 use mk_script::{FieldName, Mistake, MistakeCause, mistake_at, nearest_at};
 
 #[test]
@@ -13,4 +15,23 @@ fn what_is_wrong_with_a_line_of_a_script_is_told(rt: HostRuntime) {
     assert_eq!(rt; mistake_at(script, 4), Some(Mistake { column, cause }));
     assert_eq!(rt; mistake_at(script, 5), None);
     assert_eq!(rt; mistake_at(script, 0), None);
+}
+
+// Words that differ from `unset` by one slip at most, and words that do not.
+const ALIKE: [&[u8]; 7] = [
+    b"unset", b"UnSet", b"unsett", b"nset", b"unsat", b"unste", b"nuset",
+];
+
+const OTHERS: [&[u8]; 5] = [b"", b"set", b"unsetit", b"unsat-", b"nuste"];
+
+#[test]
+fn words_are_alike_up_to_one_slip(rt: HostRuntime) {
+    for word in ALIKE {
+        assert!(rt; are_alike(word, b"unset"));
+        assert!(rt; are_alike(b"unset", word));
+    }
+    for word in OTHERS {
+        assert!(rt; !are_alike(word, b"unset"));
+        assert!(rt; !are_alike(b"unset", word));
+    }
 }

@@ -8,9 +8,8 @@ pub mod Lines
 pub mod Scripts
 pub mod ScriptsOfCommands
 pub mod ScriptLaws
--- The words of a script, and words that are spelled alike
+-- The words of a script
 pub mod WordReading
-pub mod Spelling
 -- # Vocabulary of private contracts
 -- How the code reads a line: what the contracts within this crate say
 pub mod FieldReading
