@@ -14,7 +14,7 @@ use crate::mistakes::{COMMAND_LINES, script_mistake};
 use crate::noted::Noted;
 use crate::notes::{STANDARD_INPUT, STANDARD_OUTPUT};
 use crate::out_file::OutFile;
-use crate::refused::{Names, NotesBelow};
+use crate::refused::{NotesBelow, names_of};
 use crate::several::edit_each;
 use mk_command_line::{EditWords, Input, Script};
 use mk_lines::{ByteSink, ByteSource, StdSink, StdSource};
@@ -79,7 +79,7 @@ fn notes_below<'a>(
     file: Input<'a>,
 ) -> Option<NotesBelow<'a, Stderr, Global>> {
     if words.notes {
-        Some(NotesBelow::new(rt.alloc(), Names::of(words, file), rt.stderr()))
+        Some(NotesBelow::new(rt.alloc(), names_of(words, file), rt.stderr()))
     } else {
         None
     }

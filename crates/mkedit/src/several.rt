@@ -25,7 +25,7 @@ use crate::noted::Noted;
 use crate::notes::{Cause, STANDARD_INPUT, STANDARD_OUTPUT, SystemFault, put_notes};
 use crate::out_file::OutFile;
 use crate::progress::Progress;
-use crate::refused::{Names, NotesKept};
+use crate::refused::{NotesKept, names_of};
 use mk_command_line::{EditWords, Input, Output, Script};
 use mk_history::history::is_bad_depth;
 use mk_lines::sink::write_all;
@@ -127,7 +127,7 @@ fn notes_kept<'a>(
     file: Input<'a>,
 ) -> Option<NotesKept<'a, Global>> {
     if words.notes {
-        Some(NotesKept::new(rt.alloc(), Names::of(words, file)))
+        Some(NotesKept::new(rt.alloc(), names_of(words, file)))
     } else {
         None
     }
