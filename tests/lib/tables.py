@@ -28,6 +28,7 @@ TABLES = (
     "random-runs",
     "alternatives",
     "notes",
+    "edit-notes",
     "edits/corners",
     "edits/random",
     "edits/random-recipes",

@@ -1,61 +1,84 @@
-//! The branch of a conditional in which a line stands.
-ghost use Rattle.std.specs.Prelude.{◌≡◌};
-ghost use Rattle.mk_tree.specs.Trees.{line_view};
-ghost use Rattle.mk_notes.specs.LineNotes.{begins_branch, branch_of, later_branch};
-ghost use Rattle.mk_notes.specs.NoteViews.{placed_seen};
+//! The branch of a conditional in which a line stands, and the other branches.
 
 use mk_listing::{Position, numbered};
-use mk_tree::{Doc, Line};
+use mk_tree::Doc;
 use mk_views::{Conditional, LineViews};
 use std::alloc::Allocator;
+use std::ops::Range;
 
-// Whether a line at a position begins the branch in which a line stands that has this many conditionals
-// open.
-fn begins_branch<A: Allocator>(depth: u16, position: Position, line: &Line<A>) -> bool
-    ensures { result ≡ begins_branch depth position (line_view line.now) }
-{
-    match line.conditional() {
-        Some(Conditional::If) => usize::from(position.conditionals) + 1 == usize::from(depth),
-        Some(Conditional::Else) => position.conditionals == depth,
-        _ => false,
+/// Where a branch of a conditional begins.
+#[derive(Clone, Copy)]
+pub(crate) struct BranchStart {
+    // The index of the line that opens the conditional.
+    opening: usize,
+    /// The line that begins the branch.
+    pub line: Position,
+}
+
+impl BranchStart {
+    /// Where the innermost branch begins in which the line at a position stands; none if it stands in no
+    /// conditional. It takes time linear in the number of lines above.
+    pub(crate) fn of<A: Allocator>(doc: &Doc<A>, at: Position) -> Option<BranchStart> {
+        let depth = usize::from(at.conditionals);
+        let mut start = None;
+        for (position, line) in numbered(doc).take(at.index) {
+            let open = usize::from(position.conditionals);
+            match line.conditional() {
+                Some(Conditional::If) if open + 1 == depth => {
+                    start = Some(BranchStart {
+                        opening: position.index,
+                        line: position,
+                    });
+                }
+                Some(Conditional::Else) if open == depth => {
+                    start = start.map(|it: BranchStart| BranchStart {
+                        line: position,
+                        ..it
+                    });
+                }
+                _ => {}
+            }
+        }
+        start
     }
 }
 
-// The line at a position, if it begins such a branch, or else the one that was found before.
-fn later_branch<'a, A: Allocator>(
-    depth: u16,
-    found: Option<(Position, &'a Line<A>)>,
-    position: Position,
-    line: &'a Line<A>,
-) -> Option<(Position, &'a Line<A>)>
-    ensures { placed_seen result
-        ≡ later_branch depth (placed_seen found.entry) position (line_view line.now) }
-{
-    if begins_branch(depth, position, line) {
-        Some((position, line))
-    } else {
-        found
+/// The other branches of the innermost conditional in which a line stands, as indexes of lines.
+#[derive(Drop)]
+pub(crate) struct OtherBranches {
+    above: Range<usize>,
+    below: Range<usize>,
+}
+
+impl OtherBranches {
+    /// The other branches of the conditional round the line at a position. It takes time linear in the
+    /// number of lines of the document.
+    pub(crate) fn of<A: Allocator>(doc: &Doc<A>, at: Position) -> OtherBranches {
+        OtherBranches {
+            above: BranchStart::of(doc, at).map_or(0..0, |start| start.opening..start.line.index),
+            below: branches_below(doc, at),
+        }
+    }
+
+    /// Whether the line at an index stands in one of them.
+    pub(crate) fn has(&self, index: usize) -> bool {
+        self.above.contains(&index) || self.below.contains(&index)
     }
 }
 
-/// The line that begins the branch of a conditional in which the line at a position stands, with where
-/// it stands. A line in no conditional stands in no branch. It takes time linear in the number of lines
-/// above.
-pub(crate) fn branch_of<'a, A: Allocator>(
-    doc: &'a Doc<A>,
-    at: Position,
-) -> Option<(Position, &'a Line<A>)>
-    ensures { placed_seen result ≡ branch_of doc.now at }
-{
-    let mut walk = numbered(doc);
-    let mut branch = None;
-    let mut above = at.index;
-    'lines: while above > 0 {
-        let Some((position, line)) = walk.next() else {
-            return branch;
-        };
-        branch = later_branch(at.conditionals, branch, position, line);
-        above -= 1;
+// The branches below that of the line at a position, up to the end of their conditional; none if it does
+// not end.
+fn branches_below<A: Allocator>(doc: &Doc<A>, at: Position) -> Range<usize> {
+    let mut first = None;
+    for (position, line) in numbered(doc) {
+        if position.index <= at.index || position.conditionals != at.conditionals {
+            continue;
+        }
+        match line.conditional() {
+            Some(Conditional::Else) => first = first.or(Some(position.index)),
+            Some(Conditional::Endif) => return first.unwrap_or(position.index)..position.index,
+            _ => {}
+        }
     }
-    branch
+    0..0
 }

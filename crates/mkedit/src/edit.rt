@@ -9,7 +9,7 @@ use crate::ending::{End, finished};
 use crate::exchanged::with_exchanged;
 use crate::kept::Kept;
 use crate::mistakes::{COMMAND_LINES, script_mistake};
-use crate::refused::{Names, NotesBelow};
+use crate::refused::{NotesBelow, names_of};
 use crate::several::edit_each;
 use mk_command_line::{EditWords, Input, Script};
 use mk_fs::{CannotOpen, InPlaceFile, OutFile, STANDARD_INPUT, STANDARD_OUTPUT, WithError, open};
@@ -75,7 +75,7 @@ fn notes_below<'a>(
     file: Input<'a>,
 ) -> Option<NotesBelow<'a, Stderr, Global>> {
     if words.notes {
-        Some(NotesBelow::new(rt.alloc(), Names::of(words, file), rt.stderr()))
+        Some(NotesBelow::new(rt.alloc(), names_of(words, file), rt.stderr()))
     } else {
         None
     }

@@ -8,37 +8,17 @@ use mk_command_line::{EditWords, Input, Script};
 use mk_fs::STANDARD_INPUT;
 use mk_lines::sink::write_all;
 use mk_lines::{ByteSink, StdSink};
-use mk_notes::{Told, edit_notes, refusal_notes};
+use mk_notes::{Names, edit_notes, refusal_notes};
 use mk_run::{Reported, Witness};
 use mk_session::{Edit, Session};
 use std::alloc::Allocator;
 use std::io::Write;
 
-/// What makefile and script are called in notes.
-#[derive(Clone, Copy)]
-pub struct Names<'a> {
-    /// What the makefile is called.
-    pub makefile: &'a str,
-    /// What the script is called.
-    pub script: &'a str,
-}
-
-impl<'a> Names<'a> {
-    // The names, with the line of the script of which notes tell.
-    fn told(self, line: u64) -> Told<'a> {
-        Told {
-            makefile: self.makefile,
-            script: self.script,
-            line,
-        }
-    }
-
-    /// What the words call the script and this makefile.
-    pub fn of(words: &EditWords<'a>, file: Input<'a>) -> Names<'a> {
-        Names {
-            makefile: input_name(file),
-            script: script_name(&words.script),
-        }
+/// What the words call the script and this makefile in notes.
+pub fn names_of<'a>(words: &EditWords<'a>, file: Input<'a>) -> Names<'a> {
+    Names {
+        makefile: input_name(file),
+        script: script_name(&words.script),
     }
 }
 
@@ -70,8 +50,14 @@ fn notes_on<A: Allocator, B: Allocator + Copy>(
     let Some(edit) = reported.edit else {
         return Vec::new(alloc);
     };
-    let told = names.told(reported.line);
-    match refusal_notes(alloc, told, session.doc(), edit, reported.refusal) {
+    match refusal_notes(
+        alloc,
+        names,
+        reported.line,
+        session.doc(),
+        edit,
+        reported.refusal,
+    ) {
         Ok(notes) => notes,
         Err(_) => Vec::new(alloc),
     }
@@ -85,7 +71,7 @@ fn notes_on_made<A: Allocator, B: Allocator + Copy>(
     edit: &Edit<A>,
     session: &Session<A>,
 ) -> Vec<u8, B> {
-    match edit_notes(alloc, names.told(line), session.doc(), edit) {
+    match edit_notes(alloc, names, line, session.doc(), edit) {
         Ok(notes) => notes,
         Err(_) => Vec::new(alloc),
     }

@@ -19,7 +19,7 @@ use crate::kept::Kept;
 use crate::mistakes::COMMAND_LINES;
 use crate::named::named_lines;
 use crate::progress::Progress;
-use crate::refused::{Names, NotesKept};
+use crate::refused::{NotesKept, names_of};
 use mk_command_line::{EditWords, Input, Output, Script};
 use mk_fs::{
     CannotOpen, Cause, InPlaceFile, OutFile, STANDARD_INPUT, STANDARD_OUTPUT, SystemFault,
@@ -125,7 +125,7 @@ fn notes_kept<'a>(
     file: Input<'a>,
 ) -> Option<NotesKept<'a, Global>> {
     if words.notes {
-        Some(NotesKept::new(rt.alloc(), Names::of(words, file)))
+        Some(NotesKept::new(rt.alloc(), names_of(words, file)))
     } else {
         None
     }

@@ -1,6 +1,0 @@
-mod BranchLemmas
-mod EditLemmas
-mod NoteLemmas
-mod OtherRuleLemmas
-mod RefusalLemmas
-mod TextLemmas

@@ -1,0 +1,121 @@
+//! What notes ask of one line.
+
+use mk_class::{Class, Flavor};
+use mk_edit_parts::address::Address;
+use mk_script::spelling::are_alike;
+use mk_tree::Line;
+use mk_views::LineViews;
+use std::alloc::Allocator;
+
+/// The byte order mark of UTF-8, which some editors put at the front of a file.
+const BYTE_ORDER_MARK: &[u8] = b"\xef\xbb\xbf";
+
+/// What follows the blanks at the front of a text.
+pub(crate) fn after_blanks(text: &[u8]) -> &[u8] {
+    for (at, byte) in text.iter().enumerate() {
+        if !matches!(*byte, b' ' | b'\t') {
+            return &text[at..];
+        }
+    }
+    &[]
+}
+
+/// What is said of a line besides its text: why it is no assignment or rule for an edit.
+pub(crate) fn kind<A: Allocator>(line: &Line<A>) -> &'static str {
+    if line.text().starts_with(BYTE_ORDER_MARK) {
+        return "   (behind a byte order mark)";
+    }
+    match line.class() {
+        Class::Body(_) => "   (in a define)",
+        Class::DefineHead(_) => "   (a define)",
+        Class::Recipe => "   (in a recipe)",
+        Class::Opaque => "   (opaque)",
+        Class::Rough => "   (rough)",
+        Class::TargetAssign(_) => "   (for a target)",
+        _ => "",
+    }
+}
+
+/// Whether a line assigns the variable of this name, or defines it.
+pub(crate) fn gives<A: Allocator>(line: &Line<A>, name: &[u8]) -> bool {
+    line.define() == Some(name) || line.assignment().is_some_and(|it| it.name() == name)
+}
+
+/// Whether a line gives the variable of this name another value, whatever value it has: `?=` and `+=` do
+/// not.
+pub(crate) fn gives_anew<A: Allocator>(line: &Line<A>, name: &[u8]) -> bool {
+    gives(line, name)
+        && !line.assignment().is_some_and(|it| matches!(
+            it.flavor(),
+            Flavor::Conditional | Flavor::Append
+        ))
+}
+
+/// Whether a line is that of a rule for this target, or an assignment for it.
+pub(crate) fn has_target<A: Allocator>(line: &Line<A>, target: &[u8]) -> bool {
+    is_for_target(line, target)
+        || line
+            .rule()
+            .is_some_and(|rule| rule.targets().any(|word| word == target))
+}
+
+/// Whether a line assigns a variable, or is that of a rule for a target, whose name is another one than
+/// that of an address, but spelled alike.
+pub(crate) fn is_near<A: Allocator>(line: &Line<A>, address: Address<'_>) -> bool {
+    match address {
+        Address::Variable(_, name) => line
+            .assignment()
+            .is_some_and(|it| is_near_word(it.name(), name)),
+        Address::Rule(_, target) => line.rule().is_some_and(|rule| rule
+            .targets()
+            .any(|word| is_near_word(word, target))),
+    }
+}
+
+/// Whether the name of an address stands in a line where no edit looks.
+pub(crate) fn is_hidden<A: Allocator>(line: &Line<A>, address: Address<'_>) -> bool {
+    match address {
+        Address::Variable(_, name) => {
+            line.define() == Some(name) || is_for_targets(line, name) || is_unread(line, name)
+        }
+        Address::Rule(_, target) => is_for_target(line, target) || is_unread(line, target),
+    }
+}
+
+// Whether a word is another one that is spelled alike.
+fn is_near_word(word: &[u8], other: &[u8]) -> bool {
+    are_alike(other, word) && other != word
+}
+
+// Whether a line is an assignment for this target.
+fn is_for_target<A: Allocator>(line: &Line<A>, target: &[u8]) -> bool {
+    line.target_assignment()
+        .is_some_and(|it| it.targets().any(|word| word == target))
+}
+
+// Whether a line assigns a variable of this name for targets.
+fn is_for_targets<A: Allocator>(line: &Line<A>, name: &[u8]) -> bool {
+    line.target_assignment()
+        .is_some_and(|it| it.assignment().name() == name)
+}
+
+// Whether a line is not read inside and begins with a name, or has it behind a byte order mark.
+fn is_unread<A: Allocator>(line: &Line<A>, name: &[u8]) -> bool {
+    let text = line.text();
+    let is_kept = matches!(
+        line.class(),
+        Class::Body(_) | Class::Recipe | Class::Opaque | Class::Rough
+    );
+    (is_kept && leads(name, text))
+        || text
+            .strip_prefix(BYTE_ORDER_MARK)
+            .is_some_and(|rest| leads(name, rest))
+}
+
+// Whether a text begins with a name and an operator or a separator, with blanks round the name.
+fn leads(name: &[u8], text: &[u8]) -> bool {
+    after_blanks(text).strip_prefix(name).is_some_and(|rest| matches!(
+        after_blanks(rest),
+        [b'=' | b':' | b'+' | b'?' | b'!', ..]
+    ))
+}

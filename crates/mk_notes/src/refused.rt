@@ -1,0 +1,246 @@
+//! The notes on a refusal.
+
+use crate::address::{line_of, meant_by};
+use crate::line::{has_target, is_hidden, is_near};
+use crate::text::{Names, Notes};
+use mk_class::Class;
+use mk_edit_language::{Edit, Place, Refusal, ValueChange};
+use mk_edit_parts::address::{Address, address_of};
+use mk_edit_parts::lean::begins_with;
+use mk_edit_parts::text::has_word;
+use mk_edit_parts::value_words::bares_end;
+use mk_lines::is_closed;
+use mk_listing::{Position, assignments_of, numbered};
+use mk_tree::Doc;
+use mk_views::LineViews;
+use std::alloc::{AllocError, Allocator};
+
+/// The notes on a refusal of an edit, as a text: each line begins with the name of a file, mostly the
+/// number of a line in it, and `note`. The document is the makefile as it stood when the edit was
+/// refused; the numbers of lines are its own.
+///
+/// | Refusal | Notes on |
+/// |---|---|
+/// | `Ambiguous` | the lines that fit the address, and what tells one of them; the line of the rule, if several of its recipe lines have the text |
+/// | `NoSuch` | if the number is too high, the lines of the name; otherwise the lines of other names that are spelled alike, and those that begin with the name and that no edit looks at |
+/// | `Absent`, `Already`, `SharedRule` | the line that the edit means; with `all` those of the name |
+/// | `OpenValue` | the line that the edit means; with `all` those that would be changed and whose value is open, except for a fold at its end, or all of the name if there are none |
+/// | `Straddles` | the line of the rule, and the first line of a conditional below it |
+/// | `Taken` | the lines for the new name |
+/// | `OpenLine` | the last line |
+/// | `OpenDefine` | the line that begins the define |
+/// | `Leans` | the first line below the change that begins with the recipe prefix |
+///
+/// There are no notes on any other refusal. Of many lines the first ten are told of, each by at most 100
+/// bytes of its text.
+///
+/// # Errors
+///
+/// [`AllocError`] if a growth was refused.
+pub fn refusal_notes<A: Allocator, B: Allocator, C: Allocator>(
+    alloc: C,
+    names: Names<'_>,
+    line: u64,
+    doc: &Doc<A>,
+    edit: &Edit<B>,
+    refusal: Refusal,
+) -> Result<Vec<u8, C>, AllocError> {
+    let mut notes = Notes::new(alloc, names, line, doc);
+    match (refusal, edit) {
+        (Refusal::OpenLine, _) => notes.line(numbered(doc).last().map(|(at, _)| at))?,
+        (Refusal::OpenDefine, _) => notes.line(last_define(doc))?,
+        (Refusal::Taken, Edit::RenameTarget { to, .. }) => notes.taken(to)?,
+        (Refusal::OpenValue, Edit::ChangeValues { name, change }) => notes.open(name, change)?,
+        (Refusal::Leans, _) => notes.line(leaning(doc, edit))?,
+        _ => {
+            if let Some(address) = meant_by(edit) {
+                notes.refused(edit, address, refusal)?;
+            }
+        }
+    }
+    Ok(notes.into_text())
+}
+
+impl<'a, A: Allocator, C: Allocator> Notes<'a, A, C> {
+    // Puts the notes on a refusal of an edit that is about the lines of an address.
+    fn refused<B: Allocator>(
+        &mut self,
+        edit: &Edit<B>,
+        address: Address<'_>,
+        refusal: Refusal,
+    ) -> Result<(), AllocError> {
+        match refusal {
+            Refusal::Ambiguous(_) => self.ambiguous(edit, address),
+            Refusal::NoSuch => self.missing(address),
+            Refusal::Straddles => {
+                self.meant(address)?;
+                self.line(conditional_below(self.doc, address))
+            }
+            Refusal::Absent | Refusal::Already | Refusal::SharedRule(_) | Refusal::OpenValue => self
+                .meant(address)
+                .map(|_| ()),
+            _ => Ok(()),
+        }
+    }
+
+    // Puts the notes on several lines of which an address means one, and what tells one of them. Where
+    // there is one alone, it is its recipe lines that are several.
+    fn ambiguous<B: Allocator>(
+        &mut self,
+        edit: &Edit<B>,
+        address: Address<'_>,
+    ) -> Result<(), AllocError> {
+        let count = self.meant(address)?;
+        if count < 2 {
+            return Ok(());
+        }
+        let all = takes_all(edit);
+        let mut digits = itoa::Buffer::new();
+        self.script(&[
+            b"`nth 1`",
+            between(count, all).as_bytes(),
+            b"`nth ",
+            digits.format(count).as_bytes(),
+            behind(all).as_bytes(),
+            b" before the command says which",
+        ])
+    }
+
+    // Puts the notes on an address that fits no line.
+    fn missing(&mut self, address: Address<'_>) -> Result<(), AllocError> {
+        let count = self.candidates(address)?;
+        if count == 0 {
+            return self.elsewhere(address);
+        }
+        let mut digits = itoa::Buffer::new();
+        self.script(&[b"`nth` is at most ", digits.format(count).as_bytes()])
+    }
+
+    // Puts the notes on what is there in the place of a name that no line has.
+    fn elsewhere(&mut self, address: Address<'_>) -> Result<(), AllocError> {
+        let doc = self.doc;
+        let near = numbered(doc).filter_map(|(at, line)| is_near(line, address).then_some(at));
+        if self.lines(&[], near)? > 0 {
+            self.script(&[b"these names are spelled alike"])?;
+        }
+        let hidden = numbered(doc).filter_map(|(at, line)| is_hidden(line, address).then_some(at));
+        if self.lines(&[], hidden)? > 0 {
+            self.script(&[b"no edit looks at these lines"])?;
+        }
+        Ok(())
+    }
+
+    // Puts the notes on the lines for a target.
+    fn taken(&mut self, target: &[u8]) -> Result<(), AllocError> {
+        let doc = self.doc;
+        let found = numbered(doc).filter_map(|(at, line)| has_target(line, target).then_some(at));
+        self.lines(&[], found).map(|_| ())
+    }
+
+    // Puts the notes on the assignments of a name whose values are open to a change of each of them; on
+    // all of them if there are none.
+    fn open<B: Allocator>(
+        &mut self,
+        name: &[u8],
+        change: &ValueChange<B>,
+    ) -> Result<(), AllocError> {
+        let doc = self.doc;
+        let mut count = 0;
+        for line in assignments_of(doc, name) {
+            if is_open_to(line.assignment.value(), change) {
+                count = self.listed(&[], count, line.position)?;
+            }
+        }
+        if self.end_list(count)? == 0 {
+            self.candidates(Address::Variable(None, name))?;
+        }
+        Ok(())
+    }
+}
+
+// What stands between the first and the last of some numbers, where `all` may stand for them or not.
+fn between<'s>(count: usize, all: bool) -> &'s str {
+    match (count, all) {
+        (2, true) => ", ",
+        (2, false) => " or ",
+        _ => " to ",
+    }
+}
+
+// What stands behind the last of some numbers.
+fn behind<'s>(all: bool) -> &'s str {
+    if all { "` or `all`" } else { "`" }
+}
+
+// Whether `all` may stand before the command of an edit.
+fn takes_all<A: Allocator>(edit: &Edit<A>) -> bool {
+    matches!(
+        edit,
+        Edit::SetValue { .. }
+            | Edit::AppendValue { .. }
+            | Edit::AddWord { .. }
+            | Edit::RemoveWord { .. }
+    )
+}
+
+// Whether a value does not let a change pass.
+fn is_open_to<A: Allocator>(value: &[u8], change: &ValueChange<A>) -> bool {
+    match change {
+        ValueChange::Set(_) | ValueChange::Append(_) => !is_closed(value),
+        ValueChange::Add(word) => !is_closed(value) && !has_word(value, word),
+        ValueChange::Remove(word) => {
+            has_word(value, word) && (!is_closed(value) || bares_end(value, word))
+        }
+    }
+}
+
+// The last line that begins a define.
+fn last_define<A: Allocator>(doc: &Doc<A>) -> Option<Position> {
+    numbered(doc)
+        .filter(|(_, line)| line.define().is_some())
+        .last()
+        .map(|(at, _)| at)
+}
+
+// The first line of a conditional below the line of an address.
+fn conditional_below<A: Allocator>(doc: &Doc<A>, address: Address<'_>) -> Option<Position> {
+    let above = line_of(doc, address)?;
+    numbered(doc)
+        .find(|(at, line)| at.index > above.index && line.conditional().is_some())
+        .map(|(at, _)| at)
+}
+
+// The first line that begins with the recipe prefix and stands below the change of an edit: below the
+// line of its address, or at it if a new line goes above that one.
+fn leaning<A: Allocator, B: Allocator>(doc: &Doc<A>, edit: &Edit<B>) -> Option<Position> {
+    let change = line_of(doc, address_of(edit)?)?;
+    let prefix = prefix_at(doc, change);
+    let is_above = goes_above(edit);
+    numbered(doc)
+        .find(|(at, line)| {
+            let is_below = at.index > change.index || (is_above && at.index == change.index);
+            is_below && begins_with(line.bytes(), prefix)
+        })
+        .map(|(at, _)| at)
+}
+
+// Whether the new line of an edit goes above the line of its address.
+fn goes_above<A: Allocator>(edit: &Edit<A>) -> bool {
+    matches!(
+        edit,
+        Edit::AddAssign { place, .. } | Edit::AddRule { place, .. }
+            if matches!(place, Place::BeforeVar { .. } | Place::BeforeRule { .. })
+    )
+}
+
+// The recipe prefix in force at a position.
+fn prefix_at<A: Allocator>(doc: &Doc<A>, at: Position) -> u8 {
+    numbered(doc)
+        .take(at.index)
+        .filter_map(|(_, line)| match line.class() {
+            Class::Assign(_, prefix) => prefix,
+            _ => None,
+        })
+        .last()
+        .unwrap_or(b'\t')
+}

@@ -1,0 +1,165 @@
+//! The text of the notes.
+ghost use Rattle.std.specs.Iterator.{IsFinite};
+
+use crate::branch::BranchStart;
+use crate::line::{after_blanks, kind};
+use mk_listing::Position;
+use mk_tree::Doc;
+use std::alloc::{AllocError, Allocator};
+
+/// How many lines a list shows at most.
+const MOST_LINES: usize = 10;
+
+/// How many bytes of a line's text a note shows at most.
+const MOST_BYTES: usize = 100;
+
+/// What makefile and script are called in notes.
+#[derive(Clone, Copy)]
+pub struct Names<'a> {
+    /// What the makefile is called.
+    pub makefile: &'a str,
+    /// What the script is called.
+    pub script: &'a str,
+}
+
+/// The notes on an edit, behind each other. Each call that puts a note fails with [`AllocError`] if a
+/// growth is refused.
+#[derive(Drop)]
+pub(crate) struct Notes<'a, A: Allocator, B: Allocator> {
+    /// The document of whose lines the notes tell.
+    pub doc: &'a Doc<A>,
+    names: Names<'a>,
+    // The number of the line of the script, from 1.
+    line: u64,
+    text: Vec<u8, B>,
+}
+
+impl<'a, A: Allocator, B: Allocator> Notes<'a, A, B> {
+    /// No notes yet.
+    pub(crate) fn new(alloc: B, names: Names<'a>, line: u64, doc: &'a Doc<A>) -> Notes<'a, A, B> {
+        Notes {
+            doc,
+            names,
+            line,
+            text: Vec::new(alloc),
+        }
+    }
+
+    /// The text of the notes.
+    pub(crate) fn into_text(self) -> Vec<u8, B> {
+        self.text
+    }
+
+    /// Puts a note on the line of the script.
+    pub(crate) fn script(&mut self, said: &[&[u8]]) -> Result<(), AllocError> {
+        self.place(self.names.script, self.line)?;
+        self.push(&[b": note: "])?;
+        self.push(said)?;
+        self.push(&[b"\n"])
+    }
+
+    /// Puts a note on a line of the makefile, if there is one: the front of its text, what it is, and the
+    /// innermost branch of a conditional in which it stands.
+    pub(crate) fn line(&mut self, found: Option<Position>) -> Result<(), AllocError> {
+        let Some(at) = found else {
+            return Ok(());
+        };
+        let Some(line) = self.doc.get(at.index) else {
+            return Ok(());
+        };
+        self.place(self.names.makefile, at.number as u64)?;
+        self.push(&[b": note: "])?;
+        self.excerpt(line.text())?;
+        self.push(&[kind(line).as_bytes()])?;
+        self.branch(at)?;
+        self.push(&[b"\n"])
+    }
+
+    /// Puts the notes on some lines of the makefile: on the first ten, and how many more there are. Before
+    /// the first one goes a note on the line of the script, if there is something to say. Hands out how
+    /// many lines there are.
+    pub(crate) fn lines<I: Iterator<Item = Position>>(
+        &mut self,
+        said: &[&[u8]],
+        found: I,
+    ) -> Result<usize, AllocError>
+        requires can { I.can_next found }
+        requires ends { IsFinite (I.remaining found) }
+    {
+        let mut count: usize = 0;
+        for at in found {
+            count = self.listed(said, count, at)?;
+        }
+        self.end_list(count)
+    }
+
+    /// Puts the note on one more line of a list that has so many; see [`Notes::lines`]. Hands out how many
+    /// it has then.
+    pub(crate) fn listed(
+        &mut self,
+        said: &[&[u8]],
+        count: usize,
+        at: Position,
+    ) -> Result<usize, AllocError> {
+        if count == 0 && !said.is_empty() {
+            self.script(said)?;
+        }
+        if count < MOST_LINES {
+            self.line(Some(at))?;
+        }
+        Ok(count.saturating_add(1))
+    }
+
+    /// Puts the note on how many more lines a list has than are shown. Hands out how many it has.
+    pub(crate) fn end_list(&mut self, count: usize) -> Result<usize, AllocError> {
+        if count > MOST_LINES {
+            let mut digits = itoa::Buffer::new();
+            let more = digits.format(count - MOST_LINES).as_bytes();
+            self.push(&[
+                self.names.makefile.as_bytes(),
+                b": note: and ",
+                more,
+                b" more\n",
+            ])?;
+        }
+        Ok(count)
+    }
+
+    // Puts the branch of a conditional in which the line at a position stands, if it stands in one.
+    fn branch(&mut self, at: Position) -> Result<(), AllocError> {
+        let Some(start) = BranchStart::of(self.doc, at) else {
+            return Ok(());
+        };
+        let Some(line) = self.doc.get(start.line.index) else {
+            return Ok(());
+        };
+        self.push(&[b"   (in `"])?;
+        self.excerpt(line.text())?;
+        self.push(&[b"`, "])?;
+        self.place(self.names.makefile, start.line.number as u64)?;
+        self.push(&[b")"])
+    }
+
+    // Puts the front of a line's text, without the blanks before it.
+    fn excerpt(&mut self, text: &[u8]) -> Result<(), AllocError> {
+        let text = after_blanks(text);
+        match text.split_at_checked(MOST_BYTES) {
+            Some((front, rest)) if !rest.is_empty() => self.push(&[front, b"..."]),
+            _ => self.push(&[text]),
+        }
+    }
+
+    // Puts the name of a file and the number of a line in it.
+    fn place(&mut self, file: &str, number: u64) -> Result<(), AllocError> {
+        let mut digits = itoa::Buffer::new();
+        self.push(&[file.as_bytes(), b":", digits.format(number).as_bytes()])
+    }
+
+    // Puts some texts, one after the other.
+    fn push(&mut self, parts: &[&[u8]]) -> Result<(), AllocError> {
+        for part in parts {
+            self.text.extend_from_slice(part)?;
+        }
+        Ok(())
+    }
+}
