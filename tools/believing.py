@@ -12,7 +12,6 @@ from tests.gate.believed import Believed, Place  # noqa: E402
 
 # The calls that the page is about, lowest first. Each is named by its crate, its type and its name.
 CALLS = (
-    "mk_command_line::read_request",
     "mk_script::parse_script",
     "mk_diff::diff",
     "mk_queries::vars",

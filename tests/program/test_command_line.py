@@ -1,4 +1,7 @@
-"""Tests of the command line, its help, and the example that `make demo` runs."""
+"""Tests of what the command line does, its help, and the example that `make demo` runs.
+
+test_options.py has what each word asks for, or how it is refused.
+"""
 
 import os
 import re
@@ -48,52 +51,6 @@ class CommandLine(RoomCase):
     def test_help_comes_before_what_is_missing(self):
         self.assert_help("edit", "--help", "absent")
 
-    def test_a_bad_command_line_is_told(self):
-        lines = (
-            [],
-            ["frobnicate"],
-            ["edit"],
-            ["edit", "-k"],
-            ["edit", "script", "Makefile", "more"],
-            ["edit", "--frobnicate", "script", "Makefile"],
-            ["edit", "-x", "script", "Makefile"],
-            ["edit", "-k", "-k", "script", "Makefile"],
-            ["edit", "-o", "a", "-o", "b", "script", "Makefile"],
-            ["edit", "--diff", "-i", "script", "Makefile"],
-            ["edit", "--diff", "--diff", "script", "Makefile"],
-            ["edit", "--diff=out", "script", "Makefile"],
-            ["edit", "--diff", "--backup", "~", "script", "Makefile"],
-            ["edit", "--diff", "--color", "script", "Makefile"],
-            ["edit", "--diff", "--color=", "script", "Makefile"],
-            ["edit", "--diff", "--color", "Always", "script", "Makefile"],
-            ["edit", "--diff", "--color", "never", "--color", "never", "script", "Makefile"],
-            ["vars", "--color", "always", "Makefile"],
-            ["session", "--color", "Makefile"],
-            ["session", "--color=", "Makefile"],
-            ["session", "--color=Never", "Makefile"],
-            ["edit", "-d", "1", "-d", "2", "script", "Makefile"],
-            ["edit", "script", "Makefile", "-o"],
-            ["edit", "script", "Makefile", "-d"],
-            ["edit", "script", "Makefile", "-e"],
-            ["edit", "-e", "undo", "script", "Makefile"],
-            ["edit", "script", "-e", "undo", "Makefile"],
-            ["edit", "--keep-going=yes", "script", "Makefile"],
-            ["vars", "-k", "Makefile"],
-            ["rules", "-o", "out", "Makefile"],
-            ["check", "--depth", "5", "Makefile"],
-            ["vars", "Makefile", "--name"],
-            ["vars", "--name", "-k", "Makefile"],
-            ["vars", "--name", "CC", "--name", "CC", "Makefile"],
-            ["rules", "--target", "a", "--target", "b", "Makefile"],
-            ["edit", "--name", "CC", "script", "Makefile"],
-            ["explain", "--target", "a", "4"],
-            ["--name", "CC", "vars", "Makefile"],
-            ["--keep-going", "edit", "script", "Makefile"],
-        )
-        for words in lines:
-            self.assert_bad_command_line(*words)
-            self.assert_holds("out", None)
-
     def test_an_option_beside_a_query_that_does_not_take_it_is_told_with_the_query(self):
         for query in ANSWERS:
             for option in {"--name", "--target"} - {OPTIONS.get(query)}:
@@ -142,20 +99,6 @@ class CommandLine(RoomCase):
     def test_the_text_of_a_command_line_may_go_to_its_file(self):
         self.assert_run(silent(0), "edit", "-e", "set CC clang", "-o", "Makefile", "Makefile")
         self.assert_holds("Makefile", EDITED.stdout)
-
-    def test_a_depth_is_a_decimal_number_from_1_to_10_000(self):
-        for depth in ("1", "2", "100", "9999", "10000", "05", "0010000"):
-            self.assert_run(EDITED, "edit", "-d", depth, "script", "Makefile")
-
-    def test_another_word_is_no_depth(self):
-        words = ("0", "00", "10001", "4294967296", "4294967297", "18446744073709551617", "9" * 40)
-        words += ("+5", "-5", "0x5", "5.", "5,0", "1e3", "five", "", " 5", "5 ", "\u0665", "５", "5\n")
-        for depth in words:
-            self.assert_bad_command_line("edit", "-d", depth, "script", "Makefile")
-            self.assert_bad_command_line("edit", f"--depth={depth}", "script", "Makefile")
-
-    def test_a_bad_depth_comes_before_a_file_that_is_missing(self):
-        self.assert_bad_command_line("edit", "-d", "0", "absent", "missing")
 
     def test_the_depth_bounds_what_can_be_undone(self):
         self.room.write("sets", b"set CC 1\nset CC 2\nset CC 3\nundo\nundo\nundo\n")

@@ -1,7 +1,5 @@
 //! The texts of help: what each command does, with an example of it.
 
-use crate::command_name::{CommandName, QueryName};
-
 /// Below the help of the program itself.
 pub(crate) const PROGRAM: &str = "\
 Examples:
@@ -14,10 +12,11 @@ Examples:
 `mkedit help COMMAND` has an example of each command, and of each command of a script: `mkedit help set`.
 ";
 
-// What `edit` does, in a line.
-const ABOUT_EDIT: &str = "Runs a script of edits over a makefile, and prints the text";
+const EDIT_USAGE: &str = "mkedit edit [OPTIONS] SCRIPT [FILE]
+       mkedit edit [OPTIONS] -e COMMAND [-e COMMAND ...] [FILE]
+       mkedit edit [OPTIONS] (-i | --diff) SCRIPT FILE...
+       mkedit edit [OPTIONS] (-i | --diff) -e COMMAND [-e COMMAND ...] FILE...";
 
-// Below the help of `edit`.
 const EDIT: &str = "\
 A line of the script is a command, a comment that begins with #, or blank:
     set NAME VALUE            append NAME VALUE           unset NAME
@@ -60,10 +59,6 @@ Status: 0 done, 1 a command was refused, 2 a bad command line or script, 3 a fau
 writing, a limit or memory.
 ";
 
-// What `vars` does, in a line.
-const ABOUT_VARS: &str = "Lists the assignments of a makefile";
-
-// Below the help of `vars`.
 const VARS: &str = "\
 A line for each assignment: the number of its line, how many conditionals are open there, and the
 assignment with its folds joined and without its comment.
@@ -77,10 +72,6 @@ and with `--name CC` the second of these lines alone. Where there is no such lin
 the status is 0. docs/EDITS.md has the members of the objects that --json prints.
 ";
 
-// What `rules` does, in a line.
-const ABOUT_RULES: &str = "Lists the rules of a makefile";
-
-// Below the help of `rules`.
 const RULES: &str = "\
 A line for each rule: the number of its line, how many conditionals are open there, the line with its
 folds joined, and how many recipe lines the rule has.
@@ -94,10 +85,6 @@ and with `--target all` the first of these lines alone. Where there is no such l
 and the status is 0.
 ";
 
-// What `recipes` does, in a line.
-const ABOUT_RECIPES: &str = "Lists the recipe lines of a makefile with their numbers";
-
-// Below the help of `recipes`.
 const RECIPES: &str = "\
 A line for each recipe line below a rule: the number of its line, how many conditionals are open there,
 the targets of the rule, the number of the recipe line in the rule, which `recipe-set`, `recipe-del` and
@@ -112,10 +99,6 @@ prints
 With `--target all` it prints no recipe lines of rules that are not for `all`.
 ";
 
-// What `check` does, in a line.
-const ABOUT_CHECK: &str = "Lists the lines of a makefile that are kept and not read inside";
-
-// Below the help of `check`.
 const CHECK: &str = "\
 A line for each line that no edit and no other query looks into: the number of the line, and `rough`
 for a rule with something in it that is not read, such as a backslash, or `opaque` for any other line.
@@ -129,10 +112,6 @@ prints
     end: conditionals 1
 ";
 
-// What `caveats` does, in a line.
-const ABOUT_CAVEATS: &str = "Lists the lines of a makefile that make may read otherwise";
-
-// Below the help of `caveats`.
 const CAVEATS: &str = "\
 A line for each line that make may read otherwise than mkedit does: the number of the line, and what
 make may do with it. Look at these lines before an edit. docs/LANGUAGE.md has what each sentence means,
@@ -145,10 +124,6 @@ prints
 since make skips `X = 1` where DEBUG is not set, and then the tab begins a recipe line of all.
 ";
 
-// What `get` does, in a line.
-const ABOUT_GET: &str = "Prints the value of a variable of a makefile";
-
-// Below the help of `get`.
 const GET: &str = "\
 The value is that of the assignment that the command `set` of a script would change: of the only one of
 NAME, or of the one that --nth says. It has its folds joined, and no comment. A value that is empty gives
@@ -163,10 +138,6 @@ prints `gcc -g`, and without `--nth 1` it says
     refused 5 Ambiguous 2
 ";
 
-// What `explain` does, in a line.
-const ABOUT_EXPLAIN: &str = "Says why a command is refused, and what to do then";
-
-// Below the help of `explain`.
 const EXPLAIN: &str = "\
 A command that is refused has a line on standard error, such as
     3: refused 4 NoSuch
@@ -179,10 +150,6 @@ Example:
 both print the cause of this refusal, an example of it and what to do.
 ";
 
-// What `session` does, in a line.
-const ABOUT_SESSION: &str = "Answers commands and requests on one makefile, a line each";
-
-// Below the help of `session`.
 const SESSION: &str = "\
 Each line of standard input is a command of a script, as `mkedit help edit` lists them, or a request:
     print    print FROM    print FROM TO    diff    vars    rules    recipes    check    caveats
@@ -207,32 +174,26 @@ prints
     ok
 ";
 
-/// What a command does, in a line.
-pub(crate) fn about<'a>(name: CommandName) -> &'a str {
-    match name {
-        CommandName::Edit => ABOUT_EDIT,
-        CommandName::Query(QueryName::Vars) => ABOUT_VARS,
-        CommandName::Query(QueryName::Rules) => ABOUT_RULES,
-        CommandName::Query(QueryName::Recipes) => ABOUT_RECIPES,
-        CommandName::Query(QueryName::Check) => ABOUT_CHECK,
-        CommandName::Query(QueryName::Caveats) => ABOUT_CAVEATS,
-        CommandName::Get => ABOUT_GET,
-        CommandName::Explain => ABOUT_EXPLAIN,
-        CommandName::Session => ABOUT_SESSION,
+/// How a command is called, where that is more than its arguments say.
+pub(crate) fn usage(command: &str) -> Option<&'static str> {
+    match command {
+        "edit" => Some(EDIT_USAGE),
+        _ => None,
     }
 }
 
 /// What stands below the help of a command: what it prints, with an example.
-pub(crate) fn example<'a>(name: CommandName) -> &'a str {
-    match name {
-        CommandName::Edit => EDIT,
-        CommandName::Query(QueryName::Vars) => VARS,
-        CommandName::Query(QueryName::Rules) => RULES,
-        CommandName::Query(QueryName::Recipes) => RECIPES,
-        CommandName::Query(QueryName::Check) => CHECK,
-        CommandName::Query(QueryName::Caveats) => CAVEATS,
-        CommandName::Get => GET,
-        CommandName::Explain => EXPLAIN,
-        CommandName::Session => SESSION,
+pub(crate) fn example(command: &str) -> &'static str {
+    match command {
+        "edit" => EDIT,
+        "vars" => VARS,
+        "rules" => RULES,
+        "recipes" => RECIPES,
+        "check" => CHECK,
+        "caveats" => CAVEATS,
+        "get" => GET,
+        "explain" => EXPLAIN,
+        "session" => SESSION,
+        _ => "",
     }
 }

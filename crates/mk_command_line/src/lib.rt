@@ -4,7 +4,6 @@
 //! a refusal is, which `mkedit explain` takes, the caller says by a type.
 //!
 //! - `request`: what the words can ask for.
-//! - `command_name`: the commands, by the words that name them.
 //! - `arguments`: the arguments of the commands.
 //! - `commands`: the commands with their arguments, as `clap` has to read them.
 //! - `help`: the texts of help.
@@ -12,7 +11,6 @@
 #![tactic(auto)]
 
 mod arguments;
-mod command_name;
 mod commands;
 mod help;
 mod reading;

@@ -3,7 +3,6 @@
 use Rattle.std.specs.Prelude.{ℕ, ◌-◌, ◌==◌, ◌||◌, if◌then◌else◌, Bool, true, false, List, length, take, Option, Some, None, slice_get}
 use Rattle.std.specs.List.{flat_map}
 use Rattle.mk_lines.specs.PhysicalLines.{physical_lines}
-use Rattle.mk_command_line.specs.Requests.{is_json}
 use Rattle.mk_command_line.specs.declared.request.Form.{Form}
 use Rattle.mk_command_line.specs.declared.request.Form.TheVariants as form
 use Rattle.mk_command_line.specs.declared.request.SessionWords.{SessionWords}
@@ -29,6 +28,11 @@ text_lines text = flat_map text_line (physical_lines text)
 abbrev pub in_form : Form → List ℕ → List ℕ
 in_form form.Text text = text
 in_form form.Json text = text_lines text
+
+-- whether an answer in this form is lines of JSON
+abbrev is_json : Form → Bool
+is_json form.Text = false
+is_json form.Json = true
 
 -- whether the replies are those of the protocol, also at a terminal
 abbrev pub is_by_protocol : SessionWords → Bool

@@ -1,4 +1,0 @@
--- Lemmas on commands, and on what clap finds
-mod CommandLemmas
-mod InputLemmas
-mod WordLemmas
