@@ -43,6 +43,7 @@ impl Query {
 // Rows of tests/cases/json.tsv with this name: a query, a makefile, and the lines that Python's `json`
 // writes on it.
 const NAME: &[u8] = b"\xff";
+
 const ROWS: [(Query, &[u8], &[u8]); 3] = [
     (
         Query::Vars,
