@@ -40,11 +40,14 @@ impl Query {
     }
 }
 
-// Rows of tests/cases/json.tsv with this name: a query, a makefile, and the lines that Python's `json`
-// writes on it.
+// The name of the makefiles.
 const NAME: &[u8] = b"\xff";
 
-const ROWS: [(Query, &[u8], &[u8]); 3] = [
+// A row of tests/cases/json.tsv with this name: a query, a makefile, and the lines that Python's `json`
+// writes on it.
+type Row = (Query, &'static [u8], &'static [u8]);
+
+const ROWS: [Row; 3] = [
     (
         Query::Vars,
         b"ifdef \xe9\n\x80a \xc3: \xe9t\xe9 = \xed\xa0\x80 \xc0\xaf\nendif\n",
@@ -62,12 +65,18 @@ const ROWS: [(Query, &[u8], &[u8]); 3] = [
     ),
 ];
 
+// Whether the query of a row gives its lines.
+fn is_given(rt: &HostRuntime, row: &Row) -> Result<bool, Fault> {
+    let (query, makefile, wanted) = *row;
+    let doc = document(rt, makefile)?;
+    let text = query.ask(rt.alloc(), NAME, &doc, None)?;
+    Ok(text.as_slice() == wanted)
+}
+
 #[test]
 fn rows_are_as_python_writes_them(rt: HostRuntime) -> Result<(), Fail> {
-    for (query, makefile, wanted) in ROWS {
-        let doc = document(&rt, makefile)?;
-        let lines = query.ask(rt.alloc(), NAME, &doc, None)?;
-        assert_eq!(rt; lines.as_slice(), wanted);
+    for row in &ROWS {
+        assert_eq!(rt; is_given(&rt, row), Ok(true));
     }
     let line = push_text_line(Vec::new(rt.alloc()), rt.alloc(), b"a", false)?;
     assert_eq!(rt; line.as_slice(), b"{\"text\":\"a\"}\n".as_slice());
