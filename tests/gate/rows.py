@@ -55,8 +55,6 @@ STORED = (
     Stored("mk_rows", "proofs/runs/AlternativeRuns.antt", "run_rows.py tests/cases/alternatives.tsv"),
     Stored("mk_queries", "proofs/WorkedRows.antt", "query_rows.py tests/cases/queries.tsv"),
     Stored("mk_queries", "proofs/ChosenRows.antt", "query_rows.py tests/cases/chosen-queries.tsv"),
-    Stored("mk_json", "proofs/WorkedRows.antt", "json_rows.py tests/cases/json.tsv"),
-    Stored("mk_document_tests", "src/json/rows.rt", "json_rows.py --rust tests/cases/json.tsv"),
     Stored("mk_rows", "proofs/queries/WorkedReadings.antt", "query_rows.py tests/cases/readings/worked.tsv"),
     Stored("mk_rows", "proofs/queries/RandomReadings.antt", "query_rows.py tests/cases/readings/random.tsv"),
     Stored("edit_rows", "stdin", "plan_rows.py"),

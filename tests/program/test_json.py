@@ -11,7 +11,7 @@ import re
 from tests import TOP
 from tests.lib import reading
 from tests.lib.checks import Outcome
-from tests.lib.json_lines import caveats_text, json_text
+from tests.lib.json_lines import caveats_text, json_text, text_value
 from tests.lib.rooms import (
     ANSWERS,
     NO_MEMORY,
@@ -24,7 +24,7 @@ from tests.lib.rooms import (
     cannot_open,
     silent,
 )
-from tests.lib.tables import OPTIONS
+from tests.lib.tables import OPTIONS, rows, unescape
 
 from .test_descriptors import nobody_reads
 from .test_queries import makefiles
@@ -103,6 +103,20 @@ class Json(RoomCase):
     def objects(self, *words):
         """The objects that a query prints."""
         return [json.loads(line) for line in self.lines(*words)]
+
+    def test_each_row_of_the_table_is_told_as_python_writes_it(self):
+        for _, row in rows("json"):
+            with self.subTest(row["name"]):
+                self.assert_row(row["query"], *(unescape(row[it]) for it in ("word", "file", "makefile")))
+
+    def assert_row(self, query, word, file, makefile):
+        """Asks a makefile of this name; on standard input where the name is not UTF-8, as each word has to be."""
+        name = text_value(file) if isinstance(text_value(file), str) else "-"
+        if name != "-":
+            self.room.write(name, makefile)
+        asked = [OPTIONS[query], word.decode()] if word else []
+        wanted = Outcome(told(query, name.encode(), makefile, word or None), b"", 0)
+        self.assert_run(wanted, query, "--json", *asked, name, given=makefile)
 
     def test_each_makefile_of_the_tables_is_told_as_it_is_read(self):
         texts = {f"m{number}": text for number, text in enumerate(makefiles())}

@@ -6,7 +6,7 @@
 //! - `views`: `mk_views`.
 //! - `listing`: `mk_listing`.
 //! - `queries`: `mk_queries`, over sinks that move little, fail or take nothing.
-//! - `json`: `mk_json`, by what Python writes.
+//! - `json`: `mk_json`, on makefiles whose names are not UTF-8, and on a line of any text.
 //! - `diff`: `mk_diff`, by what GNU diff writes.
 //! - `growths`: each call of them that allocates, with each of its growths refused in turn.
 //! - `support`: the allocator of `test_support` itself.

@@ -14,32 +14,18 @@
 //!
 //! The modules, lowest first:
 //!
-//! - [`conditional`]: the conditionals that are open at a line.
-//! - `value`: texts and numbers as JSON values.
-//! - `member`: members of objects, each with its name.
-//! - `place`: where a line stands.
-//! - `surroundings`: the conditionals round lines, which are asked for in turn.
-//! - `parts`: the parts of lines.
-//! - `object`: the object on a line.
-//! - `query`: the queries, each in the module of its name.
+//! - `conditional`: the conditionals that are open at a line.
+//! - `object`: an object, member by member.
+//! - `line_objects`: the objects on lines of a makefile.
+//! - `query`: the queries.
 //! - `text_line`: the object on a line of any text.
-//! - [`laws`]: lines have the same numbers in JSON and in words.
 #![tactic(auto)]
 
-pub mod conditional;
-pub mod laws;
-mod member;
+mod conditional;
+mod line_objects;
 mod object;
-mod parts;
-mod place;
 mod query;
-mod surroundings;
 mod text_line;
-mod value;
 
-pub use query::caveats::caveats;
-pub use query::check::check;
-pub use query::recipes::recipes;
-pub use query::rules::rules;
-pub use query::vars::vars;
+pub use query::{caveats, check, recipes, rules, vars};
 pub use text_line::push_text_line;

@@ -1,72 +1,140 @@
-//! The object on a line.
-ghost use Rattle.std.specs.Prelude.{◌≡◌, ◌++◌, IfOk, option_map};
-ghost use Rattle.json.specs.Json.{object};
-ghost use Rattle.json.specs.Tree.{json_tokens};
-ghost use Rattle.mk_json.specs.JsonLines.{said_there};
-ghost use Rattle.mk_json.specs.LineMembers.{place_members};
-ghost use Rattle.mk_json.specs.Members.{members_of};
-ghost use Rattle.mk_json.specs.PartMembers.{part_members};
-ghost use Rattle.mk_json.specs.Writing.{PutsTokens};
+//! An object of JSON, member by member.
+ghost use Rattle.std.specs.Prelude.{◌≡◌, [], ◌∷◌, ◌++◌, IfOk, OnOk, codes, true};
+ghost use Rattle.json.specs.Lex.{tokens};
+ghost use Rattle.json.specs.Print.{print};
+ghost use Rattle.json.specs.Token.{begin_object, end_object, boolean, key};
+ghost use Rattle.mk_json.specs.TextLines.{base64_tokens, text_tokens};
 
-use crate::conditional::OpenConditional;
-use crate::parts::{Parts, put_parts};
-use crate::place::put_place;
+use crate::conditional::{ConditionalLine, OpenConditional};
+use base64::engine::general_purpose::STANDARD;
 use json::Writer;
-use mk_listing::Position;
-use mk_tree::Doc;
+use mk_views::WordTexts;
 use std::alloc::{AllocError, Allocator};
+use std::str::from_utf8;
 
-/// Puts the line of JSON on a line of a document behind a text: where the line stands, and its
-/// parts. Puts nothing if no parts are told.
-///
-/// # Errors
-///
-/// [`AllocError`] if a growth was refused.
-pub(crate) fn put_object<A: Allocator, B: Allocator + Copy>(
-    text: Vec<u8, B>,
-    alloc: B,
-    file: &[u8],
-    doc: &Doc<A>,
-    conditionals: &[OpenConditional],
-    position: Position,
-    parts: Option<Parts<'_>>,
-) -> Result<Vec<u8, B>, AllocError>
-    ensures { IfOk result (λ longer. longer.items ≡ text.items
-        ++ said_there file.now doc.now conditionals.now position (option_map part_members parts.entry)) }
-{
-    let Some(parts) = parts else {
-        return Ok(text);
-    };
-    let mut writer = Writer::new(text);
-    put_members(
-        &mut writer,
-        alloc,
-        file,
-        doc,
-        conditionals,
-        position,
-        &parts,
-    )?;
-    let mut longer = writer.into_inner();
-    longer.push(b'\n')?;
-    Ok(longer)
+/// An object that is written behind a text, and ends with its line. A call answers [`AllocError`] if a
+/// growth was refused, and the object is given up then.
+#[derive(Drop)]
+pub(crate) struct Object<A: Allocator> {
+    alloc: A,
+    writer: Writer<A>,
 }
 
-// Puts an object that says where a line stands, and what its parts are.
-fn put_members<A: Allocator, B: Allocator + Copy>(
-    writer: &mut Writer<B>,
-    alloc: B,
-    file: &[u8],
-    doc: &Doc<A>,
-    conditionals: &[OpenConditional],
-    position: Position,
-    parts: &Parts<'_>,
-) -> Result<(), AllocError>
-    ensures { PutsTokens result writer.old writer.new (json_tokens (object (members_of
-        (place_members file.now doc.now conditionals.now position ++ part_members parts.now)))) }
-{
-    writer.begin_object()?;
-    put_place(writer, alloc, file, doc, conditionals, position)?;
-    put_parts(writer, alloc, parts)?;
-    writer.end_object()
+impl<A: Allocator + Copy> Object<A> {
+    /// Begins an object behind a text.
+    pub(crate) fn begin(alloc: A, text: Vec<u8, A>) -> Result<Object<A>, AllocError>
+        ensures before { IfOk result (λ object. object.writer.before ≡ text.items) }
+        ensures tokens { IfOk result (λ object. object.writer.tokens ≡ begin_object ∷ []) }
+    {
+        let mut writer = Writer::new(text);
+        writer.begin_object()?;
+        Ok(Object { alloc, writer })
+    }
+
+    /// Ends the object and its line, and gives the text back.
+    pub(crate) fn end(self) -> Result<Vec<u8, A>, AllocError>
+        ensures text { let object = self.writer.tokens ++ end_object ∷ [] in
+            IfOk result (λ text. text.items ≡ self.writer.before ++ print object ++ codes "\n") }
+        ensures reads_back { let object = self.writer.tokens ++ end_object ∷ [] in
+            OnOk result (tokens (print object) ≡ object) }
+    {
+        let Object { mut writer, .. } = self;
+        writer.end_object()?;
+        let mut text = writer.into_inner();
+        text.push(b'\n')?;
+        Ok(text)
+    }
+
+    // Puts a text: a string if it is UTF-8, and otherwise an object that has it in base64.
+    fn value(&mut self, text: &[u8]) -> Result<(), AllocError>
+        ensures before { self.new.writer.before ≡ self.old.writer.before }
+        ensures tokens { OnOk result
+            (self.new.writer.tokens ≡ self.old.writer.tokens ++ text_tokens text.now) }
+    {
+        match from_utf8(text) {
+            Ok(text) => self.writer.string(text),
+            Err(_) => self.base64(text),
+        }
+    }
+
+    // Puts an object that has a text in base64.
+    fn base64(&mut self, text: &[u8]) -> Result<(), AllocError>
+        ensures before { self.new.writer.before ≡ self.old.writer.before }
+        ensures tokens { OnOk result
+            (self.new.writer.tokens ≡ self.old.writer.tokens ++ base64_tokens text.now) }
+    {
+        let encoded = STANDARD.encode(self.alloc, text)?;
+        self.writer.begin_object()?;
+        self.writer.key("base64")?;
+        self.writer.string(&encoded)?;
+        self.writer.end_object()
+    }
+
+    /// Puts a member that is a text.
+    pub(crate) fn text(&mut self, name: &str, text: &[u8]) -> Result<(), AllocError>
+        ensures before { self.new.writer.before ≡ self.old.writer.before }
+        ensures tokens { OnOk result (self.new.writer.tokens
+            ≡ self.old.writer.tokens ++ key name.now ∷ text_tokens text.now) }
+    {
+        self.writer.key(name)?;
+        self.value(text)
+    }
+
+    /// Puts a member that is an array of texts.
+    pub(crate) fn texts(&mut self, name: &str, words: WordTexts<'_>) -> Result<(), AllocError> {
+        self.writer.key(name)?;
+        self.writer.begin_array()?;
+        for word in words {
+            self.value(word)?;
+        }
+        self.writer.end_array()
+    }
+
+    /// Puts a member that is a string.
+    pub(crate) fn string(&mut self, name: &str, text: &str) -> Result<(), AllocError> {
+        self.writer.key(name)?;
+        self.writer.string(text)
+    }
+
+    /// Puts a member that is a number.
+    pub(crate) fn number(&mut self, name: &str, number: usize) -> Result<(), AllocError> {
+        self.writer.key(name)?;
+        self.writer.u64(number as u64)
+    }
+
+    /// Puts a member that is true.
+    pub(crate) fn flag(&mut self, name: &str) -> Result<(), AllocError>
+        ensures before { self.new.writer.before ≡ self.old.writer.before }
+        ensures tokens { OnOk result (self.new.writer.tokens
+            ≡ self.old.writer.tokens ++ key name.now ∷ boolean true ∷ []) }
+    {
+        self.writer.key(name)?;
+        self.writer.boolean(true)
+    }
+
+    // Puts a member that is a line: an object with its number and its text.
+    fn line(&mut self, name: &str, line: ConditionalLine<'_>) -> Result<(), AllocError> {
+        self.writer.key(name)?;
+        self.writer.begin_object()?;
+        self.number("line", line.number)?;
+        self.text("text", line.text)?;
+        self.writer.end_object()
+    }
+
+    /// Puts a member that is an array of conditionals, each with the first line of its branch and its own.
+    pub(crate) fn conditionals(
+        &mut self,
+        name: &str,
+        conditionals: &[OpenConditional<'_>],
+    ) -> Result<(), AllocError> {
+        self.writer.key(name)?;
+        self.writer.begin_array()?;
+        for conditional in conditionals {
+            self.writer.begin_object()?;
+            self.line("branch", conditional.branch)?;
+            self.line("first", conditional.first)?;
+            self.writer.end_object()?;
+        }
+        self.writer.end_array()
+    }
 }

@@ -1,18 +1,15 @@
--- What a query prints of the text of a makefile, for a person and as JSON, and how it ends where nobody
--- reads on; the value that `get` prints, and how it is refused.
+-- What a query prints of the text of a makefile for a person, and how it ends where nobody reads on; the
+-- value that `get` prints, and how it is refused.
 -- Told in docs/EDITS.md, "Queries".
-use Rattle.std.specs.Prelude.{ℕ, List, [], ◌++◌, Bool, true, false, Option, Some, None, Result, Ok, Err, codes, option_map}
+use Rattle.std.specs.Prelude.{ℕ, List, [], ◌++◌, Bool, true, false, Option, Some, None, Result, Ok, Err, codes}
 use Rattle.std.specs.Borrow.{Bor}
-use Rattle.mk_tree.specs.Documents.{document_lines}
 use Rattle.mk_queries.specs.Queries.{vars_text, vars_named_text, rules_text, rules_for_text, recipes_text, recipes_for_text, check_text}
 use Rattle.mk_queries.specs.Caveats.{caveats_text}
-use Rattle.mk_json.specs.JsonLines.{caveats_lines, check_lines, recipes_lines, rules_lines, vars_lines}
 use Rattle.mk_edit_language.specs.declared.refusal.Refusal.{Refusal}
 use Rattle.mk_lookup.specs.Lookups.{looked_up}
 use Rattle.mk_run.specs.declared.outcome.Outcome.{Outcome}
 use Rattle.mk_run.specs.declared.outcome.Outcome.TheVariants.{Done, Write}
 use Rattle.mk_command_line.specs.declared.request.Query.{Query}
-use Rattle.mk_command_line.specs.declared.request.Form.{Form}
 use Rattle.mk_command_line.specs.declared.request.Form.TheVariants as form
 use Rattle.mkedit.specs.declared.question.Inquiry.{Inquiry}
 use Rattle.mkedit.specs.declared.question.Inquiry.TheVariants as inquiry
@@ -31,23 +28,6 @@ query_text (Recipes None) text = recipes_text text
 query_text (Recipes (Some target)) text = recipes_for_text target.now text
 query_text Check text = check_text text
 query_text Caveats text = caveats_text text
-
--- the name or the target that is asked for, if one is
-abbrev pub word_asked : Option (Bor (List ℕ)) → Option (List ℕ)
-word_asked word = option_map (λ word. word.now) word
-
--- the lines of JSON of a query; the makefile is called by this name in them
-abbrev pub json_text : (file : List ℕ) → Query → List ℕ → List ℕ
-json_text file (Vars name) text = vars_lines file (word_asked name) (document_lines text)
-json_text file (Rules target) text = rules_lines file (word_asked target) (document_lines text)
-json_text file (Recipes target) text = recipes_lines file (word_asked target) (document_lines text)
-json_text file Check text = check_lines file (document_lines text)
-json_text file Caveats text = caveats_lines file (document_lines text)
-
--- what is printed for a query, in a form
-abbrev pub text_in_form : Form → (file : List ℕ) → Query → List ℕ → List ℕ
-text_in_form form.Text file query text = query_text query text
-text_in_form form.Json file query text = json_text file query text
 
 -- the question to the makefile of this name
 abbrev pub question_to : (file : Bor (List ℕ)) → Inquiry → Question
@@ -71,11 +51,11 @@ abbrev refusal_in : Result (List ℕ) Refusal → Option Refusal
 refusal_in (Ok value) = None
 refusal_in (Err refusal) = Some refusal
 
--- what is printed for a question
-abbrev pub answer_text : Question → List ℕ → List ℕ
-answer_text (question.Lines query) text = query_text query text
-answer_text (question.Json query file) text = json_text file.now query text
-answer_text (question.Value nth name) text = value_line (looked_up text nth name.now)
+-- what is printed for a question; of lines of JSON no definition says the text
+abbrev pub answer_text : Question → List ℕ → Option (List ℕ)
+answer_text (question.Lines query) text = Some (query_text query text)
+answer_text (question.Json query file) text = None
+answer_text (question.Value nth name) text = Some (value_line (looked_up text nth name.now))
 
 -- the refusal of a question, if it is refused
 abbrev pub answer_refusal : Question → List ℕ → Option Refusal

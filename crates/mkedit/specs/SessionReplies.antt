@@ -1,6 +1,6 @@
 -- What a makefile that is open replies to a line by the protocol, and what is shown after it.
 -- Told in docs/PROTOCOL.md, "Replies" and "Requests".
-use Rattle.std.specs.Prelude.{◌≡◌, ◌≢◌, ◌⊎◌, ℕ, Bool, true, false, ◌&&◌, if◌then◌else◌, List, ◌++◌, Option, Some, None, Result, Ok, Err, Vec, IfOk, IfSome, is_ok, is_some, codes}
+use Rattle.std.specs.Prelude.{◌≡◌, ◌≢◌, ◌⊎◌, ℕ, Bool, true, false, ◌&&◌, if◌then◌else◌, List, ◌++◌, Option, Some, None, Result, Ok, Err, Vec, IfOk, IfSome, is_ok, is_some, option_and_then, codes}
 use Rattle.mk_edit_language.specs.declared.refusal.Refusal.TheVariants.{GroupOpen}
 use Rattle.mk_history.specs.Shown.{Shown}
 use Rattle.mk_prompt.specs.AnswerLines.{answer_lines, lines_between}
@@ -15,12 +15,8 @@ use Rattle.mk_prompt.specs.declared.talk.After.{After}
 use Rattle.mk_prompt.specs.declared.talk.After.TheVariants.{GoesOn, Ends}
 use Rattle.mk_queries.specs.Caveats.{caveats_text}
 use Rattle.mk_queries.specs.Queries.{check_text, recipes_for_text, recipes_text, rules_for_text, rules_text, vars_named_text, vars_text}
-use Rattle.mk_tree.specs.Documents.{document_lines}
-use Rattle.mk_command_line.specs.declared.request.Form.{Form}
-use Rattle.mk_command_line.specs.declared.request.Form.TheVariants as form
-use Rattle.mk_json.specs.JsonLines.{caveats_lines, check_lines, recipes_lines, rules_lines, vars_lines}
 use Rattle.mkedit.specs.SessionFaults.{fault_text}
-use Rattle.mkedit.specs.SessionForms.{text_lines}
+use Rattle.mkedit.specs.SessionForms.{in_form}
 use Rattle.mkedit.specs.declared.session.desk.Opened.{Opened}
 use Rattle.mkedit.specs.declared.session.not_done.NotDone.{NotDone}
 use Rattle.mkedit.specs.declared.session.not_done.NotDone.TheVariants.{NoMemory, Refused, BeyondDepth}
@@ -42,7 +38,7 @@ IsReverted opened old new (Err (Refused refusal)) =
     (refusal ≡ GroupOpen) × (is_some old.begun ≡ true) × (new ≡ old)
 IsReverted opened old new (Err other) = ⊥
 
--- the answer to a request by the text that is shown, where it has one of these: for a person
+-- the answer for a person to a request by the text that is shown, where it has one of these
 abbrev answer_for_person : (text : List ℕ) → Asked → Option (List ℕ)
 answer_for_person text (Print from to) = Some (lines_between from to text)
 answer_for_person text (Word word.Vars) = Some (vars_text text)
@@ -55,29 +51,9 @@ answer_for_person text (Of of.Rules target) = Some (rules_for_text target text)
 answer_for_person text (Of of.Recipes target) = Some (recipes_for_text target text)
 answer_for_person text other = None
 
--- the same as lines of JSON, in which the makefile has this name
-abbrev answer_in_json : (file text : List ℕ) → Asked → Option (List ℕ)
-answer_in_json file text (Print from to) = Some (text_lines (lines_between from to text))
-answer_in_json file text (Word word.Vars) = Some (vars_lines file None (document_lines text))
-answer_in_json file text (Word word.Rules) = Some (rules_lines file None (document_lines text))
-answer_in_json file text (Word word.Recipes) = Some (recipes_lines file None (document_lines text))
-answer_in_json file text (Word word.Check) = Some (check_lines file (document_lines text))
-answer_in_json file text (Word word.Caveats) = Some (caveats_lines file (document_lines text))
-answer_in_json file text (Of of.Vars name) = Some (vars_lines file (Some name) (document_lines text))
-answer_in_json file text (Of of.Rules target) =
-    Some (rules_lines file (Some target) (document_lines text))
-answer_in_json file text (Of of.Recipes target) =
-    Some (recipes_lines file (Some target) (document_lines text))
-answer_in_json file text other = None
-
--- the same in a form
-abbrev answer_in_form : Form → (file text : List ℕ) → Asked → Option (List ℕ)
-answer_in_form form.Text file text asked = answer_for_person text asked
-answer_in_form form.Json file text asked = answer_in_json file text asked
-
 -- the same in the form in which the makefile was opened
 abbrev pub answer_in : Opened → (text : List ℕ) → Asked → Option (List ℕ)
-answer_in opened text asked = answer_in_form opened.form opened.name.now text asked
+answer_in opened text asked = option_and_then (in_form opened.form) (answer_for_person text asked)
 
 -- a request that is done has this answer, if there is one
 abbrev pub HasAnswer : (wanted : Option (List ℕ)) → Result (List ℕ) NotDone → Type 0

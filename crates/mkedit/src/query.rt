@@ -59,10 +59,10 @@ fn put_answer<A: Allocator, B: Allocator + Copy, W: ByteSink>(
 ) -> Result<(), Unanswered>
     requires faithful { IsFaithful doc.now }
     requires works { W.failed out.old ≡ false }
-    ensures whole { OnOk result (Appends (W.contents out.old) (W.contents out.new)
-        (answer_text question.entry (located_text doc.now))) }
-    ensures prefix { AppendsPrefix (W.contents out.old) (W.contents out.new)
-        (answer_text question.entry (located_text doc.now)) }
+    ensures whole { OnOk result (IfSome (answer_text question.entry (located_text doc.now))
+        (Appends (W.contents out.old) (W.contents out.new))) }
+    ensures prefix { IfSome (answer_text question.entry (located_text doc.now))
+        (AppendsPrefix (W.contents out.old) (W.contents out.new)) }
     ensures granted { OnOk result
         (answer_refusal question.entry (located_text doc.now) ≡ None) }
     ensures refused { (refusal : Refusal) → result ≡ Err (Unanswered.Refused refusal)
@@ -102,9 +102,11 @@ where
     requires makefile_works { R.failed makefile.old ≡ false }
     requires out_works { W.failed out.old ≡ false }
     ensures whole { OnOk result (IfSome (R.remaining makefile.old) (λ text.
-        Appends (W.contents out.old) (W.contents out.new) (answer_text question.entry text))) }
+        IfSome (answer_text question.entry text)
+        (Appends (W.contents out.old) (W.contents out.new)))) }
     ensures prefix { IfSome (R.remaining makefile.old) (λ text.
-        AppendsPrefix (W.contents out.old) (W.contents out.new) (answer_text question.entry text)) }
+        IfSome (answer_text question.entry text)
+        (AppendsPrefix (W.contents out.old) (W.contents out.new))) }
     ensures granted { OnOk result (IfSome (R.remaining makefile.old) (λ text.
         answer_refusal question.entry text ≡ None)) }
     ensures refused { (refusal : Refusal) → result ≡ Err (Unanswered.Refused refusal)
@@ -147,9 +149,11 @@ where
     requires out_works { W.failed out.old ≡ false }
     requires report_works { P.failed report.old ≡ false }
     ensures whole { result ≡ Outcome.Done → IfSome (R.remaining makefile.old) (λ text.
-        Appends (W.contents out.old) (W.contents out.new) (answer_text question.entry text)) }
+        IfSome (answer_text question.entry text)
+        (Appends (W.contents out.old) (W.contents out.new))) }
     ensures prefix { IfSome (R.remaining makefile.old) (λ text.
-        AppendsPrefix (W.contents out.old) (W.contents out.new) (answer_text question.entry text)) }
+        IfSome (answer_text question.entry text)
+        (AppendsPrefix (W.contents out.old) (W.contents out.new))) }
     ensures granted { result ≡ Outcome.Done → IfSome (R.remaining makefile.old) (λ text.
         answer_refusal question.entry text ≡ None) }
     ensures refused { (count : ℕ) → result ≡ Outcome.Refused count → (count ≡ 1)

