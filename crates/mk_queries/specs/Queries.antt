@@ -1,32 +1,27 @@
 -- The texts that the queries write of the lines of a document.
 -- Told in docs/EDITS.md, "Queries".
-use Rattle.std.specs.Prelude.{ℕ, if◌then◌else◌, List, [], ◌++◌, Option, Some, None}
+use Rattle.std.specs.Prelude.{ℕ, if◌then◌else◌, Bool, List, [], ◌++◌, Option, Some, None}
 use Rattle.std.specs.List.{flat_map}
 use Rattle.mk_class.specs.Contexts.{start}
 use Rattle.mk_tree.specs.LocatedLines.{LocatedLine, context_after_located_lines}
-use Rattle.mk_views.specs.Views.{AssignmentView, TargetAssignmentView, assignment_of, target_assignment_of}
+use Rattle.mk_views.specs.Views.{assignment_of, target_assignment_of}
 use Rattle.mk_listing.specs.Listings.{RuleSpot, Standing, is_of, recipes_ahead, rules_ahead, standing, whole}
 use Rattle.mk_listing.specs.declared.position.Position.{Position}
 use Rattle.mk_queries.specs.Texts.{assigned_text, end_text, position_text, recipe_text, rule_text, target_assigned_text, unread_text}
 
 -- ---- `vars`
 
-module _ (name : Option (List ℕ)) (p : Position) where
-  -- what is said of an assignment that stands here, if it is one of the name
-  abbrev pub assignment_line : Option AssignmentView → List ℕ
-  assignment_line None = []
-  assignment_line (Some a) = if is_of name a then position_text p ++ assigned_text a else []
+-- what is said of what is seen of a line, if that passes a test
+abbrev pub said_if : {V : Type 0} → (passes : V → Bool) → (say : V → List ℕ) → Option V → List ℕ
+said_if passes say None = []
+said_if passes say (Some v) = if passes v then say v else []
 
-  -- the same of an assignment for targets
-  abbrev pub target_assignment_line : Option TargetAssignmentView → List ℕ
-  target_assignment_line None = []
-  target_assignment_line (Some a) =
-      if is_of name a.assignment then position_text p ++ target_assigned_text a else []
-
--- what is said of a line, if it is an assignment, for targets or not
+-- what is said of a line that stands here, if it is an assignment, for targets or not
 abbrev pub variable_line : (name : Option (List ℕ)) → Position → LocatedLine → List ℕ
 variable_line n p l =
-    assignment_line n p (assignment_of l) ++ target_assignment_line n p (target_assignment_of l)
+    said_if (is_of n) (λ a. position_text p ++ assigned_text a) (assignment_of l)
+    ++ said_if (λ a. is_of n a.assignment) (λ a. position_text p ++ target_assigned_text a)
+    (target_assignment_of l)
 
 -- the text of `vars`, of one name if one is asked for
 abbrev pub vars_text : (name : Option (List ℕ)) → List LocatedLine → List ℕ

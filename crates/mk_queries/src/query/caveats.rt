@@ -2,7 +2,9 @@
 ghost use Rattle.std.specs.Prelude.{◌≡◌, ℕ, List, false};
 ghost use Rattle.mk_lines.specs.Device.{Writes};
 ghost use Rattle.mk_tree.specs.Documents.{IsFaithful};
+ghost use Rattle.mk_tree.specs.Printing.{Gathers};
 
+use crate::caveat::Caveat;
 use crate::gathering::put_parts;
 use crate::walk::line_caveats;
 use mk_lines::Fault;
@@ -46,12 +48,28 @@ pub fn caveats<A: Allocator, W: ByteSink>(doc: &Doc<A>, out: &mut W) -> Result<(
     let mut gathered = Gathered::new();
     let mut caveats = line_caveats(doc);
     'lines: for (position, _) in numbered(doc) {
-        if let Some(Some(caveat)) = caveats.next() {
-            let mut digits = itoa::Buffer::new();
-            let number = digits.format(position.number).as_bytes();
-            let sentence = caveat.sentence().as_bytes();
-            put_parts(&mut gathered, out, &[number, b": ", sentence, b"\n"])?;
-        }
+        let caveat = caveats.next().unwrap_or(None);
+        put_caveat(&mut gathered, out, position.number, caveat)?;
     }
     write_all(out, &gathered)
+}
+
+// Puts a line on the caveat of a line of this number, if it has one.
+fn put_caveat<W: ByteSink>(
+    gathered: &mut Gathered,
+    out: &mut W,
+    number: usize,
+    caveat: Option<Caveat>,
+) -> Result<(), Fault>
+    requires { W.failed out.old ≡ false }
+    ensures { (text : List ℕ) × Gathers W.contents W.failed W.flushes out.old out.new
+        gathered.old.items gathered.new.items result text }
+{
+    let Some(caveat) = caveat else {
+        return Ok(());
+    };
+    let mut digits = itoa::Buffer::new();
+    let number = digits.format(number).as_bytes();
+    let sentence = caveat.sentence().as_bytes();
+    put_parts(gathered, out, &[number, b": ", sentence, b"\n"])
 }

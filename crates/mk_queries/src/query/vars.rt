@@ -5,8 +5,9 @@ ghost use Rattle.mk_lines.specs.Spacing.{after_space};
 ghost use Rattle.mk_class.specs.OperatorTexts.{operator_text};
 ghost use Rattle.mk_tree.specs.Printing.{Gathers};
 ghost use Rattle.mk_tree.specs.Trees.{line_view};
-ghost use Rattle.mk_queries.specs.Queries.{assignment_line, target_assignment_line, variable_line, vars_text};
-ghost use Rattle.mk_queries.specs.Texts.{assigned_text};
+ghost use Rattle.mk_listing.specs.Listings.{is_of};
+ghost use Rattle.mk_queries.specs.Queries.{said_if, variable_line, vars_text};
+ghost use Rattle.mk_queries.specs.Texts.{assigned_text, position_text, target_assigned_text};
 
 use crate::gathering::put_parts;
 use crate::position::put_position;
@@ -105,8 +106,8 @@ fn put_assignment<W: ByteSink>(
 ) -> Result<(), Fault>
     requires { W.failed out.old ≡ false }
     ensures { Gathers W.contents W.failed W.flushes out.old out.new gathered.old.items
-        gathered.new.items result (assignment_line (option_map (λ word. word.now) name.entry)
-        position assignment.entry) }
+        gathered.new.items result (said_if (is_of (option_map (λ word. word.now) name.entry))
+        (λ a. position_text position ++ assigned_text a) assignment.entry) }
 {
     match assignment {
         Some(assignment) if is_of(&assignment, name) => {
@@ -127,8 +128,9 @@ fn put_target_assignment<W: ByteSink>(
 ) -> Result<(), Fault>
     requires { W.failed out.old ≡ false }
     ensures { Gathers W.contents W.failed W.flushes out.old out.new gathered.old.items
-        gathered.new.items result (target_assignment_line (option_map (λ word. word.now) name.entry)
-        position assignment.entry) }
+        gathered.new.items result
+        (said_if (λ a. is_of (option_map (λ word. word.now) name.entry) a.assignment)
+        (λ a. position_text position ++ target_assigned_text a) assignment.entry) }
 {
     match assignment {
         Some(assignment) if is_of(&assignment.assignment(), name) => {

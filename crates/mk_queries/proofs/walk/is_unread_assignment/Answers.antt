@@ -6,4 +6,4 @@ use Rattle.mk_queries.proofs.ReadableLemmas.{readable-plain}
 use Rattle.mk_queries.proofs.walk.is_unread_assignment.Goals as goal
 
 pub class_of_plain_line-requires-clause-plain : goal.class_of_plain_line-requires-clause-plain
-class_of_plain_line-requires-clause-plain g c = subst IsPlain (sym c.text.ensures) (readable-plain (line_cells (line_view c.args.line.now).bytes) ?)
+class_of_plain_line-requires-clause-plain g c = subst IsPlain (sym c.text.ensures) (readable-plain (line_cells (line_view c.args.line.now).bytes) (sym c.if-not-is_unreadable.ensures))
