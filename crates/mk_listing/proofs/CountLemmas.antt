@@ -1,5 +1,5 @@
 -- The recipe lines of a rule are counted without where they stand.
-use Rattle.std.proofs.Common.{◌≡◌, refl, ap, ◌∙◌, arith, ℕ, ◌+◌, if◌then◌else◌, List, [], ◌∷◌, ◌++◌, length, count_by, Bool, true, false}
+use Rattle.std.proofs.Common.{◌≡◌, refl, ◌∙◌, arith, ℕ, ◌+◌, if◌then◌else◌, List, [], ◌∷◌, ◌++◌, length, count_by, Bool, true, false}
 use Rattle.std.specs.Prelude.{Option, Some, None, is_some}
 use Rattle.std.proofs.lemmas.List.Sums.{sum_by-cons}
 use Rattle.mk_lines.specs.Lists.{leading}

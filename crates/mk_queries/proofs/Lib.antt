@@ -6,3 +6,5 @@ pub mod VariableLemmas
 pub mod ReadableLemmas
 
 -- Definitions computed
+mod WorkedRows
+mod ChosenRows

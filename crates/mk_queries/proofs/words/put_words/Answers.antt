@@ -1,4 +1,4 @@
-use Rattle.std.proofs.Common.{rules, refl, ap}
+use Rattle.std.proofs.Common.{rules, refl}
 use Rattle.mk_lines.specs.Spacing.{each_after_space}
 use Rattle.mk_queries.proofs.PutLemmas.{put-nothing, put-more, put-fails}
 use Rattle.mk_queries.proofs.words.put_words.Goals as goal
