@@ -18,7 +18,6 @@ CALLS = (
     "mk_queries::rules",
     "mk_queries::recipes",
     "mk_queries::check",
-    "mk_queries::caveats",
     "mk_edit::plan",
     "mk_session::Session::apply",
     "mk_session::Session::obey",

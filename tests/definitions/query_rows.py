@@ -9,7 +9,8 @@ Turns a table into a file of rows, by which the prover computes the definitions 
 tests/gate/rows.py says which files the crates keep.
 
 A table with the columns name, query, makefile and stdout says the text of each query itself. In one that
-has a column word too, the query is asked for this one name or target. A table
+has a column word too, the query is asked for this one name or target. No definition says what `caveats`
+prints: its rows are left to the tests of the program, which run every row. A table
 with the columns name, makefile and reading says the items of each makefile (see reading_rows.py), and
 the texts of `vars`, `rules` and `check` are made from these: the items are laid on the logical lines of the
 makefile, which are cut here; the text of an item, or its being none, says on which line it is.
@@ -167,17 +168,22 @@ def check_text(laid):
 
 
 QUERIES = {"vars": vars_text, "rules": rules_text, "check": check_text}
-# The definitions of the queries that are asked for one name or target.
-CHOSEN = {"vars": "vars_named_text", "rules": "rules_for_text", "recipes": "recipes_for_text"}
+
+
+def question(row):
+    """What is asked of the lines of a makefile: a query, of the name or the target of the row if it has one."""
+    if row["query"] == "check":
+        return "check_text"
+    chosen = f"(Some {antt_text(bytes_of(row, 'word'))})" if "word" in row else "None"
+    return f"{row['query']}_text {chosen}"
 
 
 def given(table):
     """The rows of a table that says the text of each query."""
     for row in rows_of_table(table):
-        question = f"{row['query']}_text"
-        if "word" in row:
-            question = f"{CHOSEN[row['query']]} {antt_text(bytes_of(row, 'word'))}"
-        yield row["name"], f"{question} {antt_text(bytes_of(row, 'makefile'))}", antt_text(bytes_of(row, "stdout"))
+        if row["query"] != "caveats":
+            lines = f"(document_lines {antt_text(bytes_of(row, 'makefile'))})"
+            yield row["name"], f"{question(row)} {lines}", antt_text(bytes_of(row, "stdout"))
 
 
 def made(table):
@@ -190,12 +196,14 @@ def made(table):
 
 IMPORTS = [
     ("Rattle.std.specs.Fmt", ["digits"]),
-    ("Rattle.mk_queries.specs.Queries", ["vars_text", "rules_text", "recipes_text", "check_text", *CHOSEN.values()]),
-    ("Rattle.mk_queries.specs.Caveats", ["caveats_text"]),
+    ("Rattle.mk_tree.specs.Documents", ["document_lines"]),
+    ("Rattle.mk_queries.specs.Queries", ["vars_text", "rules_text", "recipes_text", "check_text"]),
 ]
 # The types of what a table of readings asks and is answered, and what it asks.
 ROW_OF_READINGS = "List ℕ × (List ℕ × List ℕ × List ℕ)"
-ASKED_OF_READINGS = "(vars_text row.0, rules_text row.0, check_text row.0)"
+ASKED_OF_READINGS = (
+    "let lines = document_lines row.0 in (vars_text None lines, rules_text None lines, check_text lines)"
+)
 
 
 def main():

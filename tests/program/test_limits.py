@@ -32,6 +32,14 @@ class Limits(RoomCase):
         self.room.write("long", b"\n" * 999_999 + b"a: ; b\n")
         self.assert_run(Outcome(b"1000000:0: a: [1]\n", b"", 0), "rules", "long")
 
+    def test_looks_for_other_rules_go_through_as_many_bytes_as_the_greatest_text_has(self):
+        rules = b"a:\n\tx\na:\na:\n"
+        sentence = b"%d: make may take nothing from this rule: another one has the recipe of its target\n"
+        for size, named in ((LIMIT // 2, (3, 4)), (LIMIT // 2 + 1, (3,)), (LIMIT, (3,))):
+            self.room.write("long", rules + fill(size - len(rules)))
+            wanted = Outcome(b"".join(sentence % number for number in named), b"", 0)
+            self.assert_run(wanted, "caveats", "long")
+
     def test_a_text_that_grows_to_the_greatest_length_passes(self):
         text = b"#" * (LIMIT - 5) + b"\n"
         self.room.write("long", text)

@@ -1,2 +1,3 @@
 mod NumberLemmas
 mod WalkLemmas
+pub mod CountLemmas

@@ -1,10 +1,12 @@
 -- The first line of a walk of which something is seen.
 -- Told in docs/ARCHITECTURE.md, "From a script to a text".
-use Rattle.std.specs.Prelude.{◌≡◌, ◌<◌, ◌≤◌, ℕ, Bool, List, [], ◌∷◌, length, Option, MatchOption}
+use Rattle.std.specs.Prelude.{◌≡◌, ◌<◌, ◌≤◌, ℕ, Bool, List, [], ◌∷◌, length, count_by, is_some, Option, MatchOption}
 use Rattle.std.specs.Borrow.{Bor}
 use Rattle.mk_tree.specs.LocatedLines.{LocatedLine}
 use Rattle.mk_listing.specs.declared.position.Position.{Position}
-use Rattle.mk_listing.specs.Listings.{Walk, seen, seen_recipes, standing}
+use Rattle.mk_lines.specs.Lists.{leading}
+use Rattle.mk_views.specs.Views.{recipe_of}
+use Rattle.mk_listing.specs.Listings.{Walk, seen, seen_recipes, standing, stays}
 
 -- A walk passes the lines up to the first of which something is seen, which is found; or all of them,
 -- if there is none.
@@ -28,3 +30,7 @@ FindsRecipe walk found left =
     (λ first. (seen_recipes walk
     ≡ record { position = first.0; shown = first.1.now; below = left } ∷ seen_recipes left)
     × (length left.ahead < length walk.ahead))
+
+-- how many recipe lines the rule above some lines has
+abbrev pub recipe_count : List LocatedLine → ℕ
+recipe_count ls = count_by (λ l. is_some (recipe_of l)) (leading stays ls)

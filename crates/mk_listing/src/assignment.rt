@@ -102,8 +102,8 @@ fn next_assignment<'a, A: Allocator>(
     None
 }
 
-// Whether an assignment is one of a name, if one is asked for.
-fn is_of(assignment: &AssignmentRef<'_>, name: Option<&[u8]>) -> bool
+/// Whether an assignment is one of a name, if one is asked for.
+pub fn is_of(assignment: &AssignmentRef<'_>, name: Option<&[u8]>) -> bool
     ensures { result ≡ is_of (option_map (λ word. word.now) name.entry) assignment.now }
 {
     match name {

@@ -20,7 +20,7 @@ pub mod recipe;
 pub mod rule;
 pub mod walk;
 
-pub use assignment::{AssignmentLine, Assignments};
+pub use assignment::{AssignmentLine, Assignments, is_of};
 pub use listing::{assignments, assignments_of, line_at, numbered, rules, rules_for};
 pub use position::Position;
 pub use recipe::{RecipeLine, RecipeLines};

@@ -1,10 +1,13 @@
 //! The recipe lines of a rule.
-ghost use Rattle.std.specs.Prelude.{◌≡◌};
-ghost use Rattle.mk_listing.specs.Finding.{FindsRecipe};
+ghost use Rattle.std.specs.Prelude.{◌≡◌, ◌≤◌, length};
+ghost use Rattle.mk_lines.specs.Limits.{max_text};
+ghost use Rattle.mk_listing.specs.Finding.{FindsRecipe, recipe_count};
 ghost use Rattle.mk_listing.specs.Listings.{recipes_ahead};
 
 use crate::position::Position;
 use crate::walk::NumberedLines;
+use mk_class::Class;
+use mk_tree::Lines;
 use mk_views::LineViews;
 use std::alloc::{Allocator, Global};
 use std::marker::Model;
@@ -102,4 +105,21 @@ fn next_recipe<'a, A: Allocator>(walk: &mut NumberedLines<'a, A>) -> Option<(Pos
         }
     }
     None
+}
+
+/// How many recipe lines the rule above some lines has.
+pub(crate) fn count_recipe_lines<A: Allocator>(lines: Lines<'_, A>) -> usize
+    requires { length lines ≤ max_text }
+    ensures count { result ≡ recipe_count lines.entry }
+    ensures few { result ≤ max_text }
+{
+    let mut count = 0;
+    'lines: for line in lines {
+        match line.class() {
+            Class::Recipe => count += 1,
+            class if class.leaves_flag() => {}
+            _ => return count,
+        }
+    }
+    count
 }

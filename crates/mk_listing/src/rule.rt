@@ -1,12 +1,13 @@
 //! The rules of a document.
-ghost use Rattle.std.specs.Prelude.{◌≡◌, option_map};
+ghost use Rattle.std.specs.Prelude.{◌≡◌, ◌≤◌, length, option_map};
+ghost use Rattle.mk_lines.specs.Limits.{max_text};
 ghost use Rattle.mk_views.specs.Views.{rule_of};
 ghost use Rattle.mk_listing.specs.Finding.{FindsFirst};
 ghost use Rattle.mk_listing.specs.Listings.{is_for, recipes_ahead, rules_ahead, whole};
 
 use crate::position::Position;
-use crate::recipe::RecipeLines;
-use crate::walk::NumberedLines;
+use crate::recipe::{RecipeLines, count_recipe_lines};
+use crate::walk::{NumberedLines, Place};
 use mk_tree::Doc;
 use mk_views::{LineViews, RuleRef};
 use std::alloc::{Allocator, Global};
@@ -22,7 +23,7 @@ pub struct RuleLine<'a, A: Allocator = Global> {
     pub nth: u32,
     /// The parts of the line.
     pub rule: RuleRef<'a>,
-    below: NumberedLines<'a, A>,
+    below: Place<'a, A>,
 }
 
 impl<'a, A: Allocator> RuleLine<'a, A> {
@@ -31,7 +32,16 @@ impl<'a, A: Allocator> RuleLine<'a, A> {
     pub fn recipe_lines(&self) -> RecipeLines<'a, A>
         ensures { result ≡ recipes_ahead 1 self.now.below }
     {
-        RecipeLines::new(self.below.again())
+        RecipeLines::new(self.below.numbered())
+    }
+
+    /// How many recipe lines the rule has: as many as [`recipe_lines`](RuleLine::recipe_lines) gives.
+    /// They are counted without where they stand, which takes less time.
+    pub fn recipe_count(&self) -> usize
+        ensures count { result ≡ length (recipes_ahead 1 self.now.below) }
+        ensures few { result ≤ max_text }
+    {
+        count_recipe_lines(self.below.lines())
     }
 }
 
@@ -93,7 +103,7 @@ impl<'a, A: Allocator> Iterator for Rules<'a, A> {
             position,
             nth: self.given,
             rule,
-            below: self.walk.again(),
+            below: self.walk.place(),
         })
     }
 }

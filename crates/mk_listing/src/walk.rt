@@ -1,9 +1,11 @@
 //! The lines of a document, each with where it stands.
-ghost use Rattle.std.specs.Prelude.{◌≡◌, ◌==◌, count_by};
+ghost use Rattle.std.specs.Prelude.{◌≡◌, ◌≤◌, ◌==◌, count_by, length};
+ghost use Rattle.mk_lines.specs.Limits.{max_text};
 ghost use Rattle.mk_class.specs.Contexts.{FitsConditionals, conditionals_after_located};
 ghost use Rattle.mk_listing.specs.Listings.{whole};
 
 use crate::position::Position;
+use memchr::memchr_iter;
 use mk_class::Class;
 use mk_tree::{Doc, Line, Lines};
 use std::alloc::{Allocator, Global};
@@ -37,6 +39,54 @@ impl<'a, A: Allocator> Model for NumberedLines<'a, A> {
         × (w.next.number + size_of w.lines ≤ max_text + 1) };
 }
 
+/// A place in a document, from which a walk can go on. Contracts see it as the walk. It is small, and only
+/// a walk looks for its lines.
+#[derive(Drop)]
+pub(crate) struct Place<'a, A: Allocator = Global> {
+    doc: &'a Doc<A>,
+    // Where the next line stands.
+    next: Position,
+}
+
+impl<'a, A: Allocator> Model for Place<'a, A> {
+    ghost use Rattle.std.specs.Prelude.{◌≡◌, ◌+◌, ◌≤◌, drop, length, take};
+    ghost use Rattle.mk_lines.specs.Limits.{max_text};
+    ghost use Rattle.mk_tree.specs.LocatedLines.{AreConditionalsFit, size_of};
+    ghost use Rattle.mk_listing.specs.Listings.{Walk, position_below};
+
+    ghost Value = { Walk };
+
+    ghost view = { λ p.
+        record { above = take p.next.index p.doc.now; ahead = drop p.next.index p.doc.now } };
+
+    ghost invariant = { λ p.
+        (p.next ≡ position_below (take p.next.index p.doc.now))
+        × AreConditionalsFit p.next.conditionals (drop p.next.index p.doc.now)
+        × (p.next.index + length (drop p.next.index p.doc.now) ≤ max_text)
+        × (p.next.number + size_of (drop p.next.index p.doc.now) ≤ max_text + 1) };
+}
+
+impl<'a, A: Allocator> Place<'a, A> {
+    /// The lines below, each with where it stands.
+    pub(crate) fn numbered(&self) -> NumberedLines<'a, A>
+        ensures { result ≡ self.now }
+    {
+        NumberedLines {
+            doc: self.doc,
+            lines: self.lines(),
+            next: self.next,
+        }
+    }
+
+    /// The lines below.
+    pub(crate) fn lines(&self) -> Lines<'a, A>
+        ensures lines { result ≡ self.now.ahead }
+        ensures few { length result ≤ max_text }
+    {
+        self.doc.lines_from(self.next.index)
+    }
+}
+
 impl<'a, A: Allocator> NumberedLines<'a, A> {
     /// The lines of a document.
     pub(crate) fn new(doc: &'a Doc<A>) -> NumberedLines<'a, A>
@@ -54,13 +104,12 @@ impl<'a, A: Allocator> NumberedLines<'a, A> {
         }
     }
 
-    /// The same walk once more, from where it is.
-    pub(crate) fn again(&self) -> NumberedLines<'a, A>
+    /// The place that the walk has come to.
+    pub(crate) fn place(&self) -> Place<'a, A>
         ensures { result ≡ self.now }
     {
-        NumberedLines {
+        Place {
             doc: self.doc,
-            lines: self.doc.lines_from(self.next.index),
             next: self.next,
         }
     }
@@ -93,7 +142,7 @@ impl<'a, A: Allocator> Iterator for NumberedLines<'a, A> {
 fn line_feeds(text: &[u8]) -> usize
     ensures { result ≡ count_by (λ b. b == 10) text.now }
 {
-    text.iter().filter(|byte| **byte == b'\n').count()
+    memchr_iter(b'\n', text).count()
 }
 
 // How many conditionals are open after a line of this class, before which so many are.

@@ -1,10 +1,10 @@
--- Lemmas by subject
-pub mod WalksAhead
-pub mod SaidSoFar
-pub mod SpacingLemmas
-pub mod on_parts
-pub mod on_walks
+-- Texts that are put piece by piece
+pub mod PutLemmas
+-- What is said of an assignment
+pub mod VariableLemmas
+-- Readable lines
+pub mod ReadableLemmas
+
 -- Definitions computed
 mod WorkedRows
 mod ChosenRows
-mod LookRows

@@ -1,11 +1,6 @@
 //! What the lines above tell of rules, where make passes some of them.
-ghost use Rattle.std.specs.Prelude.{◌≡◌, []};
-ghost use Rattle.mk_class.specs.RecipePrefix.{is_prefix_led};
-ghost use Rattle.mk_tree.specs.Trees.{line_view};
-ghost use Rattle.mk_queries.specs.Caveats.{is_empty_for_make, is_other_class, is_rule, seen_above};
-ghost use Rattle.mk_queries.specs.QueryWalks.{seen_after};
 
-use crate::make_word::word_of;
+use crate::make_word::make_word;
 use mk_class::{Class, Context, RuleFlag};
 use mk_tree::Line;
 use std::alloc::Allocator;
@@ -21,9 +16,7 @@ pub(crate) struct Seen {
 
 impl Seen {
     /// Above the first line nothing is left out, and no rule is open.
-    pub(crate) fn start() -> Seen
-        ensures { result ≡ seen_above [] }
-    {
+    pub(crate) fn start() -> Seen {
         Seen {
             for_make: RuleFlag::Off,
             outside: RuleFlag::Off,
@@ -31,20 +24,22 @@ impl Seen {
     }
 
     /// The flags below a line of this class, which stands in a context.
-    pub(crate) fn below<A: Allocator>(self, context: Context, class: &Class, line: &Line<A>) -> Seen
-        requires { class.now ≡ (line_view line.now).class }
-        ensures { result ≡ seen_after context self (line_view line.now) }
-    {
-        let is_other = is_other_class(class) && is_led(context, line);
-        let tells_make = !(is_other || is_empty_for_make(class, line));
-        let tells_outside = !is_other && context.conds() == 0;
+    pub(crate) fn below<A: Allocator>(
+        self,
+        context: Context,
+        class: &Class,
+        line: &Line<A>,
+    ) -> Seen {
+        if is_other_class(class) && is_led(context, line) {
+            return self;
+        }
         Seen {
-            for_make: if tells_make {
-                self.for_make.after(class)
-            } else {
+            for_make: if is_empty_for_make(class, line) {
                 self.for_make
+            } else {
+                self.for_make.after(class)
             },
-            outside: if tells_outside {
+            outside: if context.conds() == 0 {
                 self.outside.after(class)
             } else {
                 self.outside
@@ -54,25 +49,18 @@ impl Seen {
 }
 
 /// Whether a flag says that a rule is open.
-pub(crate) fn is_rule(flag: RuleFlag) -> bool
-    ensures { result ≡ is_rule flag }
-{
+pub(crate) fn is_rule(flag: RuleFlag) -> bool {
     matches!(flag, RuleFlag::Rule)
 }
 
 /// Whether a line begins with the recipe prefix of its context.
-pub(crate) fn is_led<A: Allocator>(context: Context, line: &Line<A>) -> bool
-    ensures { result ≡ is_prefix_led context.prefix (line_view line.now).bytes }
-{
-    let prefix = context.prefix();
-    matches!(line.bytes(), [first, ..] if *first == prefix)
+pub(crate) fn is_led<A: Allocator>(context: Context, line: &Line<A>) -> bool {
+    line.bytes().first() == Some(&context.prefix())
 }
 
 /// Whether a line of this class, which begins with the recipe prefix, is no recipe line, no line of
 /// a define, no blank and no comment.
-pub(crate) fn is_other_class(class: &Class) -> bool
-    ensures { result ≡ is_other_class class.now }
-{
+pub(crate) fn is_other_class(class: &Class) -> bool {
     matches!(
         class,
         Class::Opaque | Class::Assign(..) | Class::DefineHead(_) | Class::If | Class::Directive
@@ -81,9 +69,6 @@ pub(crate) fn is_other_class(class: &Class) -> bool
 
 // Whether make takes a line of this class, which is opaque, for empty: it finds no word, or one that
 // begins a comment.
-fn is_empty_for_make<A: Allocator>(class: &Class, line: &Line<A>) -> bool
-    requires { class.now ≡ (line_view line.now).class }
-    ensures { result ≡ is_empty_for_make (line_view line.now) }
-{
-    matches!(class, Class::Opaque) && matches!(word_of(line), [] | [b'#', ..])
+fn is_empty_for_make<A: Allocator>(class: &Class, line: &Line<A>) -> bool {
+    matches!(class, Class::Opaque) && matches!(make_word(line.text()), [] | [b'#', ..])
 }

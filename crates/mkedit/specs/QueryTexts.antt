@@ -1,10 +1,11 @@
 -- What a query prints of the text of a makefile for a person, and how it ends where nobody reads on; the
 -- value that `get` prints, and how it is refused.
 -- Told in docs/EDITS.md, "Queries".
-use Rattle.std.specs.Prelude.{ℕ, List, [], ◌++◌, Bool, true, false, Option, Some, None, Result, Ok, Err, codes}
+use Rattle.std.specs.Prelude.{◌≡◌, ℕ, List, [], ◌++◌, Bool, true, false, Option, Some, None, IfSome, Result, Ok, Err, codes, option_map}
 use Rattle.std.specs.Borrow.{Bor}
-use Rattle.mk_queries.specs.Queries.{vars_text, vars_named_text, rules_text, rules_for_text, recipes_text, recipes_for_text, check_text}
-use Rattle.mk_queries.specs.Caveats.{caveats_text}
+use Rattle.mk_tree.specs.Documents.{document_lines}
+use Rattle.mk_tree.specs.LocatedLines.{LocatedLine}
+use Rattle.mk_queries.specs.Queries.{check_text, recipes_text, rules_text, vars_text}
 use Rattle.mk_edit_language.specs.declared.refusal.Refusal.{Refusal}
 use Rattle.mk_lookup.specs.Lookups.{looked_up}
 use Rattle.mk_run.specs.declared.outcome.Outcome.{Outcome}
@@ -19,15 +20,21 @@ use Rattle.mkedit.specs.declared.question.Found.{Found}
 use Rattle.mkedit.specs.declared.question.Found.TheVariants as found
 use Rattle.mk_command_line.specs.declared.request.Query.TheVariants.{Vars, Rules, Recipes, Check, Caveats}
 
-abbrev pub query_text : Query → List ℕ → List ℕ
-query_text (Vars None) text = vars_text text
-query_text (Vars (Some name)) text = vars_named_text name.now text
-query_text (Rules None) text = rules_text text
-query_text (Rules (Some target)) text = rules_for_text target.now text
-query_text (Recipes None) text = recipes_text text
-query_text (Recipes (Some target)) text = recipes_for_text target.now text
-query_text Check text = check_text text
-query_text Caveats text = caveats_text text
+-- the name or the target that is asked for, if one is
+abbrev pub word_asked : Option (Bor (List ℕ)) → Option (List ℕ)
+word_asked word = option_map (λ word. word.now) word
+
+-- what a query prints of the lines of a makefile for a person; of `caveats` no definition says it
+abbrev pub query_text : Query → List LocatedLine → Option (List ℕ)
+query_text (Vars name) lines = Some (vars_text (word_asked name) lines)
+query_text (Rules target) lines = Some (rules_text (word_asked target) lines)
+query_text (Recipes target) lines = Some (recipes_text (word_asked target) lines)
+query_text Check lines = Some (check_text lines)
+query_text Caveats lines = None
+
+-- a text is the one that a definition says, if one does
+abbrev pub IsSaid : (said : Option (List ℕ)) → (text : List ℕ) → Type 0
+IsSaid said text = IfSome said (λ wanted. text ≡ wanted)
 
 -- the question to the makefile of this name
 abbrev pub question_to : (file : Bor (List ℕ)) → Inquiry → Question
@@ -51,9 +58,9 @@ abbrev refusal_in : Result (List ℕ) Refusal → Option Refusal
 refusal_in (Ok value) = None
 refusal_in (Err refusal) = Some refusal
 
--- what is printed for a question; of lines of JSON no definition says the text
+-- what is printed for a question of the text of a makefile; of lines of JSON no definition says it
 abbrev pub answer_text : Question → List ℕ → Option (List ℕ)
-answer_text (question.Lines query) text = Some (query_text query text)
+answer_text (question.Lines query) text = query_text query (document_lines text)
 answer_text (question.Json query file) text = None
 answer_text (question.Value nth name) text = Some (value_line (looked_up text nth name.now))
 
@@ -63,11 +70,11 @@ answer_refusal (question.Lines query) text = None
 answer_refusal (question.Json query file) text = None
 answer_refusal (question.Value nth name) text = refusal_in (looked_up text nth name.now)
 
--- what is printed of what is found for a question
-abbrev pub found_text : {B : Type 0} → Found B → List ℕ → List ℕ
-found_text (found.Lines query) text = query_text query text
-found_text (found.Json lines) text = lines.items
-found_text (found.Value value) text = value.now ++ codes "\n"
+-- what is printed of what is found for a question in the lines of a makefile
+abbrev pub found_text : {B : Type 0} → Found B → List LocatedLine → Option (List ℕ)
+found_text (found.Lines query) lines = query_text query lines
+found_text (found.Json json) lines = Some json.items
+found_text (found.Value value) lines = Some (value.now ++ codes "\n")
 
 -- The outcome of a query by how its print ended, and whether a write failed since nobody reads the
 -- output any more. Who reads no more has what is wanted: the query is done.

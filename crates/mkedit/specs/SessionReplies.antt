@@ -13,8 +13,8 @@ use Rattle.mk_prompt.specs.declared.request.RequestOf.TheVariants as of
 use Rattle.mk_prompt.specs.declared.request.RequestWord.TheVariants as word
 use Rattle.mk_prompt.specs.declared.talk.After.{After}
 use Rattle.mk_prompt.specs.declared.talk.After.TheVariants.{GoesOn, Ends}
-use Rattle.mk_queries.specs.Caveats.{caveats_text}
-use Rattle.mk_queries.specs.Queries.{check_text, recipes_for_text, recipes_text, rules_for_text, rules_text, vars_named_text, vars_text}
+use Rattle.mk_queries.specs.Queries.{check_text, recipes_text, rules_text, vars_text}
+use Rattle.mk_tree.specs.Documents.{document_lines}
 use Rattle.mkedit.specs.SessionFaults.{fault_text}
 use Rattle.mkedit.specs.SessionForms.{in_form}
 use Rattle.mkedit.specs.declared.session.desk.Opened.{Opened}
@@ -41,14 +41,14 @@ IsReverted opened old new (Err other) = ⊥
 -- the answer for a person to a request by the text that is shown, where it has one of these
 abbrev answer_for_person : (text : List ℕ) → Asked → Option (List ℕ)
 answer_for_person text (Print from to) = Some (lines_between from to text)
-answer_for_person text (Word word.Vars) = Some (vars_text text)
-answer_for_person text (Word word.Rules) = Some (rules_text text)
-answer_for_person text (Word word.Recipes) = Some (recipes_text text)
-answer_for_person text (Word word.Check) = Some (check_text text)
-answer_for_person text (Word word.Caveats) = Some (caveats_text text)
-answer_for_person text (Of of.Vars name) = Some (vars_named_text name text)
-answer_for_person text (Of of.Rules target) = Some (rules_for_text target text)
-answer_for_person text (Of of.Recipes target) = Some (recipes_for_text target text)
+answer_for_person text (Word word.Vars) = Some (vars_text None (document_lines text))
+answer_for_person text (Word word.Rules) = Some (rules_text None (document_lines text))
+answer_for_person text (Word word.Recipes) = Some (recipes_text None (document_lines text))
+answer_for_person text (Word word.Check) = Some (check_text (document_lines text))
+answer_for_person text (Of of.Vars name) = Some (vars_text (Some name) (document_lines text))
+answer_for_person text (Of of.Rules target) = Some (rules_text (Some target) (document_lines text))
+answer_for_person text (Of of.Recipes target) =
+    Some (recipes_text (Some target) (document_lines text))
 answer_for_person text other = None
 
 -- the same in the form in which the makefile was opened

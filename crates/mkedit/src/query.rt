@@ -1,7 +1,7 @@
 //! `mkedit vars`, `mkedit rules`, `mkedit recipes`, `mkedit check` and `mkedit caveats`: what a
 //! makefile has, a line for each thing, for a person or as JSON; and `mkedit get`: the value of a
 //! variable.
-ghost use Rattle.std.specs.Prelude.{◌≡◌, ◌↔◌, ◌<◌, ◌+◌, ◌||◌, ◌⊎◌, ℕ, IsTrue, IfSome, OnOk, Err, None, Some, false, true, length, if◌then◌else◌, is_ok, option_map};
+ghost use Rattle.std.specs.Prelude.{◌≡◌, ◌↔◌, ◌<◌, ◌+◌, ◌||◌, ◌⊎◌, ℕ, List, IsTrue, IfSome, OnOk, Err, None, Some, false, true, length, if◌then◌else◌, is_ok, option_map};
 ghost use Rattle.std.specs.Io.KnownBytes.{Appends};
 ghost use Rattle.mk_lines.specs.Limits.{max_text};
 ghost use Rattle.mk_lines.specs.Device.{AppendsPrefix};
@@ -10,7 +10,7 @@ ghost use Rattle.mk_tree.specs.Documents.{IsFaithful, IsTooDeep};
 ghost use Rattle.mk_edit_language.specs.declared.refusal.Refusal.{Refusal};
 ghost use Rattle.mk_run.specs.Report.{refusal_text};
 ghost use Rattle.mk_run.specs.RunEnds.{PutsOut, PutsOutIf, ReadsOnce};
-ghost use Rattle.mkedit.specs.QueryTexts.{answer_refusal, answer_text, found_text, has_prefix, query_outcome};
+ghost use Rattle.mkedit.specs.QueryTexts.{IsSaid, answer_refusal, answer_text, found_text, has_prefix, query_outcome};
 ghost use Rattle.mkedit.specs.Destinations.{name_of};
 
 use crate::destination::name_of;
@@ -41,8 +41,9 @@ fn put_out<A: Allocator, B: Allocator, W: ByteSink>(
 ) -> Result<(), Fault>
     requires faithful { IsFaithful doc.now }
     requires works { W.failed out.old ≡ false }
-    ensures { PutsOut W.contents W.failed W.flushes W.pending out.old out.new result
-        (found_text found.entry (located_text doc.now)) }
+    ensures { (text : List ℕ)
+        × PutsOut W.contents W.failed W.flushes W.pending out.old out.new result text
+        × IsSaid (found_text found.entry doc.now) text }
 {
     put_found(found, doc, out)?;
     out.flush()

@@ -1,11 +1,11 @@
 //! What a makefile is asked for, and what is found for it.
-ghost use Rattle.std.specs.Prelude.{◌≡◌, false, Err, IfOk, IfSome, None, Some};
+ghost use Rattle.std.specs.Prelude.{◌≡◌, ℕ, List, false, Err, IfOk, IfSome, None, Some};
 ghost use Rattle.mk_lines.specs.Device.{Writes};
 ghost use Rattle.mk_lines.specs.declared.fault.Fault.TheVariants.{NoMemory};
 ghost use Rattle.mk_tree.specs.Documents.{IsFaithful};
 ghost use Rattle.mk_tree.specs.LocatedLines.{located_text};
 ghost use Rattle.mkedit.specs.declared.question.Unanswered.TheVariants as unanswered;
-ghost use Rattle.mkedit.specs.QueryTexts.{answer_refusal, answer_text, found_text, query_text, question_to};
+ghost use Rattle.mkedit.specs.QueryTexts.{IsSaid, answer_refusal, answer_text, found_text, query_text, question_to};
 
 use mk_command_line::{Form, Query};
 use mk_json as json;
@@ -100,7 +100,7 @@ pub fn found_for<'a, A: Allocator, B: Allocator + Copy>(
 ) -> Result<Found<'a, B>, Unanswered>
     requires { IsFaithful doc.now }
     ensures found { IfOk result (λ found. IfSome (answer_text question.entry (located_text doc.now))
-        (λ text. found_text found (located_text doc.now) ≡ text)) }
+        (λ text. found_text found doc.now ≡ Some text)) }
     ensures unrefused { IfOk result (λ found.
         answer_refusal question.entry (located_text doc.now) ≡ None) }
     ensures refused { (refusal : Refusal) → result ≡ Err (Unanswered.Refused refusal)
@@ -153,8 +153,8 @@ pub(crate) fn put_lines<A: Allocator, W: ByteSink>(
 ) -> Result<(), Fault>
     requires faithful { IsFaithful doc.now }
     requires works { W.failed out.old ≡ false }
-    ensures { Writes W.contents W.failed W.flushes out.old out.new result
-        (query_text query.entry (located_text doc.now)) }
+    ensures { (text : List ℕ) × Writes W.contents W.failed W.flushes out.old out.new result text
+        × IsSaid (query_text query.entry doc.now) text }
 {
     match query {
         Query::Vars(None) => vars(doc, out),
@@ -181,8 +181,8 @@ pub fn put_found<A: Allocator, B: Allocator, W: ByteSink>(
 ) -> Result<(), Fault>
     requires faithful { IsFaithful doc.now }
     requires works { W.failed out.old ≡ false }
-    ensures { Writes W.contents W.failed W.flushes out.old out.new result
-        (found_text found.entry (located_text doc.now)) }
+    ensures { (text : List ℕ) × Writes W.contents W.failed W.flushes out.old out.new result text
+        × IsSaid (found_text found.entry doc.now) text }
 {
     match found {
         Found::Lines(query) => put_lines(query, doc, out),

@@ -1,44 +1,18 @@
 //! The query `caveats`: the lines that make may read otherwise.
-ghost use Rattle.std.specs.Prelude.{◌≡◌, false};
+ghost use Rattle.std.specs.Prelude.{◌≡◌, ℕ, List, false};
 ghost use Rattle.mk_lines.specs.Device.{Writes};
 ghost use Rattle.mk_tree.specs.Documents.{IsFaithful};
-ghost use Rattle.mk_tree.specs.LocatedLines.{located_text};
 ghost use Rattle.mk_tree.specs.Printing.{Gathers};
-ghost use Rattle.mk_queries.specs.Caveats.{caveat_text, caveats_text};
 
 use crate::caveat::Caveat;
 use crate::gathering::put_parts;
-use crate::position::line_feeds;
 use crate::walk::line_caveats;
 use mk_lines::Fault;
 use mk_lines::sink::{ByteSink, write_all};
+use mk_listing::numbered;
 use mk_tree::Doc;
 use mk_tree::gathering::Gathered;
 use std::alloc::Allocator;
-
-// Puts what is said of a line of this number behind the texts that are held back, where it has a
-// caveat.
-fn put_caveat<W: ByteSink>(
-    gathered: &mut Gathered,
-    out: &mut W,
-    number: usize,
-    caveat: Option<Caveat>,
-) -> Result<(), Fault>
-    requires { W.failed out.old ≡ false }
-    ensures { Gathers W.contents W.failed W.flushes out.old out.new gathered.old.items
-        gathered.new.items result (caveat_text number caveat) }
-{
-    let Some(caveat) = caveat else {
-        return Ok(());
-    };
-    let mut digits = itoa::Buffer::new();
-    let number = digits.format(number).as_bytes();
-    put_parts(
-        gathered,
-        out,
-        &[number, b": ", caveat.sentence().as_bytes(), b"\n"],
-    )
-}
 
 /// Writes a line of text on each line of the makefile that make may read otherwise than it is read
 /// here, as far as its class, its first word and the lines above show it. Nothing is flushed. Takes
@@ -59,25 +33,43 @@ fn put_caveat<W: ByteSink>(
 /// has what is known, in its chapter "Where make reads otherwise", and of which of it this query
 /// tells. An opaque line is read once more.
 ///
-/// It asks for a faithful document.
+/// It asks for a faithful document. Which lines it names, and what it says of them, its contract does
+/// not say: they are hints.
 ///
 /// # Errors
 ///
-/// [`Fault::Write`] where a write answered it or took nothing. A prefix of the text is out then.
+/// [`Fault::Write`] if a write answered it or took no byte. A prefix of the text is out then.
 pub fn caveats<A: Allocator, W: ByteSink>(doc: &Doc<A>, out: &mut W) -> Result<(), Fault>
     requires faithful { IsFaithful doc.now }
     requires works { W.failed out.old ≡ false }
-    ensures { Writes W.contents W.failed W.flushes out.old out.new result
-        (caveats_text (located_text doc.now)) }
+    ensures { (text : List ℕ)
+        × Writes W.contents W.failed W.flushes out.old out.new result text }
 {
-    let _size = doc.size(); // its contract bounds the text, and so each number here
     let mut gathered = Gathered::new();
-    let mut number = 1;
     let mut caveats = line_caveats(doc);
-    'lines: for line in doc.iter() {
+    'lines: for (position, _) in numbered(doc) {
         let caveat = caveats.next().unwrap_or(None);
-        put_caveat(&mut gathered, out, number, caveat)?;
-        number += line_feeds(line.bytes());
+        put_caveat(&mut gathered, out, position.number, caveat)?;
     }
     write_all(out, &gathered)
+}
+
+// Puts a line on the caveat of a line of this number, if it has one.
+fn put_caveat<W: ByteSink>(
+    gathered: &mut Gathered,
+    out: &mut W,
+    number: usize,
+    caveat: Option<Caveat>,
+) -> Result<(), Fault>
+    requires { W.failed out.old ≡ false }
+    ensures { (text : List ℕ) × Gathers W.contents W.failed W.flushes out.old out.new
+        gathered.old.items gathered.new.items result text }
+{
+    let Some(caveat) = caveat else {
+        return Ok(());
+    };
+    let mut digits = itoa::Buffer::new();
+    let number = digits.format(number).as_bytes();
+    let sentence = caveat.sentence().as_bytes();
+    put_parts(gathered, out, &[number, b": ", sentence, b"\n"])
 }

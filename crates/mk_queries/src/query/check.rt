@@ -1,17 +1,16 @@
 //! The query `check`: the lines that are kept and not read inside, and what is open at the end.
-ghost use Rattle.std.specs.Prelude.{◌≡◌, ◌++◌, decimal, false};
+ghost use Rattle.std.specs.Prelude.{◌≡◌, false};
 ghost use Rattle.mk_lines.specs.Device.{Writes};
 ghost use Rattle.mk_tree.specs.Documents.{IsFaithful};
-ghost use Rattle.mk_tree.specs.LocatedLines.{located_text};
 ghost use Rattle.mk_tree.specs.Printing.{Gathers};
-ghost use Rattle.mk_queries.specs.Queries.{check_text, end_lines, open_count_line};
-ghost use Rattle.mk_queries.specs.QueryWalks.{unread_located};
+ghost use Rattle.mk_queries.specs.Queries.{check_text};
+ghost use Rattle.mk_queries.specs.Texts.{end_text, open_text, unread_text};
 
 use crate::gathering::put_parts;
-use crate::position::line_feeds;
 use mk_class::{Class, Context};
 use mk_lines::Fault;
 use mk_lines::sink::{ByteSink, write_all};
+use mk_listing::numbered;
 use mk_tree::Doc;
 use mk_tree::gathering::Gathered;
 use std::alloc::Allocator;
@@ -38,21 +37,17 @@ use std::alloc::Allocator;
 pub fn check<A: Allocator, W: ByteSink>(doc: &Doc<A>, out: &mut W) -> Result<(), Fault>
     requires faithful { IsFaithful doc.now }
     requires works { W.failed out.old ≡ false }
-    ensures { Writes W.contents W.failed W.flushes out.old out.new result
-        (check_text (located_text doc.now)) }
+    ensures { Writes W.contents W.failed W.flushes out.old out.new result (check_text doc.now) }
 {
-    let _size = doc.size(); // its contract bounds the text, and so each number here
     let mut gathered = Gathered::new();
-    let mut number = 1;
-    'lines: for line in doc.iter() {
-        put_unread(&mut gathered, out, number, &line.class())?;
-        number += line_feeds(line.bytes());
+    'lines: for (position, line) in numbered(doc) {
+        put_unread(&mut gathered, out, position.number, &line.class())?;
     }
     put_end(&mut gathered, out, doc.end_context())?;
     write_all(out, &gathered)
 }
 
-// Puts what is said of a line of this number and class behind the texts that are held back.
+// Puts a line on a line of this number and class, if it is kept and not read inside.
 fn put_unread<W: ByteSink>(
     gathered: &mut Gathered,
     out: &mut W,
@@ -61,43 +56,35 @@ fn put_unread<W: ByteSink>(
 ) -> Result<(), Fault>
     requires { W.failed out.old ≡ false }
     ensures { Gathers W.contents W.failed W.flushes out.old out.new gathered.old.items
-        gathered.new.items result (unread_located number class.now) }
+        gathered.new.items result (unread_text number class.now) }
 {
+    let mut digits = itoa::Buffer::new();
     match class {
-        Class::Rough => put_numbered(gathered, out, number, b": rough\n"),
-        Class::Opaque => put_numbered(gathered, out, number, b": opaque\n"),
+        Class::Rough => put_parts(
+            gathered,
+            out,
+            &[digits.format(number).as_bytes(), b": rough\n"],
+        ),
+        Class::Opaque => put_parts(
+            gathered,
+            out,
+            &[digits.format(number).as_bytes(), b": opaque\n"],
+        ),
         _ => Ok(()),
     }
 }
 
-// Puts a number and what follows it behind the texts that are held back.
-fn put_numbered<W: ByteSink>(
-    gathered: &mut Gathered,
-    out: &mut W,
-    number: usize,
-    text: &[u8],
-) -> Result<(), Fault>
-    requires { W.failed out.old ≡ false }
-    ensures { Gathers W.contents W.failed W.flushes out.old out.new gathered.old.items
-        gathered.new.items result (decimal number ++ text.now) }
-{
-    let mut digits = itoa::Buffer::new();
-    let number = digits.format(number).as_bytes();
-    put_parts(gathered, out, &[number, text])
-}
-
-// Puts what is open in the context after all lines behind the texts that are held back.
+// Puts what is open in the context after all lines.
 fn put_end<W: ByteSink>(gathered: &mut Gathered, out: &mut W, end: Context) -> Result<(), Fault>
     requires { W.failed out.old ≡ false }
     ensures { Gathers W.contents W.failed W.flushes out.old out.new gathered.old.items
-        gathered.new.items result (end_lines end) }
+        gathered.new.items result (end_text end) }
 {
     put_open(gathered, out, b"conditionals", u32::from(end.conds()))?;
     put_open(gathered, out, b"defines", end.defines())
 }
 
-// Puts a line on how many of this kind are open behind the texts that are held back; nothing if
-// none are.
+// Puts a line on how many of this kind are open, if any are.
 fn put_open<W: ByteSink>(
     gathered: &mut Gathered,
     out: &mut W,
@@ -106,7 +93,7 @@ fn put_open<W: ByteSink>(
 ) -> Result<(), Fault>
     requires { W.failed out.old ≡ false }
     ensures { Gathers W.contents W.failed W.flushes out.old out.new gathered.old.items
-        gathered.new.items result (open_count_line kind.now count) }
+        gathered.new.items result (open_text kind.now count) }
 {
     if count == 0 {
         return Ok(());

@@ -1,27 +1,23 @@
 //! The query `vars`: the assignments.
-ghost use Rattle.std.specs.Prelude.{◌≡◌, ◌≤◌, ◌++◌, false, codes, length, option_map};
+ghost use Rattle.std.specs.Prelude.{◌≡◌, ◌++◌, Some, None, false, option_map};
 ghost use Rattle.mk_lines.specs.Device.{Writes};
-ghost use Rattle.mk_tree.specs.Documents.{IsFaithful};
-ghost use Rattle.mk_tree.specs.LocatedLines.{located_text, text_of_line};
+ghost use Rattle.mk_lines.specs.Spacing.{after_space};
+ghost use Rattle.mk_class.specs.OperatorTexts.{operator_text};
 ghost use Rattle.mk_tree.specs.Printing.{Gathers};
 ghost use Rattle.mk_tree.specs.Trees.{line_view};
-ghost use Rattle.mk_queries.specs.LocatedTexts.{IsAssignmentWithin, IsClassedIn, assigned_located, assigned_start, target_assigned_located, variable_located};
-ghost use Rattle.mk_queries.specs.Queries.{vars_named_text, vars_text};
-ghost use Rattle.mk_queries.specs.WantedLines.{named_class, vars_wanted};
-ghost use Rattle.mk_lines.specs.Spacing.{after_space};
+ghost use Rattle.mk_listing.specs.Listings.{is_of};
+ghost use Rattle.mk_queries.specs.Queries.{said_if, variable_line, vars_text};
+ghost use Rattle.mk_queries.specs.Texts.{assigned_text, position_text, target_assigned_text};
 
 use crate::gathering::put_parts;
-use crate::position::{line_feeds, put_position};
-use crate::spacing::put_each_before_space;
-use crate::targets::put_targets;
-use crate::wanted::named_class;
-use mk_class::{Assignment, Class, Context, TargetAssignment};
+use crate::position::put_position;
+use crate::words::{put_targets, put_words};
 use mk_lines::Fault;
 use mk_lines::sink::{ByteSink, write_all};
-use mk_lines::split::Span;
-use mk_tree::gathering::{Gathered, put};
-use mk_tree::part::{part, text_of_line};
+use mk_listing::{Position, is_of, numbered};
+use mk_tree::gathering::Gathered;
 use mk_tree::{Doc, Line};
+use mk_views::{AssignmentRef, LineViews, TargetAssignmentRef};
 use std::alloc::Allocator;
 
 /// Writes a line of text on each assignment of the makefile, in order. Nothing is flushed. Takes no
@@ -38,24 +34,18 @@ use std::alloc::Allocator;
 /// 5:0: Y :=
 /// ```
 ///
-/// It asks for a faithful document.
-///
 /// # Errors
 ///
 /// [`Fault::Write`] if a write answered it or took no byte. A prefix of the text is out then.
 pub fn vars<A: Allocator, W: ByteSink>(doc: &Doc<A>, out: &mut W) -> Result<(), Fault>
-    requires faithful { IsFaithful doc.now }
-    requires works { W.failed out.old ≡ false }
-    ensures { Writes W.contents W.failed W.flushes out.old out.new result
-        (vars_text (located_text doc.now)) }
+    requires { W.failed out.old ≡ false }
+    ensures { Writes W.contents W.failed W.flushes out.old out.new result (vars_text None doc.now) }
 {
-    variables(doc, None, out)
+    write_vars(doc, None, out)
 }
 
 /// Writes those lines of [`vars`] alone that tell of an assignment of this name, for targets or not.
 /// Nothing is flushed. Takes no memory.
-///
-/// It asks for a faithful document.
 ///
 /// # Errors
 ///
@@ -65,123 +55,133 @@ pub fn vars_named<A: Allocator, W: ByteSink>(
     name: &[u8],
     out: &mut W,
 ) -> Result<(), Fault>
-    requires faithful { IsFaithful doc.now }
-    requires works { W.failed out.old ≡ false }
+    requires { W.failed out.old ≡ false }
     ensures { Writes W.contents W.failed W.flushes out.old out.new result
-        (vars_named_text name.now (located_text doc.now)) }
+        (vars_text (Some name.now) doc.now) }
 {
-    variables(doc, Some(name), out)
+    write_vars(doc, Some(name), out)
 }
 
-// Writes the lines on the assignments, of one name where one is asked for.
-fn variables<A: Allocator, W: ByteSink>(
+// Writes the lines on the assignments, of one name if one is asked for.
+fn write_vars<A: Allocator, W: ByteSink>(
     doc: &Doc<A>,
     name: Option<&[u8]>,
     out: &mut W,
 ) -> Result<(), Fault>
-    requires faithful { IsFaithful doc.now }
-    requires works { W.failed out.old ≡ false }
+    requires { W.failed out.old ≡ false }
     ensures { Writes W.contents W.failed W.flushes out.old out.new result
-        (vars_wanted (option_map (λ word. word.now) name.entry) (located_text doc.now)) }
+        (vars_text (option_map (λ word. word.now) name.entry) doc.now) }
 {
-    let _size = doc.size(); // its contract bounds the text, and so each number here
     let mut gathered = Gathered::new();
-    let mut number = 1;
-    'lines: for (context, line) in doc.lines_with_contexts() {
-        put_variable(&mut gathered, out, number, context, name, line)?;
-        number += line_feeds(line.bytes());
+    'lines: for (position, line) in numbered(doc) {
+        put_variable(&mut gathered, out, position, name, line)?;
     }
     write_all(out, &gathered)
 }
 
-// Puts what is said of a line behind the texts that are held back. The line has this number and
-// stands in this context. Where a name is asked for, nothing is said of an assignment of another.
+// Puts what is said of a line, if it is an assignment, of the name if one is asked for.
 fn put_variable<A: Allocator, W: ByteSink>(
     gathered: &mut Gathered,
     out: &mut W,
-    number: usize,
-    context: Context,
+    position: Position,
     name: Option<&[u8]>,
     line: &Line<A>,
 ) -> Result<(), Fault>
-    requires works { W.failed out.old ≡ false }
-    requires classed { IsClassedIn context (line_view line.now) }
+    requires { W.failed out.old ≡ false }
     ensures { Gathers W.contents W.failed W.flushes out.old out.new gathered.old.items
-        gathered.new.items result (variable_located number context.conditionals
-        (text_of_line (line_view line.now)) (named_class (option_map (λ word. word.now) name.entry)
-        (text_of_line (line_view line.now)) (line_view line.now).class)) }
+        gathered.new.items result (variable_line (option_map (λ word. word.now) name.entry)
+        position (line_view line.now)) }
 {
-    let text = text_of_line(line);
-    match named_class(name, context, line) {
-        Class::Assign(assignment, _) => {
-            put_position(gathered, out, number, context.conds())?;
-            put_assigned(gathered, out, text, 0, &assignment)
-        }
-        Class::TargetAssign(assignment) => {
-            put_position(gathered, out, number, context.conds())?;
-            put_target_assigned(gathered, out, text, &assignment)
+    put_assignment(gathered, out, position, name, line.assignment())?;
+    put_target_assignment(gathered, out, position, name, line.target_assignment())
+}
+
+// Puts what is said of an assignment, if there is one, of the name if one is asked for.
+fn put_assignment<W: ByteSink>(
+    gathered: &mut Gathered,
+    out: &mut W,
+    position: Position,
+    name: Option<&[u8]>,
+    assignment: Option<AssignmentRef<'_>>,
+) -> Result<(), Fault>
+    requires { W.failed out.old ≡ false }
+    ensures { Gathers W.contents W.failed W.flushes out.old out.new gathered.old.items
+        gathered.new.items result (said_if (is_of (option_map (λ word. word.now) name.entry))
+        (λ a. position_text position ++ assigned_text a) assignment.entry) }
+{
+    match assignment {
+        Some(assignment) if is_of(&assignment, name) => {
+            put_position(gathered, out, position)?;
+            put_assigned(gathered, out, &assignment)
         }
         _ => Ok(()),
     }
 }
 
-// Puts an assignment for targets, up to the end of its line, behind the texts that are held back.
-fn put_target_assigned<W: ByteSink>(
+// Puts what is said of an assignment for targets, if there is one, of the name if one is asked for.
+fn put_target_assignment<W: ByteSink>(
     gathered: &mut Gathered,
     out: &mut W,
-    text: &[u8],
-    at: &TargetAssignment,
+    position: Position,
+    name: Option<&[u8]>,
+    assignment: Option<TargetAssignmentRef<'_>>,
 ) -> Result<(), Fault>
-    requires works { W.failed out.old ≡ false }
-    requires targets_within { at.now.targets_end ≤ length text.now }
-    requires within { IsAssignmentWithin (length text.now) (assigned_start at.now)
-        at.now.assignment }
+    requires { W.failed out.old ≡ false }
     ensures { Gathers W.contents W.failed W.flushes out.old out.new gathered.old.items
-        gathered.new.items result (target_assigned_located text.now at.now) }
+        gathered.new.items result
+        (said_if (λ a. is_of (option_map (λ word. word.now) name.entry) a.assignment)
+        (λ a. position_text position ++ target_assigned_text a) assignment.entry) }
 {
-    let targets = Span {
-        start: 0,
-        end: at.targets_end,
-    };
-    put_targets(gathered, out, part(text, targets), at.separator)?;
-    put(gathered, out, b" ")?;
-    let start = at.targets_end + at.separator.text().len();
-    put_assigned(gathered, out, text, start, &at.assignment)
+    match assignment {
+        Some(assignment) if is_of(&assignment.assignment(), name) => {
+            put_position(gathered, out, position)?;
+            put_targets(gathered, out, assignment.targets(), assignment.separator())?;
+            put_assigned(gathered, out, &assignment.assignment())
+        }
+        _ => Ok(()),
+    }
 }
 
-// Puts an assignment up to the end of its line behind the texts that are held back. Its modifiers
-// begin at an offset.
+// Puts an assignment, to the end of its line.
 fn put_assigned<W: ByteSink>(
     gathered: &mut Gathered,
     out: &mut W,
-    text: &[u8],
-    start: usize,
-    at: &Assignment,
+    assignment: &AssignmentRef<'_>,
 ) -> Result<(), Fault>
-    requires works { W.failed out.old ≡ false }
-    requires within { IsAssignmentWithin (length text.now) start at.now }
-    ensures { Gathers W.contents W.failed W.flushes out.old out.new gathered.old.items
-        gathered.new.items result (assigned_located text.now start at.now) }
-{
-    let modifiers = Span {
-        start,
-        end: at.name.start,
-    };
-    put_each_before_space(gathered, out, part(text, modifiers))?;
-    put_parts(gathered, out, &[part(text, at.name), b" "])?;
-    put(gathered, out, at.flavor.text().as_bytes())?;
-    put_value(gathered, out, part(text, at.value))
-}
-
-// Puts a value behind the texts that are held back, with a space before it if it is not empty, and
-// then the end of its line.
-fn put_value<W: ByteSink>(gathered: &mut Gathered, out: &mut W, value: &[u8]) -> Result<(), Fault>
     requires { W.failed out.old ≡ false }
     ensures { Gathers W.contents W.failed W.flushes out.old out.new gathered.old.items
-        gathered.new.items result (after_space value.now ++ codes "\n") }
+        gathered.new.items result (assigned_text assignment.now) }
+{
+    put_words(gathered, out, assignment.modifiers())?;
+    let value = assignment.value();
+    put_parts(
+        gathered,
+        out,
+        &[
+            b" ",
+            assignment.name(),
+            b" ",
+            operator(assignment),
+            space_before(value),
+            value,
+            b"\n",
+        ],
+    )
+}
+
+// The operator of an assignment.
+fn operator<'a>(assignment: &AssignmentRef<'a>) -> &'a [u8]
+    ensures { result.now ≡ operator_text assignment.now.flavor }
+{
+    assignment.flavor().text().as_bytes()
+}
+
+// What stands between an operator and a value: a space, or nothing if the value is empty.
+fn space_before(value: &[u8]) -> &[u8]
+    ensures { result.now ++ value.now ≡ after_space value.now }
 {
     match value {
-        [] => put(gathered, out, b"\n"),
-        _ => put_parts(gathered, out, &[b" ", value, b"\n"]),
+        [] => b"",
+        _ => b" ",
     }
 }

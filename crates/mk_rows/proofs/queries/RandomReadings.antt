@@ -1,7 +1,8 @@
 -- Queries and their texts. Made by `tests/definitions/query_rows.py tests/cases/readings/random.tsv`.
-use Rattle.std.proofs.Common.{◌≡◌, refl, ℕ, List, [], ◌∷◌, map}
+use Rattle.std.proofs.Common.{◌≡◌, refl, ℕ, List, [], ◌∷◌, map, None}
 use Rattle.std.specs.Prelude.{codes}
 use Rattle.std.specs.Fmt.{digits}
+use Rattle.mk_tree.specs.Documents.{document_lines}
 use Rattle.mk_queries.specs.Queries.{vars_text, rules_text, check_text}
 
 abbrev rows_1 : List (List ℕ × (List ℕ × List ℕ × List ℕ))
@@ -58,7 +59,7 @@ rows_1 =
     (codes ".RECIPEPREFIX = a\noverride\texport \ta.b =  \n.RECIPEPREFIX::= \r\n\t\\\nendef\nfoo: $(p #) $(p #) \r\n", (codes "1:0: .RECIPEPREFIX = a\n2:0: override export a.b =\n3:0: .RECIPEPREFIX ::=\n", codes "6:0: foo: $(p #) $(p #) [0]\n", codes "4: opaque\n")) ∷  -- random-050
     []
 
-answers_1 : map (λ row. (vars_text row.0, rules_text row.0, check_text row.0)) rows_1 ≡ map (λ row. row.1) rows_1
+answers_1 : map (λ row. let lines = document_lines row.0 in (vars_text None lines, rules_text None lines, check_text lines)) rows_1 ≡ map (λ row. row.1) rows_1
 unfolding digits
 answers_1 = refl
 
@@ -116,7 +117,7 @@ rows_2 =
     (codes "$(s\\) :  ${g(}\n\ty\r\nb:${g(}\\\n\n>x\nA?= $  \t\n", (codes "6:0: A ?= $ \n", codes "1:0: $(s\\): ${g(} [1]\n3:0: b: ${g(} [0]\n", codes "5: opaque\n")) ∷  -- random-100
     []
 
-answers_2 : map (λ row. (vars_text row.0, rules_text row.0, check_text row.0)) rows_2 ≡ map (λ row. row.1) rows_2
+answers_2 : map (λ row. let lines = document_lines row.0 in (vars_text None lines, rules_text None lines, check_text lines)) rows_2 ≡ map (λ row. row.1) rows_2
 unfolding digits
 answers_2 = refl
 
@@ -174,7 +175,7 @@ rows_3 =
     (codes ".RECIPEPREFIX = $$\nfoo: x.o  %.o\n\tZ = 1\n$(p #) : %.c # \\\n$(q:;=|)  &: x.o $x .PHONY#c \\\n d", (codes "1:0: .RECIPEPREFIX = $$\n", codes "2:0: foo: x.o %.o [1]\n4:0: $(p #): %.c [0]\n", [])) ∷  -- random-150
     []
 
-answers_3 : map (λ row. (vars_text row.0, rules_text row.0, check_text row.0)) rows_3 ≡ map (λ row. row.1) rows_3
+answers_3 : map (λ row. let lines = document_lines row.0 in (vars_text None lines, rules_text None lines, check_text lines)) rows_3 ≡ map (λ row. row.1) rows_3
 unfolding digits
 answers_3 = refl
 
@@ -232,7 +233,7 @@ rows_4 =
     (codes "$$ $(q:;=|) &:$$ :  |$(s\\)\\\n\\\n\nCC += ${g(} a&b #\r\nX\t\r{}b\\\\\n\\>}:\\\\\n\nendef x\r\n>ifeq (a,$(b\r\na:c %.o ${g(}\\\r\n|\\ \\\n%.o ", (codes "4:0: CC += ${g(} a&b\n", [], codes "1: rough\n5: opaque\n6: rough\n8: opaque\n9: opaque\n10: opaque\n")) ∷  -- random-200
     []
 
-answers_4 : map (λ row. (vars_text row.0, rules_text row.0, check_text row.0)) rows_4 ≡ map (λ row. row.1) rows_4
+answers_4 : map (λ row. let lines = document_lines row.0 in (vars_text None lines, rules_text None lines, check_text lines)) rows_4 ≡ map (λ row. row.1) rows_4
 unfolding digits
 answers_4 = refl
 
@@ -290,7 +291,7 @@ rows_5 =
     (codes " \n>q\t:= x.o# c\nexport >q=  $x\tc1 \n\t\\\n-include2 \\\n \\\n :: endef+= = ${g(} \n${c} ::: \t$(a b) \n ifdef := $(p #)\\\r\n# ", (codes "2:0: >q := x.o\n3:0: export >q = $x\tc1\n9:0: ifdef := $(p #)\n", [], codes "4: opaque\n8: rough\n")) ∷  -- random-250
     []
 
-answers_5 : map (λ row. (vars_text row.0, rules_text row.0, check_text row.0)) rows_5 ≡ map (λ row. row.1) rows_5
+answers_5 : map (λ row. let lines = document_lines row.0 in (vars_text None lines, rules_text None lines, check_text lines)) rows_5 ≡ map (λ row. row.1) rows_5
 unfolding digits
 answers_5 = refl
 
@@ -348,7 +349,7 @@ rows_6 =
     (codes "\tdefine Q\r\nelse ifdef Q\n>echo a # b\n.RECIPEPREFIX =\\\n>\r\n$x :\\\n\\\n \n.PHONY :::\0c \\\n: a(e$(\nendif # c\r\n", ([], [], codes "end: defines 1\n")) ∷  -- random-300
     []
 
-answers_6 : map (λ row. (vars_text row.0, rules_text row.0, check_text row.0)) rows_6 ≡ map (λ row. row.1) rows_6
+answers_6 : map (λ row. let lines = document_lines row.0 in (vars_text None lines, rules_text None lines, check_text lines)) rows_6 ≡ map (λ row. row.1) rows_6
 unfolding digits
 answers_6 = refl
 
@@ -406,7 +407,7 @@ rows_7 =
     (codes "ifdef\\\nB\n\ta$\n${c}\t-include2:  | $(a b)\\\r\n$(a b) \n #c \\\n d\n", ([], codes "4:1: ${c} -include2: | $(a b) $(a b) [0]\n", codes "3: opaque\nend: conditionals 1\n")) ∷  -- random-350
     []
 
-answers_7 : map (λ row. (vars_text row.0, rules_text row.0, check_text row.0)) rows_7 ≡ map (λ row. row.1) rows_7
+answers_7 : map (λ row. let lines = document_lines row.0 in (vars_text None lines, rules_text None lines, check_text lines)) rows_7 ≡ map (λ row. row.1) rows_7
 unfolding digits
 answers_7 = refl
 
@@ -464,7 +465,7 @@ rows_8 =
     (codes "\t#c\nendif\nfoo: \n\ta\\\r\n>b\n\ty\r\r\na: $$\n\ta \\\n\tb\r\n ${c} : a:${g(}\n$$:\\\n$(p #) \nfoo: -incl;ude2\n\tdefine Q\n#\n\r\na.b!= \\\n \\\n ${g(}\t#\0\r\n  $(f {): ;\r\n", ([], codes "3:0: foo: [2]\n7:0: a: $$ [1]\n10:0: ${c}: a: ${g(} [0]\n11:0: $$: $(p #) [0]\n13:0: foo: -incl [2]\n20:0: $(f {): [1]\n", codes "2: opaque\n17: opaque\n")) ∷  -- random-400
     []
 
-answers_8 : map (λ row. (vars_text row.0, rules_text row.0, check_text row.0)) rows_8 ≡ map (λ row. row.1) rows_8
+answers_8 : map (λ row. let lines = document_lines row.0 in (vars_text None lines, rules_text None lines, check_text lines)) rows_8 ≡ map (λ row. row.1) rows_8
 unfolding digits
 answers_8 = refl
 
@@ -522,7 +523,7 @@ rows_9 =
     (codes "$$: :%.c t |foo\t%.c ; \\\r\n  \n\telse ifdef Q\ninclude x.o:export\t>q::= $$ $#\t# x ; y : z = 1\ndefine != \\\r\n $$\\#\n-include2 $x\\\n\t&: -x_9 \\\n  !=b$x\\\n\t# x ; y : z = 1\nx.o\t$(s\\) :: A \\\r\n ?=\t \nprivate  t1\t?= \\# \\\\", (codes "5:0: define != $$\\#\n11:0: x.o $(s\\):: A ?=\n13:0: private t1 ?= \\# \\\\\n", [], codes "1: rough\n7: rough\n")) ∷  -- random-450
     []
 
-answers_9 : map (λ row. (vars_text row.0, rules_text row.0, check_text row.0)) rows_9 ≡ map (λ row. row.1) rows_9
+answers_9 : map (λ row. let lines = document_lines row.0 in (vars_text None lines, rules_text None lines, check_text lines)) rows_9 ≡ map (λ row. row.1) rows_9
 unfolding digits
 answers_9 = refl
 
@@ -580,6 +581,6 @@ rows_10 =
     ([], ([], [], [])) ∷  -- random-500
     []
 
-answers_10 : map (λ row. (vars_text row.0, rules_text row.0, check_text row.0)) rows_10 ≡ map (λ row. row.1) rows_10
+answers_10 : map (λ row. let lines = document_lines row.0 in (vars_text None lines, rules_text None lines, check_text lines)) rows_10 ≡ map (λ row. row.1) rows_10
 unfolding digits
 answers_10 = refl

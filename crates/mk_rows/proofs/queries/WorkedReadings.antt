@@ -1,7 +1,8 @@
 -- Queries and their texts. Made by `tests/definitions/query_rows.py tests/cases/readings/worked.tsv`.
-use Rattle.std.proofs.Common.{◌≡◌, refl, ℕ, List, [], ◌∷◌, map}
+use Rattle.std.proofs.Common.{◌≡◌, refl, ℕ, List, [], ◌∷◌, map, None}
 use Rattle.std.specs.Prelude.{codes}
 use Rattle.std.specs.Fmt.{digits}
+use Rattle.mk_tree.specs.Documents.{document_lines}
 use Rattle.mk_queries.specs.Queries.{vars_text, rules_text, check_text}
 
 abbrev rows_1 : List (List ℕ × (List ℕ × List ℕ × List ℕ))
@@ -47,6 +48,6 @@ rows_1 =
     (codes "\t.RECIPEPREFIX = >\na:\n>b\n", (codes "1:0: .RECIPEPREFIX = >\n", codes "2:0: a: [1]\n", [])) ∷  -- a-tab-led-line-sets-the-prefix
     []
 
-answers_1 : map (λ row. (vars_text row.0, rules_text row.0, check_text row.0)) rows_1 ≡ map (λ row. row.1) rows_1
+answers_1 : map (λ row. let lines = document_lines row.0 in (vars_text None lines, rules_text None lines, check_text lines)) rows_1 ≡ map (λ row. row.1) rows_1
 unfolding digits
 answers_1 = refl

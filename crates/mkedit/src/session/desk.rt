@@ -1,10 +1,11 @@
 //! A makefile that is open, and what it answers to requests.
-ghost use Rattle.std.specs.Prelude.{◌≡◌, IfOk, IsSomeAnd, OnErr, OnOk, is_ok};
+ghost use Rattle.std.specs.Prelude.{◌≡◌, IfOk, IsSomeAnd, OnErr, OnOk, is_ok, option_and_then};
 ghost use Rattle.mk_prompt.specs.AnswerLines.{lines_between};
 ghost use Rattle.mk_prompt.specs.Replies.{IsLineObeyed};
 ghost use Rattle.mk_prompt.specs.Requests.{Of, Word, asked_of};
 ghost use Rattle.mk_prompt.specs.declared.request.RequestOf.TheVariants as of;
 ghost use Rattle.mk_session.specs.Sessions.{seen_opened};
+ghost use Rattle.mk_tree.specs.Documents.{document_lines};
 ghost use Rattle.mkedit.specs.QueryTexts.{query_text};
 ghost use Rattle.mkedit.specs.SessionForms.{in_form};
 ghost use Rattle.mkedit.specs.SessionReplies.{HasAnswer, IsRequestDone, IsReverted, after_request, answer_in, answer_text, is_quit};
@@ -187,7 +188,8 @@ impl<'a> Desk<'a> {
 
     // The answer to a query, for a person.
     fn query_text(&self, query: Query<'_>) -> Result<Vec<u8>, NotDone>
-        ensures { IfOk result (λ text. text.items ≡ query_text query.entry self.now.session.shown.text) }
+        ensures { HasAnswer (query_text query.entry (document_lines self.now.session.shown.text))
+            (answer_text result) }
     {
         let mut sink = TextSink::new(self.rt.alloc());
         match put_lines(query, self.session.doc(), &mut sink) {
@@ -198,8 +200,9 @@ impl<'a> Desk<'a> {
 
     // The answer to a query, in the form that is asked for.
     fn query(&self, query: Query<'_>) -> Result<Vec<u8>, NotDone>
-        ensures { HasAnswer (in_form self.now.opened.form
-            (query_text query.entry self.now.session.shown.text)) (answer_text result) }
+        ensures { HasAnswer (option_and_then (in_form self.now.opened.form)
+            (query_text query.entry (document_lines self.now.session.shown.text)))
+            (answer_text result) }
     {
         let alloc = self.rt.alloc();
         match self.opened.form {

@@ -1,18 +1,10 @@
--- What is said of the lines that were passed was put, and what is said of those ahead is to come. The numbers of lines
--- stay within the bytes of the text.
-use Rattle.std.proofs.Common.{◌≡◌, ◌+◌, ◌≤◌, ◌++◌, List, ℕ}
-use Rattle.std.specs.Prelude.{Ok}
-use Rattle.mk_lines.specs.Limits.{max_text}
-use Rattle.mk_tree.specs.LocatedLines.{size_of}
-use Rattle.mk_tree.specs.Printing.{Gathers}
-use Rattle.mk_queries.proofs.WalksAhead.{unread_ahead}
+-- The lines on what was passed were put, and those on what is ahead are to come.
+use Rattle.std.specs.List.{flat_map}
+use Rattle.mk_listing.specs.Listings.{standing, whole}
+use Rattle.mk_queries.specs.Texts.{unread_text}
+use Rattle.mk_queries.proofs.PutLemmas.{PutSoFar}
 use Rattle.mk_queries.proofs.query.check.check.Given as goal
 
 abbrev pub invariant-lines : goal.invariant-lines
 invariant-lines g l =
-    (goal.iterator-lines g).can_next l.line-iterator × (goal.iterator-lines g).is_finite l.line-iterator
-    × (l.number + size_of l.line-iterator ≤ max_text + 1)
-    × (
-    (front : List ℕ) × (front ++ unread_ahead l.number l.line-iterator ≡ unread_ahead 1 l.doc)
-    × Gathers g.W.ByteSink.contents g.W.ByteSink.failed g.W.ByteSink.flushes l.initial.out l.out l.initial.gathered.items l.gathered.items (Ok (tt {0})) front
-    )
+    PutSoFar g.W.ByteSink.contents g.W.ByteSink.failed g.W.ByteSink.flushes l.initial.out l.out l.initial.gathered.items l.gathered.items (flat_map (λ s. unread_text s.position.number s.line.class) (standing l.position-iterator)) (flat_map (λ s. unread_text s.position.number s.line.class) (standing (whole l.doc)))

@@ -1,40 +1,24 @@
-use Rattle.std.proofs.Common.{◌∙◌, refl, sym, subst, length}
-use Rattle.mk_tree.specs.Trees.{line_view}
-use Rattle.mk_tree.specs.LocatedLines.{text_of_line}
-use Rattle.mk_tree.specs.Printing.{Gathers}
-use Rattle.mk_tree.proofs.Prefixes.{gathers-nothing, gathers-then, gathers-front, gathers-fails, gathers-answers}
-use Rattle.mk_queries.specs.LocatedTexts.{IsHeaderWithin}
-use Rattle.mk_queries.proofs.on_parts.HeaderPartLemmas.{header-within, header-said, rule-none, wanted-header}
-use Rattle.mk_queries.proofs.WalksAhead.{asked}
-use Rattle.mk_queries.specs.WantedLines.{target_class}
+use Rattle.std.proofs.Common.{rules}
+use Rattle.mk_tree.proofs.Prefixes.{gathers-fails, gathers-front, gathers-then}
+use Rattle.mk_queries.proofs.PutLemmas.{gathers-as}
 use Rattle.mk_queries.proofs.query.rules.put_rule.Goals as goal
 
-pub put_header-requires-clause-within : goal.put_header-requires-clause-within
-put_header-requires-clause-within g c =
-    let l = line_view c.args.line.now in
-    subst (λ t. IsHeaderWithin (length t) c.in-Header.header) (sym c.text_of_line.ensures) (header-within c.args.context l _ c.requires.classed (wanted-header (asked c.args.target) (text_of_line l) l.class _ (sym c.target_class.ensures ∙ c.in-Header.is)))
+pub returns-in_err-put_position : goal.returns-in_err-put_position
+returns-in_err-put_position g c = gathers-fails c.from_residual.ensures.1 (gathers-front _ c.in_err-put_position.ensures)
 
-pub returns-in_err-put_count-in-Header-clause-writes : goal.returns-in_err-put_count-in-Header-clause-writes
-returns-in_err-put_count-in-Header-clause-writes g c =
-    subst (Gathers _ _ _ _ _ _ _ _) (sym (header-said c.args.number _ _ c.args.counted _ _ _ _ c.in-Header.header refl refl c.target_class.ensures c.in-Header.is))
-    (gathers-fails c.from_residual.ensures.1 (gathers-front _ c.in_err-put_count-in-Header.ensures))
+pub returns-in_err-put_targets : goal.returns-in_err-put_targets
+returns-in_err-put_targets g c = gathers-fails c.from_residual-in_err-put_targets.ensures.1 (gathers-then c.in_ok-put_position.ensures (gathers-front _ (rw (c.targets.ensures, c.separator.ensures) at c.in_err-put_targets.ensures)))
 
-pub returns-in_err-put_position-in-Header-clause-writes : goal.returns-in_err-put_position-in-Header-clause-writes
-returns-in_err-put_position-in-Header-clause-writes g c =
-    subst (Gathers _ _ _ _ _ _ _ _) (sym (header-said c.args.number _ _ c.args.counted _ _ _ _ c.in-Header.header c.conds.ensures.number refl c.target_class.ensures c.in-Header.is))
-    (gathers-fails c.from_residual-in_err-put_position-in-Header.ensures.1 (gathers-then c.in_ok-put_count-in-Header.ensures (gathers-front _ c.in_err-put_position-in-Header.ensures)))
+pub returns-in_err-put_pattern : goal.returns-in_err-put_pattern
+returns-in_err-put_pattern g c = gathers-fails c.from_residual-in_err-put_pattern.ensures.1 (gathers-then c.in_ok-put_position.ensures (gathers-then (rw (c.targets.ensures, c.separator.ensures) at c.in_ok-put_targets.ensures) (gathers-front _ (rw c.pattern.ensures at c.in_err-put_pattern.ensures))))
 
-pub returns-in_err-put_header-in-Header-clause-writes : goal.returns-in_err-put_header-in-Header-clause-writes
-returns-in_err-put_header-in-Header-clause-writes g c =
-    subst (Gathers _ _ _ _ _ _ _ _) (sym (header-said c.args.number _ _ c.args.counted _ _ _ _ c.in-Header.header c.conds.ensures.number c.text_of_line.ensures c.target_class.ensures c.in-Header.is))
-    (gathers-fails c.from_residual-in_err-put_header-in-Header.ensures.1 (gathers-then c.in_ok-put_count-in-Header.ensures (gathers-then c.in_ok-put_position-in-Header.ensures c.in_err-put_header-in-Header.ensures)))
+pub returns-in_err-put_words : goal.returns-in_err-put_words
+returns-in_err-put_words g c = gathers-fails c.from_residual-in_err-put_words.ensures.1 (gathers-then c.in_ok-put_position.ensures (gathers-then (rw (c.targets.ensures, c.separator.ensures) at c.in_ok-put_targets.ensures) (gathers-then (rw c.pattern.ensures at c.in_ok-put_pattern.ensures) (gathers-front _ (rw c.prereqs.ensures at c.in_err-put_words.ensures)))))
 
-pub returns-in_ok-put_header-in-Header-clause-writes : goal.returns-in_ok-put_header-in-Header-clause-writes
-returns-in_ok-put_header-in-Header-clause-writes g c =
-    subst (Gathers _ _ _ _ _ _ _ _) (sym (header-said c.args.number _ _ c.args.counted _ _ _ _ c.in-Header.header c.conds.ensures.number c.text_of_line.ensures c.target_class.ensures c.in-Header.is))
-    (gathers-answers (gathers-then c.in_ok-put_count-in-Header.ensures (gathers-then c.in_ok-put_position-in-Header.ensures c.in_ok-put_header-in-Header.ensures)))
+pub returns-in_err-put_order_only : goal.returns-in_err-put_order_only
+returns-in_err-put_order_only g c = gathers-fails c.from_residual-in_err-put_order_only.ensures.1 (gathers-then c.in_ok-put_position.ensures (gathers-then (rw (c.targets.ensures, c.separator.ensures) at c.in_ok-put_targets.ensures) (gathers-then (rw c.pattern.ensures at c.in_ok-put_pattern.ensures) (gathers-then (rw c.prereqs.ensures at c.in_ok-put_words.ensures) (gathers-front _ (rw c.order_only.ensures at c.in_err-put_order_only.ensures))))))
 
-pub returns-in-Blank-clause-writes : goal.returns-in-Blank-clause-writes
-returns-in-Blank-clause-writes g c =
-    let l = line_view c.args.line.now in
-    gathers-nothing c.requires.works refl (rule-none c.args.number c.args.context.conditionals c.args.counted (text_of_line l) (target_class (asked c.args.target) (text_of_line l) l.class) c.target_class.result c.target_class.ensures c.in-Blank.is)
+pub returns : goal.returns
+returns g c =
+    gathers-as (search rules)
+    (gathers-then c.in_ok-put_position.ensures (gathers-then c.in_ok-put_targets.ensures (gathers-then c.in_ok-put_pattern.ensures (gathers-then c.in_ok-put_words.ensures (gathers-then c.in_ok-put_order_only.ensures c.put_count.ensures)))))
