@@ -4,7 +4,6 @@ pub mod PutLemmas
 pub mod VariableLemmas
 -- Readable lines
 pub mod ReadableLemmas
-
 -- Definitions computed
 mod WorkedRows
 mod ChosenRows

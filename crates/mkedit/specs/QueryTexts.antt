@@ -21,7 +21,7 @@ use Rattle.mkedit.specs.declared.question.Found.TheVariants as found
 use Rattle.mk_command_line.specs.declared.request.Query.TheVariants.{Vars, Rules, Recipes, Check, Caveats}
 
 -- the name or the target that is asked for, if one is
-abbrev pub word_asked : Option (Bor (List ℕ)) → Option (List ℕ)
+abbrev word_asked : Option (Bor (List ℕ)) → Option (List ℕ)
 word_asked word = option_map (λ word. word.now) word
 
 -- what a query prints of the lines of a makefile for a person; of `caveats` no definition says it
