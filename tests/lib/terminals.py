@@ -25,3 +25,16 @@ def terminal(lines=True):
         os.close(program)
         with contextlib.suppress(OSError):
             os.close(user)
+
+
+def all_shown(user, program):
+    """All that a terminal was shown: closes the program's side, and reads the user's to its end."""
+    null = os.open(os.devnull, os.O_RDWR)
+    os.dup2(null, program)
+    os.close(null)
+    found = b""
+    # (the end of a terminal is an error)
+    with contextlib.suppress(OSError):
+        while part := os.read(user, 10_000):
+            found += part
+    return found

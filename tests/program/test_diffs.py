@@ -10,7 +10,7 @@ from tests.lib.diffs import wrong_ways
 from tests.lib.rooms import EDITED, NO_COMMAND, READ_FAULT, REFUSED, TEXT, TOO_DEEP, TOO_LONG, WRITE_FAULT
 from tests.lib.rooms import RoomCase, cannot_open, silent
 from tests.lib.tables import case_of, rows
-from tests.lib.terminals import terminal
+from tests.lib.terminals import all_shown, terminal
 from tests.program.test_makefiles import EXAMPLES, applied, hunks
 
 # How many of the random runs are tried here; `make soak` tries a diff of each of its cases.
@@ -62,7 +62,7 @@ class Diffs(RoomCase):
         with terminal(lines=False) as (user, program):
             words = ("edit", "--diff", *words, "script", "Makefile")
             self.assert_run(silent(0), *words, stdout=program, env=env)
-            return os.read(user, 1_000)
+            return all_shown(user, program)
 
     def test_a_diff_has_colours_where_it_is_asked_to(self):
         for word, shown in (("always", PAINTED), ("never", DIFF), ("auto", DIFF)):

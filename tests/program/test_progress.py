@@ -6,7 +6,7 @@ import time
 
 from tests.lib.checks import Outcome
 from tests.lib.rooms import TEXT, RoomCase, silent
-from tests.lib.terminals import terminal
+from tests.lib.terminals import all_shown, terminal
 
 # How long a makefile lets the program wait, in seconds.
 WAIT = 1.3
@@ -35,12 +35,7 @@ class Progress(RoomCase):
     def shown(self, *words, **how):
         """How such a run ends whose standard error is a terminal, and what the terminal is shown."""
         with terminal(lines=False) as (user, program):
-            got = self.run_slowly(*words, stderr=program, **how)
-            os.set_blocking(user, False)
-            try:
-                return got, os.read(user, 10_000)
-            except BlockingIOError:
-                return got, b""
+            return self.run_slowly(*words, stderr=program, **how), all_shown(user, program)
 
     def test_the_line_says_how_many_files_are_done_and_is_wiped_at_the_end(self):
         answer = b"".join(it + b":" + LINE for it in (b"Makefile", b"slow", b"copy"))
@@ -78,12 +73,11 @@ class Progress(RoomCase):
         answer = b"".join(it + b":" + LINE for it in (b"slow", b"copy"))
         with terminal(lines=False) as (user, program):
             got = self.run_slowly("vars", "slow", "copy", stdout=program, stderr=program)
-            self.assertEqual((got.status, os.read(user, 10_000)), (0, answer))
+            self.assertEqual((got.status, all_shown(user, program)), (0, answer))
 
     def test_one_file_and_a_short_run_have_none(self):
         got, shown = self.shown("vars", "slow")
         self.assertEqual((got, shown), (Outcome(LINE, b"", 0), b""))
         with terminal(lines=False) as (user, program):
             self.assert_run(silent(0), "edit", "-i", "-e", "set CC gcc", "Makefile", "copy", stderr=program)
-            os.set_blocking(user, False)
-            self.assertRaises(BlockingIOError, os.read, user, 100)
+            self.assertEqual(all_shown(user, program), b"")

@@ -6,7 +6,7 @@ import subprocess
 from tests.lib.checks import Outcome
 from tests.lib.diffs import wrong_trees
 from tests.lib.rooms import NO_COMMAND, TEXT, RoomCase, cannot_open, silent
-from tests.lib.terminals import terminal
+from tests.lib.terminals import all_shown, terminal
 
 CLANG = b"CC = clang # c\n"
 OTHER = b"# c++\nCXX = g++\n"
@@ -123,7 +123,7 @@ class SeveralDiffs(RoomCase):
         with terminal(lines=False) as (user, program):
             words = ("edit", "--diff", "script", "Makefile", "copy")
             self.assert_run(silent(0), *words, stdout=program, env=env)
-            self.assertEqual(os.read(user, 10_000), painted)
+            self.assertEqual(all_shown(user, program), painted)
 
     def test_each_file_is_told_where_the_disk_is_full(self):
         told = b"Makefile:mkedit: write fault\ncopy:mkedit: write fault\n"

@@ -1,11 +1,10 @@
 """Tests of terminals, whose input can go on after an end, and which can hang up."""
 
-import contextlib
 import os
 
 from tests.lib.checks import Outcome
 from tests.lib.rooms import ANSWERS, EDITED, QUERIED, TEXT, WRITE_FAULT, RoomCase, silent
-from tests.lib.terminals import END, terminal
+from tests.lib.terminals import END, all_shown, terminal
 
 
 class Terminals(RoomCase):
@@ -37,13 +36,9 @@ class Terminals(RoomCase):
             self.assert_run(EDITED, "edit", "/dev/stdin", stdin=program)
 
     def test_a_terminal_shows_the_text(self):
-        shown = b""
         with terminal(lines=False) as (user, program):
             self.assert_run(silent(0), "edit", "script", "Makefile", stdout=program)
-            os.set_blocking(user, False)
-            with contextlib.suppress(BlockingIOError):
-                shown = os.read(user, 1_000)
-        self.assertEqual(shown, EDITED.stdout)
+            self.assertEqual(all_shown(user, program), EDITED.stdout)
 
     def test_a_terminal_is_told_notes_without_being_asked(self):
         for words in (["edit", "-e", "set CX clang", "Makefile"], ["edit", "bad", "Makefile"], ["vars", "absent"]):
@@ -52,7 +47,7 @@ class Terminals(RoomCase):
             with terminal(lines=False) as (user, program):
                 got = self.room.run(*words, stderr=program)
                 self.assertEqual(got, wanted._replace(stderr=b""))
-                self.assertEqual(os.read(user, 10_000), wanted.stderr)
+                self.assertEqual(all_shown(user, program), wanted.stderr)
 
     def test_a_terminal_that_hung_up_is_a_write_fault(self):
         with terminal() as (user, program):
