@@ -20,11 +20,15 @@ from tests.lib.checks import Tally, command
 HERE = Path(__file__).resolve().parent
 # The tests that take longest are begun first.
 LONG = ("test_judge", "test_tables", "test_queries", "test_random_work")
-# Those that take minutes over a program that checks itself, or that bound its memory: modules, and a test.
+# Those that take long over a program that checks itself, or that bound its memory: modules and tests.
 UNPROVED_SKIPPED = (
     *LONG,
     "test_address_space",
+    "test_changing_files.ChangingFiles.test_a_file_that_grows_is_read_to_an_end_that_it_had",
+    "test_fuzzed",
+    "test_get.Get.test_get_takes_the_line_that_set_takes_in_each_makefile",
     "test_hostile_shapes",
+    "test_json.Json.test_each_makefile_of_the_tables_is_told_as_it_is_read",
     "test_json.Json.test_without_memory_for_the_lines_none_of_them_is_printed",
     "test_large_edits",
     "test_limits",
@@ -81,7 +85,7 @@ def names(is_quick=False):
     if loader.errors:
         sys.exit("\n".join(loader.errors))
     for skipped in UNPROVED_SKIPPED if is_quick else ():
-        print(f"skipped tests.program.{skipped}: a program that checks itself takes minutes, or more memory", flush=True)
+        print(f"skipped tests.program.{skipped}: a program that checks itself takes long, or more memory", flush=True)
         found = [it for it in found if not f"{it}.".startswith(f"tests.program.{skipped}.")]
     return sorted(found, key=lambda it: it.split(".")[2] not in LONG)
 
@@ -100,7 +104,7 @@ def main():
     parser = command("tests.program", "Tests the built program mkedit.")
     processors = len(os.sched_getaffinity(0))
     parser.add_argument("--processes", type=int, default=processors, help="how many processes")
-    parser.add_argument("--quick", action="store_true", help="leave out what takes minutes, or more memory, with a program that checks itself")
+    parser.add_argument("--quick", action="store_true", help="leave out what takes long, or more memory, with a program that checks itself")
     given = parser.parse_args()
     os.environ["MKEDIT"] = str(given.program.path)
     total = Tally()
