@@ -4,13 +4,12 @@
 Puts the tables of edits, with the answers that they expect, into the form that the program reads. It
 runs each row through the library, and prints which rows it answers in another way.
 
-    plan_rows.py            the rows, which the crate keeps as its file stdin
-    plan_rows.py --answer   what the program prints where no row differs, its file stdout
+    plan_rows.py    the rows, which the crate keeps as its file stdin
 
-The tables are those of tests/cases/edits, tests/cases/runs.tsv and tests/cases/random-runs.tsv; a name
-given last, as `corners`, takes that table alone. The rows whose
-script or command line has a fault, so that no command runs, are left out (status 2), and the queries,
-which are no edits.
+The tables are those of tests/cases/edits, tests/cases/runs.tsv and tests/cases/random-runs.tsv, and `long`,
+which is written here; a name given last, as `corners`, takes that table alone. The rows whose script or
+command line has a fault, so that no command runs, are left out (status 2), and the queries, which are no
+edits.
 
 A line of two columns, `table` and a name, begins a table. Each line below it is a row of the columns
 
@@ -24,13 +23,11 @@ A line of two columns, `table` and a name, begins a table. Each line below it is
     size        of an accepted edit, how many lines it takes out or puts others in place of at most, or `-`
 
 and then two columns for each command, up to the refusal that ended the run: its reply, which is `done` or
-the number, the name and the detail of a refusal between blanks, and its fields between blanks. The first
-field is the command's word, the second the number given by `nth`, or `-` where none is given; the
-commands `rename`, `undo`, `redo`, `begin`, `end` and `cancel`, and those that begin with `all`, have no such field.
+the number, the name and the detail of a refusal between blanks, and its line in the script.
 
 Columns stand between tabs. In a text \\\\, \\t, \\n and \\r stand for a backslash, a tab, a line end and a
-return, and \\xHH for the byte HH: of bytes that are not printable ASCII, of blanks in a field, and of a
-text that is one `-`.
+return, and \\xHH for the byte HH: of bytes that are not printable ASCII, and of a text that is one `-`.
+A number after × says how often the text after it stands there, up to the next ×.
 """
 
 import re
@@ -38,7 +35,7 @@ import sys
 from pathlib import Path
 
 from row_tables import bytes_of, rows_of_table, unescape
-from script_rows import command_lines_of, fields_of
+from script_rows import command_lines_of
 
 CASES = Path(__file__).resolve().parent.parent / "cases"
 TABLES = {
@@ -50,13 +47,17 @@ TABLES = {
     "runs": CASES / "runs.tsv",
     "random-runs": CASES / "random-runs.tsv",
 }
+# A run over a makefile that is long enough for an index of its lines.
+LONG = [
+    ("row", "edits-by-an-index", "100", r"A=1\n×1100 B=1\n×1 C=1\nt: b\n", r"A=2\n×1100 B=1\n×1 C=3\nt: b\nD := 5\n", "-", "-")
+    + ("done", "set A 2", "done", "set C 3", "done", "assign bottom D := 4", "done", "set D 5")
+]
 # How many edits the program lets undo where the row does not say it.
 DEPTH = 100
 # The status of a run that a fault of the script or the command line ended before any command.
 BAD_RUN = "2"
 ESCAPES = {9: "\\t", 10: "\\n", 13: "\\r", 92: "\\\\"}
 REPORT = re.compile(r"(\d+): refused (.*)")
-WITHOUT_NUMBER = (b"all", b"rename", b"undo", b"redo", b"begin", b"end", b"cancel")
 
 
 def escaped(byte):
@@ -70,30 +71,12 @@ def escape(text):
     return "\\x2d" if text == b"-" else "".join(map(escaped, text))
 
 
-def escape_field(text):
-    """A text as a field has it."""
-    return escape(text).replace(" ", "\\x20")
-
-
-def command_column(fields):
-    """The column of a command's fields, the number of `nth` after its word."""
-    nth = "-"
-    if fields[0] == b"nth":
-        nth = str(int(fields[1]))
-        fields = fields[2:]
-    word, *rest = fields
-    if word in (b"recipe-set", b"recipe-del", b"recipe-insert"):
-        rest[1] = b"%d" % int(rest[1])
-    numbers = [] if word in WITHOUT_NUMBER else [nth]
-    return " ".join([word.decode(), *numbers, *map(escape_field, rest)])
-
-
 def command_columns(row, goes_on):
     """The replies and the commands of a row, up to the refusal that ended the run."""
     refused = {int(number): reply for number, reply in REPORT.findall(unescape(row["stderr"]))}
     columns = []
     for number, line in command_lines_of(bytes_of(row, "script")):
-        columns += [refused.pop(number, "done"), command_column(fields_of(line))]
+        columns += [refused.pop(number, "done"), escape(line)]
         if columns[-2] != "done" and not goes_on:
             break
     if refused:
@@ -121,23 +104,17 @@ def rows_of(table):
 def print_rows(name):
     """Prints the rows of a table."""
     print("table", name, sep="\t")
-    for row in rows_of(TABLES[name]):
-        print(*row_columns(row), sep="\t")
-
-
-def print_answer(name):
-    """Prints what the program says of a table none of whose rows differs."""
-    print(f"{name}: {len(rows_of(TABLES[name]))} rows, 0 differ")
+    for columns in LONG if name == "long" else map(row_columns, rows_of(TABLES[name])):
+        print(*columns, sep="\t")
 
 
 def main():
-    words = sys.argv[1:]
-    show = print_answer if words[:1] == ["--answer"] else print_rows
-    names = words[words[:1] == ["--answer"] :] or list(TABLES)
-    if not set(names) <= set(TABLES):
-        sys.exit(f"usage: plan_rows.py [--answer] [{'|'.join(TABLES)}]..")
+    known = [*TABLES, "long"]
+    names = sys.argv[1:] or known
+    if not set(names) <= set(known):
+        sys.exit(f"usage: plan_rows.py [{'|'.join(known)}]..")
     for name in names:
-        show(name)
+        print_rows(name)
 
 
 if __name__ == "__main__":

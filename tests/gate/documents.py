@@ -97,8 +97,8 @@ def problems(top=TOP):
     ours = Repository(top)
     for path in [top / "README.md", *sorted((top / "docs").glob("*.md"))]:
         name, text = path.relative_to(top).as_posix(), path.read_text(encoding="utf-8")
-        found = [*ours.path_problems(text), *ours.definition_problems(text)]
-        found += ours.command_problems(text, path.name in OF_DEVELOPERS)
+        of_developers = path.name in OF_DEVELOPERS
+        found = [*ours.path_problems(text), *ours.definition_problems(text), *ours.command_problems(text, of_developers)]
         found += ours.edit_problems(text) if path.name == "PROOFS.md" else ()
         found += ours.crate_problems(text) if path.name == "ARCHITECTURE.md" else ()
         yield from (f"{name}: {it}" for it in found)

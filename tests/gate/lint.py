@@ -27,10 +27,6 @@ USING = re.compile(r"\busing\(([^)]*)\)")
 # What a statement has whose proofs are not compared, and how many words may stand twice.
 CLAIMS = ("≡", "≢", "≤", "<", "⊥")
 SHORT = 20
-# What nothing is built on any more, until the next change of these crates: it has nine others proved again.
-LEFT = {
-    ("Rattle.mk_patch.proofs.on_moves.MoveLemmas", it) for it in ("last_line-at", "size_of-with_last", "swap_end-fits", "ends")
-} | {("Rattle.mk_history.specs.Claims", "history_reply"), ("Rattle.mk_lines.specs.Spacing", "each_before_space")}
 
 
 def text_problems(top=TOP):
@@ -120,7 +116,7 @@ class Citations:
                 reached.add(pair)
                 waiting.extend(self.cites[pair])
         for file, it, place in self.searched():
-            if (file.module, it.own[0]) not in reached | LEFT:
+            if (file.module, it.own[0]) not in reached:
                 yield place
 
     def shown_by(self, file):
@@ -143,8 +139,7 @@ class Citations:
         for file, it, place in self.searched():
             users = set().union(*(self.users[file.module, name] for name in it.own)) - {file.module}
             is_met = it.own[0] in shown[file.module] and it.kind != "abbrev"
-            is_left = (file.module, it.own[0]) in LEFT
-            if it.is_pub and not users and not is_met and not is_left and not is_answer(file, it):
+            if it.is_pub and not users and not is_met and not is_answer(file, it):
                 yield place
 
 

@@ -11,10 +11,6 @@ class Listed(NamedTuple):
     folder: Path
     uses: Tuple[str, ...]
 
-    @property
-    def is_program(self):
-        return (self.folder / "src/main.rt").is_file()
-
 
 def listed(top):
     """The crates of a repository by their names, in the order of crates.txt."""
@@ -28,10 +24,7 @@ def listed(top):
 
 def with_below(crates, names):
     """Some crates and all that they are built on, in the order of crates.txt."""
-    found, left = set(), [*names]
-    while left:
-        name = left.pop()
-        if name not in found:
-            found.add(name)
-            left += crates[name].uses
+    found = {*names}
+    for name in reversed(crates):
+        found.update(crates[name].uses if name in found else ())
     return [it for it in crates if it in found]

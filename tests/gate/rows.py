@@ -2,7 +2,8 @@
 
 The tables of tests/cases and the scripts of tests/definitions make files that the crates store: the
 equations that the prover computes, and the rows that the program of crates/edit_rows runs. This list
-says which script makes which file of which table.
+says which script makes which file of which table. It also has what the programs of rows print if no row
+differs.
 
     python3 -m tests.gate.rows            makes each, compares it with the file that is stored, and says
                                           which differ; the last line is 'N passed, M failed', and the
@@ -53,7 +54,9 @@ STORED = (
     Stored("mk_rows", "proofs/queries/WorkedReadings.antt", "query_rows.py tests/cases/readings/worked.tsv"),
     Stored("mk_rows", "proofs/queries/RandomReadings.antt", "query_rows.py tests/cases/readings/random.tsv"),
     Stored("edit_rows", "stdin", "plan_rows.py"),
-    Stored("edit_rows", "stdout", "plan_rows.py --answer"),
+    Stored("edit_rows", "stdout", "answer_rows.py edit_rows"),
+    Stored("document_rows", "stdout", "answer_rows.py document_rows"),
+    Stored("run_rows", "stdout", "answer_rows.py run_rows"),
 )
 
 
@@ -82,13 +85,11 @@ def problem_of(stored, write):
 
 
 def main():
-    failed, write = 0, sys.argv[1:] == ["--write"]
-    for stored in STORED:
-        problem = problem_of(stored, write)
-        if problem:
-            failed += 1
-            print(f"FAILED crates/{stored.crate}/{stored.name}: {problem}")
-    print(f"{len(STORED) - failed} passed, {failed} failed", flush=True)
+    problems = {it: problem_of(it, sys.argv[1:] == ["--write"]) for it in STORED}
+    failed = {it: problem for it, problem in problems.items() if problem}
+    for it, problem in failed.items():
+        print(f"FAILED crates/{it.crate}/{it.name}: {problem}")
+    print(f"{len(STORED) - len(failed)} passed, {len(failed)} failed", flush=True)
     return 1 if failed else 0
 
 

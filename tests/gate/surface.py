@@ -130,7 +130,7 @@ class Surface:
 
     def is_public(self, crate, module, name):
         opened = all(it in self.sources[crate][module[:at]].modules for at, it in enumerate(module))
-        is_program = self.crates[crate].is_program
+        is_program = (self.crates[crate].folder / "src/main.rt").is_file()
         return not is_program and (opened or name in self.handed_out[crate])
 
     def blocks_of(self, crate):

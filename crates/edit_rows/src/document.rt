@@ -2,27 +2,33 @@
 ghost use Rattle.std.specs.Prelude.{IfOk};
 ghost use Rattle.mk_tree.specs.Documents.{IsFaithful};
 
-use crate::difference::{Difference, Stop, not_opened, same_number, same_text};
 use mk_class::{Class, Meter};
 use mk_tree::{Doc, Line};
-use std::alloc::{AllocError, Global};
+use std::alloc::{AllocError, Allocator, Global};
+use test_support::difference::{Difference, Stop, no_fault, same_number, same_text};
 
-/// The document of a text. Its lines count in the meter.
+/// The document of a text, in a memory of its own. Its lines count in the meter.
 ///
 /// # Errors
 ///
-/// A difference where the text is refused.
-pub fn parsed(alloc: Global, text: &[u8], meter: &mut Meter) -> Result<Doc, Stop>
+/// A difference if the text is refused.
+pub fn parsed<A: Allocator + Copy>(
+    alloc: Global,
+    own: A,
+    text: &[u8],
+    meter: &mut Meter,
+) -> Result<Doc<A>, Stop>
     ensures { IfOk result (λ doc. IsFaithful doc) }
 {
-    match Doc::parse(alloc, text, meter) {
-        Ok(doc) => Ok(doc),
-        Err(fault) => Err(Stop::Differs(not_opened(alloc, fault)?)),
-    }
+    no_fault(
+        alloc,
+        "the opening of the makefile",
+        Doc::parse(own, text, meter),
+    )
 }
 
 /// The text of a document.
-pub fn text_of(alloc: Global, doc: &Doc) -> Result<Vec<u8>, AllocError> {
+pub fn text_of<A: Allocator>(alloc: Global, doc: &Doc<A>) -> Result<Vec<u8>, AllocError> {
     let mut text = Vec::with_capacity(alloc, doc.size())?;
     for line in doc.iter() {
         text.extend_from_slice(line.bytes())?;
@@ -30,58 +36,55 @@ pub fn text_of(alloc: Global, doc: &Doc) -> Result<Vec<u8>, AllocError> {
     Ok(text)
 }
 
-/// The document of another one's text.
-fn parsed_again(alloc: Global, doc: &Doc) -> Result<Doc, Stop> {
-    let text = text_of(alloc, doc)?;
-    parsed(alloc, text.as_slice(), &mut Meter::new())
+/// Whether a document has this text. Takes no memory.
+pub fn has_text<A: Allocator>(doc: &Doc<A>, text: &[u8]) -> bool {
+    let mut rest = text;
+    for line in doc.iter() {
+        let Some(after) = rest.strip_prefix(line.bytes()) else {
+            return false;
+        };
+        rest = after;
+    }
+    rest.is_empty()
 }
 
-/// Fails where a document is not what the parse of its own text gives, line by line.
-pub fn check_lines(alloc: Global, doc: &Doc) -> Result<(), Stop> {
-    let fresh = parsed_again(alloc, doc)?;
+/// Fails if a document is not what the parse of its own text gives, line by line.
+pub fn check_lines<A: Allocator>(alloc: Global, doc: &Doc<A>) -> Result<(), Stop> {
+    let text = text_of(alloc, doc)?;
+    let fresh = parsed(alloc, alloc, text.as_slice(), &mut Meter::new())?;
     same_lines(alloc, &fresh, doc)
 }
 
-/// Fails where two documents have not the same lines.
-fn same_lines(alloc: Global, expected: &Doc, found: &Doc) -> Result<(), Stop> {
-    same_number(
-        alloc,
-        "the number of bytes",
-        expected.size() as u64,
-        found.size() as u64,
-    )?;
-    same_number(
-        alloc,
-        "the number of lines",
-        expected.len() as u64,
-        found.len() as u64,
-    )?;
+/// Fails if two documents have not the same lines.
+fn same_lines<A: Allocator>(alloc: Global, expected: &Doc, found: &Doc<A>) -> Result<(), Stop> {
+    let (size, found_size) = (expected.size() as u64, found.size() as u64);
+    same_number(alloc, "the number of bytes", size, found_size)?;
+    let (lines, found_lines) = (expected.len() as u64, found.len() as u64);
+    same_number(alloc, "the number of lines", lines, found_lines)?;
     for (expected, found) in expected.iter().zip(found.iter()) {
         check_line(alloc, expected, found)?;
     }
     Ok(())
 }
 
-/// Fails where two lines have not the same bytes, joined text and class.
-fn check_line(alloc: Global, expected: &Line, found: &Line) -> Result<(), Stop> {
+/// Fails if two lines have not the same bytes, joined text and class.
+fn check_line<A: Allocator>(alloc: Global, expected: &Line, found: &Line<A>) -> Result<(), Stop> {
     same_text(
         alloc,
         "the bytes of a line",
         expected.bytes(),
         found.bytes(),
     )?;
-    let expected_text = expected.text();
-    let found_text = found.text();
     same_text(
         alloc,
         "the joined text of a line",
-        expected_text,
-        found_text,
+        expected.text(),
+        found.text(),
     )?;
     same_class(alloc, expected.class(), found.class())
 }
 
-/// Fails where two classes are not the same.
+/// Fails if two classes are not the same.
 fn same_class(alloc: Global, expected: Class, found: Class) -> Result<(), Stop> {
     if expected == found {
         return Ok(());

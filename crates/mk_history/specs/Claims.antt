@@ -101,7 +101,7 @@ module _ {E T R : Type 0} (act : E → T → Result T R) where
 -- ---- a history, as it is seen
 
 -- what `undo` or `redo` of a history replied
-abbrev pub history_reply : {A R : Type 0} → Result A HistoryError → Reply (Refusal R)
+abbrev history_reply : {A R : Type 0} → Result A HistoryError → Reply (Refusal R)
 history_reply (Ok a) = Granted
 history_reply (Err error.NothingToUndo) = Refused NothingToUndo
 history_reply (Err error.NothingToRedo) = Refused NothingToRedo

@@ -7,11 +7,6 @@ abbrev pub each_after_space : List (List ℕ) → List ℕ
 each_after_space [] = []
 each_after_space (w ∷ ws) = codes " " ++ (w ++ each_after_space ws)
 
--- some words, each with a space after it
-abbrev pub each_before_space : List (List ℕ) → List ℕ
-each_before_space [] = []
-each_before_space (w ∷ ws) = w ++ (codes " " ++ each_before_space ws)
-
 -- words with one space between them
 abbrev pub spaced_words : List (List ℕ) → List ℕ
 spaced_words [] = []

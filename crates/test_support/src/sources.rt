@@ -90,29 +90,3 @@ impl<'a> ByteSource for MemorySource<'a> {
         self.is_failed
     }
 }
-
-/// Gives one byte at every call, for ever.
-#[derive(Drop)]
-pub struct EndlessSource {
-    pub byte: u8,
-}
-
-impl ByteSource for EndlessSource {
-    ghost failed = { λ _. false };
-
-    ghost ends = { λ _. Some 0 };
-
-    fn read(&mut self, buf: &mut [u8]) -> Result<usize, Fault> {
-        match buf.first_mut() {
-            None => Ok(0),
-            Some(first) => {
-                *first = self.byte;
-                Ok(1)
-            }
-        }
-    }
-
-    fn failed(&self) -> bool {
-        false
-    }
-}

@@ -1,9 +1,8 @@
 -- A move is taken back by its inverse; what moves hold and take out, and how many lines there are after them.
-use Rattle.std.proofs.Common.{◌≡◌, ℕ, zero, suc, ◌+◌, ◌<◌, ◌≤◌, false, List, [], ◌∷◌, ◌++◌, length, take, drop, Some, refl, ap, arith, suc-add, sym, ◌∙◌}
+use Rattle.std.proofs.Common.{◌≡◌, ℕ, zero, suc, ◌+◌, ◌<◌, ◌≤◌, false, List, [], ◌∷◌, ◌++◌, length, take, drop, Some, refl, ap, arith, suc-add, sym}
 use Rattle.std.specs.Prelude.{slice_get}
 use Rattle.std.proofs.lemmas.Grind.{common_steps}
 use Rattle.mk_lines.specs.Limits.{max_text}
-use Rattle.mk_lines.specs.PhysicalLines.{without_line_end}
 use Rattle.mk_tree.specs.LocatedLines.{LocatedLine, bytes_of_line, is_conditional_located, last_line, size_of, with_last_bytes}
 use Rattle.mk_tree.proofs.Ends.{length-with_last}
 use Rattle.mk_tree.proofs.on_changes.Sizes.{size_of-removed}
@@ -44,26 +43,6 @@ swapped-back b [] = refl
 swapped-back b (l ∷ []) = refl
 swapped-back b (l ∷ k ∷ []) = refl
 swapped-back b (l ∷ k ∷ m ∷ ls) = ap (λ z. l ∷ z) (swapped-back b (k ∷ m ∷ ls))
-
--- the last of some lines, by its index
-pub last_line-at : (ls : List LocatedLine) (at : ℕ) → length ls ≡ at + 1 → last_line ls ≡ slice_get ls at
-last_line-at [] at h = absurd (omega (arith, h))
-last_line-at (l ∷ []) zero h = refl
-last_line-at (l ∷ []) (suc at) h = absurd (omega (arith, h))
-last_line-at (l ∷ k ∷ ls) zero h = absurd (omega (arith, h))
-last_line-at (l ∷ k ∷ ls) (suc at) h = last_line-at (k ∷ ls) at (omega (arith, h))
-
-pub size_of-with_last : (b : List ℕ) (ls : List LocatedLine) → size_of (with_last_bytes b ls) + length (bytes_of_line (last_line ls)) ≤ size_of ls + length b
-size_of-with_last b [] = omega arith
-size_of-with_last b (l ∷ []) = omega arith
-size_of-with_last b (l ∷ k ∷ ls) = omega (arith, size_of-with_last b (k ∷ ls))
-
--- what is asked of the last line's new bytes, where the last line is found by its index
-pub swap_end-fits : (b : List ℕ) (ls : List LocatedLine) (at : ℕ) (l : LocatedLine) → length ls ≡ at + 1 → Some l ≡ slice_get ls at → 0 < length b → without_line_end b ≡ without_line_end l.bytes
-    → size_of ls + length b ≤ max_text → FitsMove (SwapEnd b) ls
-swap_end-fits b ls at l n e some same few =
-    let x : last_line ls ≡ Some l = last_line-at ls at n ∙ sym e in
-    (omega (arith, n), some, same ∙ ap (λ z. without_line_end (bytes_of_line z)) (sym x), omega (arith, size_of-with_last b ls, few))
 
 -- ---- a move and its inverse
 
@@ -152,6 +131,3 @@ number-after_moves (m ∷ ms) ls f = omega (arith, number-after m ls f.0, number
 
 -- what a builder cites of the moves that it gathers
 pub ruleset few = (held_by-few, taken_by-few, held_by-append, taken_by-append)
-
--- what is asked of the last line's new bytes
-pub ruleset ends = (last_line-at, length-with_last, size_of-with_last)

@@ -1,0 +1,94 @@
+//! Runs rows of texts and documents through the crates that read them: each call that allocates, with each
+//! of its growths refused, and each that writes, over sinks that fail. A table has the name of a call.
+//!
+//! - [`lines`]: `mk_lines`.
+//! - [`devices`]: a reader and a writer whose calls end as a text says.
+//! - [`classes`]: `mk_class`.
+//! - [`documents`]: `mk_tree`.
+//! - [`views`]: `mk_views` and `mk_listing`.
+//! - [`queries`]: `mk_queries`.
+//! - [`json`]: `mk_json`.
+//! - [`diffs`]: `mk_diff`.
+#![tactic(auto)]
+
+ghost use Rattle.std.specs.Prelude.{◌≡◌, false};
+
+mod classes;
+mod devices;
+mod diffs;
+mod documents;
+mod json;
+mod lines;
+mod queries;
+mod views;
+
+use mk_lines::Fault;
+use std::alloc::Global;
+use test_support::difference::Stop;
+use test_support::{Calls, Case, MemorySink, RunRow, run_call, run_tables};
+
+/// The calls of this program.
+struct DocumentCalls;
+
+impl Calls for DocumentCalls {
+    fn answer(&self, case: &Case<'_>) -> Result<Option<Vec<u8>>, Fault> {
+        let answer = match (case.table, case.fields) {
+            ("faults", []) => lines::faults(case),
+            ("cells", [line]) => lines::joined_line(case, line),
+            ("lines", [text]) => lines::lines_of(case, text),
+            ("ends", [line]) => lines::end_of(case, line),
+            ("units", [text]) => lines::units_of(case, text),
+            ("first", [text]) => lines::first_of(case, text),
+            ("read", [text, step, call]) => lines::read(case, text, step, call),
+            ("read-whole", [text]) => lines::read_whole(case, text),
+            ("read-std", [ends]) => devices::read(case, ends),
+            ("write-std", [ends]) => devices::write(case, ends),
+            ("give-back", [text]) => devices::give_back(case, text),
+            ("tests", [text]) => classes::tests_of(case, text),
+            ("class", [line]) => classes::class_of(case, line),
+            ("context", [text]) => classes::context_after(case, text),
+            ("diff", [name, old, new]) => diffs::between(case, name, old, new),
+            ("painted", [diff]) => diffs::in_colours(case, diff),
+            _ => return answer_on_document(case),
+        };
+        Ok(Some(answer?))
+    }
+
+    fn write(&self, case: &Case<'_>, out: &mut MemorySink) -> Result<bool, Fault> {
+        queries::write(case, out)
+    }
+}
+
+/// Makes a call on a document.
+fn answer_on_document(case: &Case<'_>) -> Result<Option<Vec<u8>>, Fault> {
+    let answer = match (case.table, case.fields) {
+        ("parse", [text]) => documents::parsed(case, text),
+        ("parse-vec", [text]) => documents::parsed_vec(case, text),
+        ("lines-in-contexts", [text]) => documents::lines_in_contexts(case, text),
+        ("read-line", []) => documents::read_line(case),
+        ("own-bytes", [text]) => documents::own_bytes(case, text),
+        ("document-writes", [text]) => documents::writes(case, text),
+        ("text-of", [text]) => views::text_again(case, text),
+        ("parts", [text]) => views::parts(case, text),
+        ("positions", [text]) => views::positions(case, text),
+        ("assignments", [text, name]) => views::assignments_in(case, text, name),
+        ("rules", [text, target]) => views::rules_in(case, text, target),
+        ("line-caveats", [text]) => queries::caveats_of_lines(case, text),
+        ("few-writes", [query, text]) => queries::few_writes(case, query, text),
+        ("json", [query, text]) => json::lines(case, query, text),
+        ("json-lines", [query, text]) => json::count_lines(case, query, text),
+        ("text-line", [text]) => json::text_line(case, text),
+        _ => return Ok(None),
+    };
+    Ok(Some(answer?))
+}
+
+impl RunRow for DocumentCalls {
+    fn run_row(&self, alloc: Global, table: &str, columns: &[&str]) -> Result<(), Stop> {
+        run_call(self, alloc, table, columns)
+    }
+}
+
+fn main(rt: HostRuntime) -> anyhow::Result<()> {
+    run_tables(&rt, &DocumentCalls)
+}

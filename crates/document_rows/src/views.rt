@@ -1,0 +1,158 @@
+//! The parts of lines by name, and lists of lines with their places.
+
+use crate::documents::document;
+use mk_lines::Fault;
+use mk_listing::{RuleLine, assignments, assignments_of, line_at, numbered, rules, rules_for};
+use mk_tree::Line;
+use mk_views::{AssignmentRef, LineViews, RuleRef, WordTexts, text_of};
+use std::alloc::{AllocError, Global};
+use std::fmt::{Debug, Write as _};
+use test_support::Case;
+use test_support::text::joined;
+
+/// The text of a document.
+pub fn text_again(case: &Case<'_>, text: &[u8]) -> Result<Vec<u8>, Fault> {
+    let doc = document(case.alloc, text)?;
+    let again = text_of(case.heap, &doc)?;
+    Ok(joined(case.alloc, &[&again])?)
+}
+
+/// The parts of each line.
+pub fn parts(case: &Case<'_>, text: &[u8]) -> Result<Vec<u8>, Fault> {
+    let doc = document(case.alloc, text)?;
+    let mut shown = Vec::new(case.alloc);
+    for line in &doc {
+        shown.extend_from_slice(&parts_of(case.alloc, line)?)?;
+        shown.push(b'\n')?;
+    }
+    Ok(shown)
+}
+
+fn parts_of(alloc: Global, line: &Line) -> Result<Vec<u8>, AllocError> {
+    if let Some(assignment) = line.assignment() {
+        return assigned(alloc, &assignment);
+    }
+    if let Some(found) = line.target_assignment() {
+        let targets = words(alloc, found.targets())?;
+        let assignment = assigned(alloc, &found.assignment())?;
+        let separator = found.separator().text();
+        return joined(alloc, &[&targets, separator.as_bytes(), &assignment]);
+    }
+    if let Some(rule) = line.rule() {
+        return ruled(alloc, &rule);
+    }
+    let shown = format!(in alloc; "{:?}", line.conditional())?;
+    let (recipe, define) = (line.recipe().unwrap_or(b"-"), line.define().unwrap_or(b"-"));
+    joined(alloc, &[recipe, b"|", define, b"|", shown.as_bytes()])
+}
+
+fn assigned(alloc: Global, assignment: &AssignmentRef<'_>) -> Result<Vec<u8>, AllocError> {
+    let modifiers = words(alloc, assignment.modifiers())?;
+    let operator = assignment.flavor().text();
+    let (name, value) = (assignment.name(), assignment.value());
+    joined(
+        alloc,
+        &[&modifiers, name, b"|", operator.as_bytes(), b"|", value],
+    )
+}
+
+fn ruled(alloc: Global, rule: &RuleRef<'_>) -> Result<Vec<u8>, AllocError> {
+    let targets = words(alloc, rule.targets())?;
+    let (prereqs, order_only) = (
+        words(alloc, rule.prereqs())?,
+        words(alloc, rule.order_only())?,
+    );
+    let pattern = rule.pattern().unwrap_or(b"-");
+    let recipe = rule.inline_recipe().unwrap_or(b"-");
+    let separator = rule.separator().text().as_bytes();
+    joined(
+        alloc,
+        &[
+            &targets,
+            separator,
+            pattern,
+            b"|",
+            &prereqs,
+            &order_only,
+            recipe,
+        ],
+    )
+}
+
+/// Words, with a bar behind each, and one more.
+fn words(alloc: Global, words: WordTexts<'_>) -> Result<Vec<u8>, AllocError> {
+    let mut all = Vec::new(alloc);
+    for word in words {
+        all.extend_from_slice(word)?;
+        all.push(b'|')?;
+    }
+    all.push(b'|')?;
+    Ok(all)
+}
+
+/// Pushes a value and a text.
+fn push<D: Debug + Drop>(shown: &mut String, value: D, text: &[u8]) -> Result<(), AllocError> {
+    write!(
+        shown,
+        "{value:?} {} ",
+        std::str::from_utf8(text).unwrap_or_default()
+    )
+}
+
+/// The positions of the lines of a document, with the bytes at their indices.
+pub fn positions(case: &Case<'_>, text: &[u8]) -> Result<Vec<u8>, Fault> {
+    let doc = document(case.alloc, text)?;
+    let mut shown = String::new(case.alloc);
+    for (position, _) in numbered(&doc) {
+        let place = (position.index, position.number, position.conditionals);
+        push(
+            &mut shown,
+            place,
+            line_at(&doc, position.index).map_or(b"", Line::bytes),
+        )?;
+    }
+    Ok(shown.into_bytes())
+}
+
+/// The assignments of a document, each with the number of its line and its own; then those of a name.
+pub fn assignments_in(case: &Case<'_>, text: &[u8], name: &[u8]) -> Result<Vec<u8>, Fault> {
+    let doc = document(case.alloc, text)?;
+    let mut shown = String::new(case.alloc);
+    for found in assignments(&doc) {
+        push(
+            &mut shown,
+            (found.position.number, found.nth),
+            found.assignment.value(),
+        )?;
+    }
+    for found in assignments_of(&doc, name) {
+        push(
+            &mut shown,
+            (found.position.number, found.nth),
+            found.assignment.value(),
+        )?;
+    }
+    Ok(shown.into_bytes())
+}
+
+/// The rules of a document with their recipe lines, each with the number of its line and its own; then those
+/// for a target.
+pub fn rules_in(case: &Case<'_>, text: &[u8], target: &[u8]) -> Result<Vec<u8>, Fault> {
+    let doc = document(case.alloc, text)?;
+    let mut shown = String::new(case.alloc);
+    for rule in rules(&doc) {
+        push_rule(&mut shown, &rule)?;
+    }
+    for rule in rules_for(&doc, target) {
+        push_rule(&mut shown, &rule)?;
+    }
+    Ok(shown.into_bytes())
+}
+
+fn push_rule(shown: &mut String, rule: &RuleLine<'_>) -> Result<(), AllocError> {
+    push(shown, (rule.position.number, rule.nth), b"rule")?;
+    for line in rule.recipe_lines() {
+        push(shown, (line.position.number, line.number), line.text)?;
+    }
+    Ok(())
+}

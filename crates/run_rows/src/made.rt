@@ -1,0 +1,70 @@
+//! Edits by the calls that make them, beside the lines of scripts that say the same.
+
+use crate::sessions::edit_of;
+use mk_lines::Fault;
+use mk_session::{
+    Edit, Flavor, MakeEdit, MakePlace, Place, RuleSeparator, clone_edit, clone_place, is_same_edit,
+    is_same_place,
+};
+use std::alloc::AllocError;
+use test_support::text::number;
+use test_support::{Case, Heap};
+
+/// Whether the copy of the edit that the call of a number makes is the edit of a line.
+pub fn made(case: &Case<'_>, call: &[u8], line: &[u8]) -> Result<Vec<u8>, Fault> {
+    let edit = edit_at(case.heap, number(call))?;
+    is_read(case, &clone_edit(&edit)?, line)
+}
+
+fn is_read<'h>(case: &Case<'h>, edit: &Edit<&'h Heap>, line: &[u8]) -> Result<Vec<u8>, Fault> {
+    let read = edit_of(case.heap, line)?;
+    let is_same = is_same_edit(edit, &read) && *edit == read;
+    Ok(is_same.to_string(case.alloc)?.into_bytes())
+}
+
+/// The edit of a number.
+fn edit_at(heap: &Heap, number: u64) -> Result<Edit<&Heap>, AllocError> {
+    match number {
+        0 => Edit::set(heap, b"A", b"b"),
+        1 => Edit::append(heap, b"A", b"b"),
+        2 => Edit::add_word(heap, b"A", b"b"),
+        3 => Edit::drop_word(heap, b"A", b"b"),
+        4 => Edit::all_set(heap, b"A", b"b"),
+        5 => Edit::all_append(heap, b"A", b"b"),
+        6 => Edit::all_add_word(heap, b"A", b"b"),
+        7 => Edit::all_drop_word(heap, b"A", b"b"),
+        8 => Edit::unset(heap, b"A"),
+        9 => Edit::unrule(heap, b"A"),
+        10 => Edit::rename(heap, b"A", b"b"),
+        11 => Edit::depend(heap, b"A", b"b"),
+        12 => Edit::depend_order(heap, b"A", b"b"),
+        13 => Edit::undepend(heap, b"A", b"b"),
+        14 => Edit::recipe(heap, b"A", b"b"),
+        15 => Edit::recipe_insert(heap, b"A", 1, b"b"),
+        16 => Edit::recipe_set(heap, b"A", 1, b"b"),
+        17 => Edit::recipe_del(heap, b"A", 1),
+        18 => Edit::recipe_replace(heap, b"A", b"b", b"c"),
+        19 => Edit::recipe_remove(heap, b"A", b"b"),
+        20 => Ok(Edit::set(heap, b"A", b"b")?.nth(2)),
+        21 => place_at(heap, 0)?.rule(heap, b"A", RuleSeparator::Single, b"b"),
+        22 => place_at(heap, 0)?.rule(heap, b"A", RuleSeparator::Double, b"b"),
+        place => place_at(heap, place)?.assign(heap, b"A", Flavor::Simple, b"b"),
+    }
+}
+
+/// The copy of the place of a number, which has to be the same.
+fn place_at(heap: &Heap, number: u64) -> Result<Place<&Heap>, AllocError> {
+    let place = match number {
+        23 => Place::before_var(heap, b"A")?,
+        24 => Place::after_var(heap, b"A")?,
+        25 => Place::before_rule(heap, b"A")?,
+        26 => Place::before_rule(heap, b"A")?.nth(2),
+        _ => Place::Bottom,
+    };
+    let copy = clone_place(&place)?;
+    if is_same_place(&copy, &place) {
+        Ok(copy)
+    } else {
+        Err(AllocError)
+    }
+}

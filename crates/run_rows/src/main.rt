@@ -1,0 +1,127 @@
+//! Runs rows of scripts, sessions, runs and talks through the crates that make them: each call that
+//! allocates, with each of its growths refused, and each that writes, over sinks that fail. A table has the
+//! name of a call, or of what no contract says of some calls.
+//!
+//! - [`scripts`]: `mk_script` and `mk_written`.
+//! - [`changes`]: `mk_history` at a change of a type of its own, and `mk_patch`.
+//! - [`made`]: edits by the calls that make them.
+//! - [`sessions`]: sessions, lookups, and how edits are shown.
+//! - [`groups`]: groups of edits that are one call, and dry runs.
+//! - [`memory`]: how many bytes edits take.
+//! - [`index`]: what an index tells, and what it leaves to a walk over all lines.
+//! - [`runs`]: `mk_run`, over devices that fail.
+//! - [`replies`]: `mk_prompt`: what a line asks for, and what is replied.
+//! - [`talks`]: `mk_prompt`: a whole talk, and the lines of its source.
+#![tactic(auto)]
+
+ghost use Rattle.std.specs.Prelude.{◌≡◌, false};
+
+mod changes;
+mod groups;
+mod index;
+mod made;
+mod memory;
+mod replies;
+mod runs;
+mod scripts;
+mod sessions;
+mod talks;
+
+use mk_lines::Fault;
+use std::alloc::Global;
+use test_support::difference::Stop;
+use test_support::{Calls, Case, MemorySink, RunRow, run_call, run_tables};
+
+/// The calls of this program.
+struct RunCalls;
+
+impl Calls for RunCalls {
+    fn answer(&self, case: &Case<'_>) -> Result<Option<Vec<u8>>, Fault> {
+        let answer = match (case.table, case.fields) {
+            ("script", [script]) => scripts::steps_of(case, script),
+            ("written", [line]) => scripts::written(case, line),
+            ("written-value", [value]) => scripts::written_value(case, value),
+            ("mistake", [script, line]) => scripts::mistake(case, script, line),
+            ("alike", [one, other]) => scripts::alike(case, one, other),
+            ("made", [call, line]) => made::made(case, call, line),
+            ("laws", []) => changes::laws(case),
+            ("history", []) => changes::history(case),
+            ("sequence", []) => changes::sequence(case),
+            ("history-errors", []) => changes::errors(case),
+            ("patch", []) => changes::patch(case),
+            ("request", [line]) => replies::request(case, line),
+            ("answer-lines", [text]) => replies::lines_of_answer(case, text),
+            ("lines-between", [text, from, to]) => replies::between(case, text, from, to),
+            ("replies", [makefile, lines]) => replies::heard(case, makefile, lines),
+            ("reply", [makefile, line]) => replies::reply(case, makefile, line),
+            ("revert", [makefile, depth]) => replies::reverted(case, makefile, depth),
+            ("read-line", [text]) => talks::lines_of(case, text),
+            ("read-line-fails", [text, from, to]) => talks::failing_line(case, text, from, to),
+            ("talk", [lines, call]) => talks::talk(case, lines, call),
+            ("failing-talk", [lines, text]) => talks::failing_talk(case, lines, text),
+            _ => return answer_of_session(case),
+        };
+        Ok(Some(answer?))
+    }
+
+    fn write(&self, case: &Case<'_>, out: &mut MemorySink) -> Result<bool, Fault> {
+        match (case.table, case.fields) {
+            ("replies", [makefile, lines]) => replies::write(case, makefile, lines, out)?,
+            _ => return Ok(false),
+        }
+        Ok(true)
+    }
+}
+
+/// Makes a call of a session or a run.
+fn answer_of_session(case: &Case<'_>) -> Result<Option<Vec<u8>>, Fault> {
+    let answer = match (case.table, case.fields) {
+        ("lookup", [makefile, name]) => sessions::lookup(case, makefile, name),
+        ("session", [makefile, depth]) => sessions::opened(case, makefile, depth),
+        ("session-shown", [makefile, script]) => sessions::shown(case, makefile, script),
+        ("edit-shown", [line]) => sessions::edit_shown(case, line),
+        ("same-growths", [makefile, line]) => sessions::same_growths(case, makefile, line),
+        ("without-memory", [makefile, before, script]) => {
+            sessions::without_memory(case, makefile, before, script)
+        }
+        ("group", [makefile, before, edits]) => {
+            groups::answered(case, makefile, before, edits, false)
+        }
+        ("dry-run", [makefile, before, edits]) => {
+            groups::answered(case, makefile, before, edits, true)
+        }
+        ("memory", [makefile, edit, lines]) => memory::by_lines(case, makefile, edit, lines),
+        ("same-memory", [short, long, edit]) => memory::same(case, short, long, edit),
+        ("memory-by-index", [text, edit, lines]) => memory::by_index(case, text, edit, lines),
+        ("memory-by-edits", [text, edit, edits]) => memory::by_edits(case, text, edit, edits),
+        ("expected-edits", [makefile, edit]) => index::expected_edits(case, makefile, edit),
+        ("found-lines", [makefile, name]) => index::found_lines(case, makefile, name),
+        ("told", [makefile, name]) => index::told(case, makefile, name),
+        ("tells", [makefile, listed]) => index::tells(case, makefile, listed),
+        ("known", [makefile, edits]) => index::known(case, makefile, edits),
+        ("known-after", [makefile, first, second]) => {
+            index::known_after(case, makefile, first, second)
+        }
+        ("run", [makefile, script, flags, report]) => {
+            runs::ended(case, [makefile, script, flags], report)
+        }
+        ("failing-run", [makefile, script, flags, report, out]) => {
+            runs::failing(case, [makefile, script, flags], report, out)
+        }
+        ("reported-at-once", [makefile, script, flags, report]) => {
+            runs::reported_at_once(case, [makefile, script, flags], report)
+        }
+        _ => return Ok(None),
+    };
+    Ok(Some(answer?))
+}
+
+impl RunRow for RunCalls {
+    fn run_row(&self, alloc: Global, table: &str, columns: &[&str]) -> Result<(), Stop> {
+        run_call(self, alloc, table, columns)
+    }
+}
+
+fn main(rt: HostRuntime) -> anyhow::Result<()> {
+    run_tables(&rt, &RunCalls)
+}
