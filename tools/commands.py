@@ -1,6 +1,6 @@
 """What is said of each command of a script, read from its one source, and the forms in which the documents have it.
 
-The commands and their texts stand in crates/mkedit/src/command_texts.rt, as the program prints them: what
+The commands and their texts stand in crates/mk_cli/src/command_texts.rt, as the program prints them: what
 the command does, its refusals, and an example, with an empty line between the three.
 """
 
@@ -12,7 +12,7 @@ import mdoc
 from refusals import CONSTANT, ESCAPE, ESCAPED, cell, on_one_line, outdented
 
 TOP = Path(__file__).resolve().parent.parent
-TEXTS = "crates/mkedit/src/command_texts.rt"
+TEXTS = "crates/mk_cli/src/command_texts.rt"
 
 # A command's form, and the constant that has its text.
 ROW = re.compile(r'^ +\("(.*)", ([A-Z_]+)\),$', re.M)

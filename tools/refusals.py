@@ -1,6 +1,6 @@
 """What is said of each refusal, read from its one source, and the forms in which the documents have it.
 
-The texts stand in crates/mkedit/src/explanations.rt, as the program prints them: the cause, an example
+The texts stand in crates/mk_cli/src/explanations.rt, as the program prints them: the cause, an example
 and what to do, with an empty line between the three. The numbers, and whether a count or a field comes
 with a refusal, stand in the definitions, RefusalTexts.antt.
 """
@@ -12,7 +12,7 @@ from typing import NamedTuple
 import mdoc
 
 TOP = Path(__file__).resolve().parent.parent
-TEXTS = "crates/mkedit/src/explanations.rt"
+TEXTS = "crates/mk_cli/src/explanations.rt"
 NUMBERS = "crates/mk_edit_language/specs/RefusalTexts.antt"
 
 CONSTANT = re.compile(r'^const (\w+): &str = "\\\n(.*?)";$', re.M | re.S)

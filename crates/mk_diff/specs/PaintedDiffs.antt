@@ -1,6 +1,6 @@
 -- A diff in colours, as a terminal shows it: the escape sequences are those of ECMA-48, "SGR".
 -- Told in docs/EDITS.md, "Running a script".
-use Rattle.std.specs.Prelude.{ℕ, ◌==◌, if◌then◌else◌, List, [], ◌∷◌, ◌++◌, take, drop, Option, Some, None, codes}
+use Rattle.std.specs.Prelude.{ℕ, Bool, true, false, ◌==◌, if◌then◌else◌, List, [], ◌∷◌, ◌++◌, take, drop, Option, Some, None, codes}
 use Rattle.std.specs.List.{flat_map}
 use Rattle.mk_lines.specs.PhysicalLines.{line_end, line_end_bytes, physical_lines, without_line_end}
 
@@ -39,3 +39,8 @@ abbrev pub painted_diff : (text : List ℕ) → List ℕ
 painted_diff text =
     flat_map bold_line (take 2 (physical_lines text))
     ++ flat_map painted_line (drop 2 (physical_lines text))
+
+-- a diff as it is shown: in colours, or as it is
+abbrev pub shown_diff : (has_color : Bool) → (text : List ℕ) → List ℕ
+shown_diff true text = painted_diff text
+shown_diff false text = text

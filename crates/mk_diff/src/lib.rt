@@ -1,7 +1,8 @@
 //! The difference of two texts, as a unified diff.
 //!
 //! - [`diff`]: the diff of two texts, as `patch` and `git apply` take it.
-//! - [`painted`]: a diff in the colours of a terminal.
+//! - [`painted`]: a diff in the colours of a terminal; [`shown`]: the same where colours are asked for.
+//! - [`patch_name`]: the name of a file as `patch` takes it.
 //!
 //! Nothing here knows of makefiles: the lines are physical lines, each with its line end.
 //!
@@ -30,5 +31,6 @@ mod stretch;
 mod text;
 mod unified;
 
-pub use paint::painted;
+pub use name::patch_name;
+pub use paint::{painted, shown};
 pub use unified::diff;

@@ -95,3 +95,16 @@ fn put_escaped<A: Allocator>(text: &mut Vec<u8, A>, name: &[u8]) -> Result<(), F
     }
     Ok(())
 }
+
+/// A name without the `/` and `./` before it, so that `patch` takes it.
+pub fn patch_name(name: &[u8]) -> &[u8] {
+    let mut rest = name;
+    for _ in 0..name.len() {
+        rest = match rest {
+            [b'/', below @ ..] => below,
+            [b'.', b'/', below @ ..] => below,
+            _ => return rest,
+        };
+    }
+    rest
+}

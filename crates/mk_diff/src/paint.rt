@@ -3,7 +3,7 @@ ghost use Rattle.std.specs.Prelude.{◌≡◌, ◌++◌, IfOk, IsOkUnless, drop,
 ghost use Rattle.std.specs.List.{flat_map};
 ghost use Rattle.std.specs.Option.{option_copied};
 ghost use Rattle.mk_lines.specs.PhysicalLines.{line_end_bytes, physical_lines};
-ghost use Rattle.mk_diff.specs.PaintedDiffs.{bold_line, color_of, painted_by, painted_diff, painted_line};
+ghost use Rattle.mk_diff.specs.PaintedDiffs.{bold_line, color_of, painted_by, painted_diff, painted_line, shown_diff};
 
 use crate::lines::first_length;
 use crate::text::put;
@@ -114,4 +114,19 @@ pub fn painted<A: Allocator>(alloc: A, diff: &[u8]) -> Result<Vec<u8, A>, Fault>
     let below_new = put_name(&mut text, below_old)?;
     put_hunks(&mut text, below_new)?;
     Ok(text)
+}
+
+/// A diff as it is shown: in the colours of a terminal, as [`painted`] makes it, or as it is.
+///
+/// # Errors
+///
+/// [`Fault::NoMemory`] if a growth was refused.
+pub fn shown<A: Allocator>(alloc: A, text: Vec<u8, A>, has_color: bool) -> Result<Vec<u8, A>, Fault>
+    ensures { IfOk result (λ shown. shown.items ≡ shown_diff has_color text.items) }
+{
+    if has_color {
+        painted(alloc, &text)
+    } else {
+        Ok(text)
+    }
 }

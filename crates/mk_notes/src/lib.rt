@@ -1,8 +1,10 @@
-//! Hints on the edits of a run, as texts: the lines of the makefile that are the cause of a refusal, and
-//! why an edit that was made may do nothing in make.
+//! Hints on the edits of a run, as texts: the lines of the makefile that are the cause of a refusal, why an
+//! edit that was made may do nothing in make, and what is wrong with a line of the script.
 //!
 //! - [`refusal_notes`]: the notes on a refusal.
 //! - [`edit_notes`]: the notes on an edit that was made.
+//! - [`NotesBelow`], [`NotesKept`]: the witnesses of a run that write both, or keep them.
+//! - [`script_mistake`], [`push_mistake`]: the note on a line of a script that is no command.
 //!
 //! A note is a line of text: the name of a file, mostly the number of a line in it, and what is said of
 //! it. No call promises which notes there are. Stored outputs of the program fix them.
@@ -15,15 +17,21 @@
 //! - `address`: the lines that an edit means.
 //! - `refused`: the notes on a refusal.
 //! - `made`: the notes on an edit that was made.
+//! - `witness`: the witnesses of a run.
+//! - `mistakes`: the notes on mistakes in a script.
 #![tactic(auto)]
 
 mod address;
 mod branch;
 mod line;
 mod made;
+mod mistakes;
 mod refused;
 mod text;
+mod witness;
 
 pub use made::edit_notes;
+pub use mistakes::{COMMAND_LINES, ScriptMistake, push_mistake, script_mistake};
 pub use refused::refusal_notes;
 pub use text::Names;
+pub use witness::{NotesBelow, NotesKept};

@@ -1,10 +1,10 @@
 -- Where the text of each makefile goes, and what a makefile is called.
 -- Told in docs/EDITS.md, "Running a script".
 use Rattle.std.specs.Prelude.{ℕ, List, codes}
-use Rattle.mk_command_line.specs.declared.request.Input.{Input}
-use Rattle.mk_command_line.specs.declared.request.Input.TheVariants as input
-use Rattle.mk_command_line.specs.declared.request.Output.{Output}
-use Rattle.mk_command_line.specs.declared.request.Output.TheVariants as output
+use Rattle.mk_cli.specs.declared.request.Input.{Input}
+use Rattle.mk_cli.specs.declared.request.Input.TheVariants as input
+use Rattle.mk_cli.specs.declared.request.Output.{Output}
+use Rattle.mk_cli.specs.declared.request.Output.TheVariants as output
 use Rattle.mkedit.specs.declared.destination.Destination.{Destination}
 use Rattle.mkedit.specs.declared.destination.Destination.TheVariants.{Standard, File, InPlace}
 

@@ -1,17 +1,12 @@
 -- What `mkedit edit --diff` puts out.
 -- Told in docs/EDITS.md, "Running a script".
-use Rattle.std.specs.Prelude.{ℕ, Bool, true, false, List, [], Option, Some}
+use Rattle.std.specs.Prelude.{ℕ, Bool, List, [], Option, Some}
 use Rattle.mk_lines.specs.PhysicalLines.{physical_lines}
 use Rattle.mk_diff.specs.Hunks.{Hunk, IsDiff}
 use Rattle.mk_diff.specs.HunkTexts.{diff_text}
-use Rattle.mk_diff.specs.PaintedDiffs.{painted_diff}
+use Rattle.mk_diff.specs.PaintedDiffs.{shown_diff}
 use Rattle.mk_run.specs.RunEnds.{HasText, IsOut, IsRunOver, Written, written}
 use Rattle.mk_run.specs.declared.outcome.Outcome.{Outcome}
-
--- a diff as it goes out: in colours, or as it is
-abbrev pub shown_diff : (has_color : Bool) → (text : List ℕ) → List ℕ
-shown_diff true text = painted_diff text
-shown_diff false text = text
 
 -- A run over the makefile with this outcome, whose text would go out without `--diff`: the diff of
 -- the makefile and that text goes out.

@@ -1,7 +1,7 @@
 //! When a diff has colours, and what a session shows of it.
 ghost use Rattle.std.specs.Prelude.{◌≡◌, false, true};
 
-use mk_command_line::Color;
+use mk_cli::Color;
 use std::env;
 use std::env::VarError;
 

@@ -1,8 +1,10 @@
-//! Where the text of a makefile goes.
+//! Where the text of a makefile goes, and what files are called.
 ghost use Rattle.std.specs.Prelude.{◌≡◌};
-ghost use Rattle.mkedit.specs.Destinations.{destination_of, name_of};
+ghost use Rattle.mkedit.specs.Destinations.{destination_of, input_name, name_of};
 
-use mk_command_line::{Backup, Input, Output};
+use mk_cli::{Backup, EditWords, Input, Output, Script};
+use mk_fs::STANDARD_INPUT;
+use mk_notes::{COMMAND_LINES, Names};
 
 /// Where the text of a makefile goes.
 #[derive(Clone, Copy)]
@@ -36,5 +38,31 @@ pub fn name_of<'a>(file: Input<'a>) -> &'a str
     match file {
         Input::File(name) => name,
         Input::Standard => "-",
+    }
+}
+
+/// What the words call the script and this makefile in notes.
+pub fn names_of<'a>(words: &EditWords<'a>, file: Input<'a>) -> Names<'a> {
+    Names {
+        makefile: input_name(file),
+        script: script_name(&words.script),
+    }
+}
+
+// What a file is called in notes.
+fn input_name<'a>(file: Input<'a>) -> &'a str
+    ensures { result.now ≡ input_name file.entry }
+{
+    match file {
+        Input::File(name) => name,
+        Input::Standard => STANDARD_INPUT,
+    }
+}
+
+// What a script is called in notes.
+fn script_name<'a>(script: &Script<'a>) -> &'a str {
+    match script {
+        Script::From(file) => input_name(*file),
+        Script::Lines(_) => COMMAND_LINES,
     }
 }

@@ -11,16 +11,17 @@ ghost use Rattle.mk_session.specs.Sessions.{IsBadDepth};
 ghost use Rattle.mk_lines.specs.PhysicalLines.{physical_lines};
 ghost use Rattle.mk_diff.specs.HunkTexts.{diff_text};
 ghost use Rattle.mk_diff.specs.Hunks.{Hunk, IsDiff};
-ghost use Rattle.mkedit.specs.DiffRuns.{IsDiffRun, shown_diff};
+ghost use Rattle.mk_diff.specs.PaintedDiffs.{shown_diff};
+ghost use Rattle.mkedit.specs.DiffRuns.{IsDiffRun};
 
 use crate::edit::run_to;
 use crate::several::run_steps_to;
-use mk_command_line::{EditWords, Input};
-use mk_diff::{diff, painted};
+use mk_cli::{EditWords, Input};
+use mk_diff::{diff, patch_name, shown};
 use mk_lines::sink::write_all;
 use mk_lines::source::read_all;
 use mk_lines::{ByteSink, ByteSource, Fault, StdSource};
-use mk_prompt::TextSink;
+use mk_repl::TextSink;
 use mk_run::{Outcome, Step, Witness};
 use std::alloc::Allocator;
 
@@ -68,26 +69,12 @@ fn is_printed(outcome: &Outcome, keep_going: bool) -> bool
     }
 }
 
-/// The name of the makefile in a diff: without the `/` and `./` before it, so that `patch` takes it.
-/// Standard input is `-`.
+/// The name of the makefile in a diff: as `patch` takes it. Standard input is `-`.
 pub(crate) fn diff_name<'a>(file: Input<'a>) -> &'a [u8] {
     match file {
-        Input::File(name) => below_top(name.as_bytes()),
+        Input::File(name) => patch_name(name.as_bytes()),
         Input::Standard => b"-",
     }
-}
-
-// A name without the `/` and `./` before it.
-fn below_top(name: &[u8]) -> &[u8] {
-    let mut rest = name;
-    for _ in 0..name.len() {
-        rest = match rest {
-            [b'/', below @ ..] => below,
-            [b'.', b'/', below @ ..] => below,
-            _ => return rest,
-        };
-    }
-    rest
 }
 
 // The text of a diff that goes out, and is flushed.
@@ -98,25 +85,6 @@ fn put_out<W: ByteSink>(out: &mut W, text: &[u8]) -> Result<(), Fault>
 {
     write_all(out, text)?;
     out.flush()
-}
-
-/// A diff as it goes out.
-///
-/// # Errors
-///
-/// [`Fault::NoMemory`].
-pub(crate) fn shown<A: Allocator>(
-    alloc: A,
-    text: Vec<u8, A>,
-    has_color: bool,
-) -> Result<Vec<u8, A>, Fault>
-    ensures { IfOk result (λ shown. shown.items ≡ shown_diff has_color text.items) }
-{
-    if has_color {
-        painted(alloc, &text)
-    } else {
-        Ok(text)
-    }
 }
 
 // The diff of two texts, as it goes out.

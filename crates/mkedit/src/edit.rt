@@ -3,17 +3,16 @@ ghost use Rattle.std.specs.Prelude.{◌≡◌, ◌||◌, false};
 ghost use Rattle.mk_run.specs.RunEnds.{IsRunOver, TellsFaults, written};
 
 use crate::color::has_color;
-use crate::destination::{Destination, destination_of};
+use crate::destination::{Destination, destination_of, names_of};
 use crate::diff::{DiffForm, diff_name, run_diff};
 use crate::ending::{End, finished};
 use crate::exchanged::with_exchanged;
-use crate::kept::Kept;
-use crate::mistakes::{COMMAND_LINES, script_mistake};
-use crate::refused::{NotesBelow, names_of};
+use crate::kept::{Kept, mistake_in};
 use crate::several::edit_each;
-use mk_command_line::{EditWords, Input, Script};
+use mk_cli::{EditWords, Input, Script};
 use mk_fs::{CannotOpen, InPlaceFile, OutFile, STANDARD_INPUT, STANDARD_OUTPUT, WithError, open};
 use mk_lines::{ByteSink, ByteSource, StdSink, StdSource};
+use mk_notes::{COMMAND_LINES, NotesBelow};
 use mk_run::{Outcome, Witness, run};
 use std::alloc::{Allocator, Global};
 use std::io::{IsTerminal, Read, Stderr};
@@ -21,7 +20,7 @@ use std::mem;
 use std::process::ExitCode;
 
 // The command line takes the depths that a history has.
-const _: () = prove!(mk_command_line::MAX_DEPTH == mk_history::history::MAX_DEPTH);
+const _: () = prove!(mk_cli::MAX_DEPTH == mk_history::history::MAX_DEPTH);
 
 /// Runs the script over the makefile as the words say, with the text to a sink. The session is not
 /// given up: the program ends soon, and a box for each line would be given up one by one.
@@ -229,7 +228,7 @@ fn run_lines<'a>(
     lines: &[u8],
 ) -> Result<End<'a>, CannotOpen<'a>> {
     let end = run_by(rt, words, file, &mut StdSource::new(lines))?;
-    Ok(end.with_mistake(script_mistake(COMMAND_LINES, lines, end.outcome)))
+    Ok(end.with_mistake(mistake_in(COMMAND_LINES, lines, end.outcome)))
 }
 
 // Opens the script, then the makefile, and runs the one over the other. Where one of the two cannot be

@@ -1,16 +1,16 @@
 //! How the program ends: a message on standard error, and the status.
-ghost use Rattle.std.specs.Prelude.{◌≡◌, ◌≢◌, ◌++◌, [], false, max, string_bytes};
+ghost use Rattle.std.specs.Prelude.{◌≡◌, ◌≢◌, ◌++◌, [], IfErr, OnOk, false, max, string_bytes};
 ghost use Rattle.std.specs.Io.KnownBytes.{Appends};
 ghost use Rattle.std.specs.Process.{exit_status};
 ghost use Rattle.clap.specs.Values.{kind_of};
 ghost use Rattle.clap.specs.declared.error.kind.ErrorKind.TheVariants.{DisplayHelp, DisplayVersion};
 ghost use Rattle.mk_lines.specs.Device.{AppendsPrefix, Writes};
-ghost use Rattle.mk_run.specs.Outcome.{message_of, status_of};
+ghost use Rattle.mk_run.specs.Outcome.{message_of, outcome_of, status_of};
 
-use crate::mistakes::{ScriptMistake, push_mistake};
 use mk_fs::{CannotOpen, SystemFault};
 use mk_lines::sink::write_all;
 use mk_lines::{ByteSink, Fault, StdSink};
+use mk_notes::{ScriptMistake, push_mistake};
 use mk_run::{Outcome, message, status};
 use std::alloc::{AllocError, Global};
 use std::process::ExitCode;
@@ -41,6 +41,17 @@ impl<'a> End<'a> {
             outcome,
             fault: None,
             mistake: None,
+        }
+    }
+
+    /// The end of what was printed, or ended by a fault.
+    pub fn of_print(print: Result<(), Fault>) -> End<'a>
+        ensures done { OnOk print (result.outcome ≡ Outcome.Done) }
+        ensures fault { IfErr print (λ fault. result.outcome ≡ outcome_of fault) }
+    {
+        match print {
+            Ok(()) => End::of(Outcome::Done),
+            Err(fault) => End::of(Outcome::from(fault)),
         }
     }
 

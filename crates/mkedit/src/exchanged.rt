@@ -1,11 +1,24 @@
 //! Whether SCRIPT and FILE may be exchanged: SCRIPT is no script, and FILE is one.
-ghost use Rattle.std.specs.Prelude.{◌≡◌};
+ghost use Rattle.std.specs.Prelude.{◌≡◌, false};
 
 use crate::ending::End;
-use crate::mistakes::{ScriptMistake, is_script};
-use mk_command_line::{EditWords, Input, Script};
+use mk_cli::{EditWords, Input, Script};
 use mk_fs::{is_regular, open};
-use mk_lines::StdSource;
+use mk_lines::{ByteSource, StdSource};
+use mk_notes::ScriptMistake;
+use mk_run::read_script;
+use std::alloc::Allocator;
+
+// Whether the bytes of a source are a script that has a command. Where they cannot be read to their end,
+// that is not known.
+fn is_script<A: Allocator + Copy, S: ByteSource>(alloc: A, source: &mut S) -> bool
+    requires { S.failed source.old ≡ false }
+{
+    match read_script(alloc, source) {
+        Ok(steps) => !steps.is_empty(),
+        Err(_) => false,
+    }
+}
 
 // Whether the file of a name is a script that has a command. It is opened for this alone, and another
 // file than a regular one is not: to open a pipe may wait without end.

@@ -1,10 +1,19 @@
 //! A source whose bytes are kept, so that a note can tell of them.
 ghost use Rattle.std.specs.Prelude.{◌≡◌};
 
-use crate::mistakes::{ScriptMistake, script_mistake};
 use mk_lines::{ByteSource, Fault};
+use mk_notes::{ScriptMistake, script_mistake};
 use mk_run::Outcome;
 use std::alloc::Allocator;
+
+/// What is wrong with a script of this name and text, if a run over it ended at a line that is no
+/// command.
+pub fn mistake_in<'a>(script: &'a str, text: &[u8], outcome: Outcome) -> Option<ScriptMistake<'a>> {
+    match outcome {
+        Outcome::NotACommand(line) => script_mistake(script, text, line),
+        _ => None,
+    }
+}
 
 /// A source, with the bytes that were read of it, if they are asked for.
 #[derive(Drop)]
@@ -30,7 +39,7 @@ impl<S, A: Allocator> Kept<S, A> {
     /// command. Nothing is known of that if the bytes are not kept, or memory ended.
     pub fn mistake<'a>(&self, name: &'a str, outcome: Outcome) -> Option<ScriptMistake<'a>> {
         match &self.text {
-            Some(text) => script_mistake(name, text.as_slice(), outcome),
+            Some(text) => mistake_in(name, text.as_slice(), outcome),
             None => None,
         }
     }

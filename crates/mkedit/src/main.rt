@@ -1,51 +1,37 @@
 //! The program `mkedit`: edits a makefile by a script, and keeps every byte that no edit concerns.
-//! What its words ask for, [`mk_command_line`] reads; files are read and written by [`mk_fs`].
+//! What its words ask for, [`mk_cli`] reads; files are read and written by [`mk_fs`].
 //!
 //! - `edit`: a script over a makefile, by [`mk_run::run`].
 //! - `diff`: the diff of a makefile and its text, in place of that text, by [`mk_diff`].
 //! - `color`: when that diff has colours.
 //! - `several`: a script over several makefiles, by [`mk_run::run_steps`].
-//! - `destination`: where the text of a makefile goes.
-//! - `query`: what a makefile has, by [`mk_queries`], [`mk_json`] and [`mk_lookup`]; `question`: what is
-//!   asked of it, and what is found.
-//! - `explain`: why a command is refused; `explanations` has the texts.
-//! - `help`: what a command of a script does; `command_texts` has the commands and the texts.
-//! - `kept`: a source whose bytes are kept; `mistakes`: the notes on a line of a script that is no command;
-//!   `exchanged`: whether script and makefile may be exchanged.
+//! - `destination`: where the text of a makefile goes, and what files are called.
+//! - `query`: what a makefile has, by [`mk_repl::found_for`].
+//! - `kept`: a source whose bytes are kept; `exchanged`: whether script and makefile may be exchanged.
 //! - `named`: lines that begin with the name of a file.
-//! - `refused`: the notes below the lines on refusals, by [`mk_notes`].
 //! - `ending`: the message and the status.
-//! - `progress`: how many of several makefiles are done, at a terminal.
-//! - `session`: a makefile that is edited step by step, by [`mk_prompt`].
+//! - `session`: a makefile that is edited step by step, by [`mk_repl`].
 #![tactic(auto)]
 
 ghost use Rattle.std.specs.Prelude.{◌≡◌, true};
 
 mod color;
-mod command_texts;
 mod destination;
 mod diff;
 mod edit;
 mod ending;
 mod exchanged;
-mod explain;
-mod explanations;
-mod help;
 mod kept;
-mod mistakes;
 mod named;
-mod progress;
 mod query;
-mod question;
-mod refused;
 mod session;
 mod several;
 
 use ending::{BAD_COMMAND_LINE, End, answered, ended};
-use explain::CalledRefusal;
-use mk_command_line::{Request, read_request};
+use mk_cli::{CalledRefusal, Request, asked_command, put_explanation, put_help, read_request};
+use mk_lines::{Fault, StdSink};
+use mk_repl::Inquiry;
 use mk_run::Outcome;
-use question::Inquiry;
 use std::io::{ErrorKind, IsTerminal};
 use std::process::ExitCode;
 
@@ -75,10 +61,15 @@ fn has_notes(rt: &HostRuntime, asked: bool) -> bool
     asked || rt.stderr().is_terminal()
 }
 
+// Says how a print on standard output ended, and answers its status.
+fn printed(rt: &HostRuntime, print: Result<(), Fault>) -> ExitCode {
+    ended(rt, &End::of_print(print), false)
+}
+
 // Does what the command line asks for.
 fn done(rt: &HostRuntime, words: &[String]) -> ExitCode {
-    if let Some(command) = help::asked_command(words) {
-        return ended(rt, &End::of(help::help(rt, command)), false);
+    if let Some(command) = asked_command(words) {
+        return printed(rt, put_help(command, &mut StdSink::new(rt.stdout())));
     }
     match read_request(rt.alloc(), words) {
         Ok(Request::Edit(mut words)) => {
@@ -96,7 +87,10 @@ fn done(rt: &HostRuntime, words: &[String]) -> ExitCode {
             query::ask(rt, inquiry, words.files.as_slice(), notes)
         }
         Ok(Request::Explain(CalledRefusal(refusal))) => {
-            ended(rt, &End::of(explain::explain(rt, &refusal)), false)
+            printed(
+                rt,
+                put_explanation(&refusal, &mut StdSink::new(rt.stdout())),
+            )
         }
         Ok(Request::Session(words)) => session::session(rt, words),
         Err(error) => answered(rt, &error),

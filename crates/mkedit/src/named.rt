@@ -2,7 +2,7 @@
 ghost use Rattle.std.specs.Prelude.{◌≡◌, ◌++◌, IfOk, drop, map};
 ghost use Rattle.mkedit.specs.NamedLines.{first_notes, named_line, named_lines};
 
-use mk_prompt::line_length;
+use mk_repl::line_length;
 use std::alloc::{AllocError, Allocator};
 
 // Puts a line behind a text, with a name and a colon before it.

@@ -1,48 +1,20 @@
 //! `mkedit session`: a makefile that is edited step by step. Each line of standard input is a command or
-//! a request, and is answered before the next one is read.
-//!
-//! - `desk`: the makefile that is open, and what it answers; `help_text`: what `help` says.
-//! - `journal`: the lines of what can be undone and redone.
-//! - `text_lines`: answers as lines of JSON.
-//! - `protocol`: its replies to a program; `terminal`: its replies to a person, whose words `sentences` has.
-//! - `not_done`: why a request is not done.
-//! - `on_disk`: the makefile's file.
-
+//! a request, and is answered before the next one is read, by [`mk_repl`].
 ghost use Rattle.std.specs.Prelude.{◌≡◌, false};
-ghost use Rattle.mkedit.specs.SessionForms.{is_by_protocol};
-
-mod desk;
-mod help_text;
-mod journal;
-mod not_done;
-mod on_disk;
-mod protocol;
-mod sentences;
-mod terminal;
-mod text_lines;
+ghost use Rattle.mk_repl.specs.SessionForms.{is_by_protocol};
 
 use crate::color::has_color;
 use crate::ending::{End, finished};
-use desk::Desk;
-use mk_command_line::{Form, SessionWords};
+use mk_cli::{Form, SessionWords};
 use mk_fs::{CannotOpen, Cause, STANDARD_OUTPUT, SystemFault, WithError, open};
 use mk_lines::source::read_all;
 use mk_lines::{ByteSink, ByteSource, Fault, StdSink, StdSource};
-use mk_prompt::converse;
+use mk_repl::{Desk, converse, converse_at_terminal};
 use mk_run::Outcome;
 use std::fs::File;
 use std::io::{ErrorKind, IsTerminal};
 use std::mem;
 use std::process::ExitCode;
-use terminal::converse_at_terminal;
-
-// How a talk ended.
-fn outcome_of(talked: Result<(), Fault>) -> Outcome {
-    match talked {
-        Ok(()) => Outcome::Done,
-        Err(fault) => Outcome::from(fault),
-    }
-}
 
 // Reads the makefile to its end, and opens a session over it.
 fn opened<'a>(
@@ -125,7 +97,7 @@ fn talk<'a>(rt: &'a HostRuntime, words: SessionWords<'a>, desk: Desk<'a>) -> End
     let mut device = WithError::new(rt.stdout());
     let mut out = StdSink::new(&mut device);
     let talked = reply(rt, asker, desk, &mut source, &mut out);
-    End::of(outcome_of(talked)).with_fault(device.fault(STANDARD_OUTPUT))
+    End::of_print(talked).with_fault(device.fault(STANDARD_OUTPUT))
 }
 
 // Opens the makefile, and replies to the lines of standard input.

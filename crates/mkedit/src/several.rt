@@ -10,17 +10,14 @@ ghost use Rattle.mk_run.specs.RunEnds.{IsRunOver, TellsFaults, written};
 ghost use Rattle.mk_run.specs.RunSteps.{GivesSteps};
 ghost use Rattle.mkedit.specs.NamedLines.{named_lines};
 
-use crate::destination::{Destination, destination_of, name_of};
+use crate::destination::{Destination, destination_of, name_of, names_of};
 use crate::diff::{DiffForm, run_steps_diff};
 use crate::edit::form_of;
 use crate::ending::{CANNOT_OPEN, End, Statuses, ended, not_opened, notes_on, tell_not_opened};
 use crate::exchanged::with_exchanged;
 use crate::kept::Kept;
-use crate::mistakes::COMMAND_LINES;
 use crate::named::named_lines;
-use crate::progress::Progress;
-use crate::refused::{NotesKept, names_of};
-use mk_command_line::{EditWords, Input, Output, Script};
+use mk_cli::{EditWords, Input, Output, Progress, Script};
 use mk_fs::{
     CannotOpen, Cause, InPlaceFile, OutFile, STANDARD_INPUT, STANDARD_OUTPUT, SystemFault,
     WithError, open,
@@ -28,6 +25,7 @@ use mk_fs::{
 use mk_history::history::is_bad_depth;
 use mk_lines::sink::write_all;
 use mk_lines::{ByteSink, ByteSource, Fault, StdSink, StdSource};
+use mk_notes::{COMMAND_LINES, NotesKept};
 use mk_run::{Outcome, Step, Witness, message, read_script, run_steps, status};
 use std::alloc::{Allocator, Global};
 use std::io::{ErrorKind, IsTerminal, Read};

@@ -10,8 +10,8 @@
 //! - [`memory`]: how many bytes edits take.
 //! - [`index`]: what an index tells, and what it leaves to a walk over all lines.
 //! - [`runs`]: `mk_run`, over devices that fail.
-//! - [`replies`]: `mk_prompt`: what a line asks for, and what is replied.
-//! - [`talks`]: `mk_prompt`: a whole talk, and the lines of its source.
+//! - [`replies`]: `mk_repl`: what a line asks for, and what is replied.
+//! - [`talks`]: `mk_repl`: a whole talk, and the lines of its source.
 #![tactic(auto)]
 
 ghost use Rattle.std.specs.Prelude.{◌≡◌, false};

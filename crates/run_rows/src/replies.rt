@@ -2,7 +2,7 @@
 ghost use Rattle.std.specs.Prelude.{◌≡◌, false};
 
 use mk_lines::Fault;
-use mk_prompt::{
+use mk_repl::{
     Obeyed, Reverted, answer_line, answer_lines, line_length, lines_between, obey_line,
     read_request, revert, text_of,
 };

@@ -2,7 +2,7 @@
 
 use mk_lines::sink::write_parts;
 use mk_lines::{ByteSink, Fault};
-use mk_prompt::{After, LineRead, Listener, converse, read_line, write_greeting, write_too_long};
+use mk_repl::{After, LineRead, Listener, converse, read_line, write_greeting, write_too_long};
 use test_support::text::{joined, number};
 use test_support::{Case, MemorySink, MemorySource};
 

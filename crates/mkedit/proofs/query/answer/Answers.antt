@@ -2,7 +2,7 @@ use Rattle.std.proofs.Common.{◌≡◌, ◌∙◌, ℕ, List, Option, Some, Non
 use Rattle.std.specs.Prelude.{IfSome}
 use Rattle.mk_tree.specs.LocatedLines.{located_text}
 use Rattle.mk_session.specs.Sessions.{Seen}
-use Rattle.mkedit.specs.QueryTexts.{answer_refusal}
+use Rattle.mk_repl.specs.QueryTexts.{answer_refusal}
 use Rattle.mkedit.proofs.query.answer.Goals as goal
 
 -- what holds of a text holds of the bytes that a source told, if it told them

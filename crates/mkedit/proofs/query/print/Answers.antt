@@ -1,7 +1,7 @@
 use Rattle.std.proofs.Common.{◌≡◌, ◌∙◌, ap, sym}
 use Rattle.std.specs.Prelude.{Err}
-use Rattle.mkedit.specs.declared.question.Unanswered.{Unanswered}
-use Rattle.mkedit.specs.declared.question.Unanswered.TheVariants as unanswered
+use Rattle.mk_repl.specs.declared.question.Unanswered.{Unanswered}
+use Rattle.mk_repl.specs.declared.question.Unanswered.TheVariants as unanswered
 use Rattle.mkedit.proofs.query.print.Goals as goal
 
 pub returns-in-Ok-write_refusal-clause-refused : goal.returns-in-Ok-write_refusal-clause-refused

@@ -1,0 +1,36 @@
+//! The command line of the program `mkedit`: what its words ask for, as `clap` reads them, and what is
+//! printed of the program itself.
+//!
+//! [`read_request`] reads the words. What a refusal is, which `mkedit explain` takes, the caller says by a
+//! type, such as [`CalledRefusal`].
+//!
+//! - `request`: what the words can ask for.
+//! - `arguments`: the arguments of the commands.
+//! - `commands`: the commands with their arguments, as `clap` has to read them.
+//! - `help`: the texts of help.
+//! - `reading`: from the words to the request.
+//! - `explain`: why a command is refused; `explanations` has the texts.
+//! - `command_help`: what a command of a script does; `command_texts` has the commands and the texts.
+//! - `progress`: how many of several makefiles are done, at a terminal.
+#![tactic(auto)]
+
+mod arguments;
+mod command_help;
+mod command_texts;
+mod commands;
+mod explain;
+mod explanations;
+mod help;
+mod progress;
+mod reading;
+pub mod request;
+
+pub use command_help::{CommandHelp, asked_command, command_called, put_help};
+pub use explain::{CalledRefusal, NoRefusal, put_explanation, refusal_of};
+pub use explanations::explanation;
+pub use progress::Progress;
+pub use reading::read_request;
+pub use request::{
+    Backup, Color, EditWords, Form, GetWords, Input, MAX_DEPTH, Output, Query, QueryWords, Request,
+    Script, SessionWords,
+};

@@ -1,0 +1,115 @@
+//! The note on a line of a script that is no command: where in the line a mistake is, and what is wrong.
+
+use mk_script::{FieldName, Mistake, MistakeCause, mistake_at, nearest_at};
+use std::alloc::AllocError;
+use std::fmt;
+
+/// What the lines of the command line are called, where they are the script.
+pub const COMMAND_LINES: &str = "-e";
+
+/// What is wrong with a line of a script that is no command. It is shown in words, with the nearest
+/// command.
+#[derive(Clone, Copy)]
+pub struct ScriptMistake<'a> {
+    /// What the script is called.
+    pub script: &'a str,
+    /// The number of the line, from 1.
+    pub line: u64,
+    /// What is wrong with it.
+    pub mistake: Mistake,
+    /// The word of a command that is spelled like the word there, where that is no command's.
+    pub nearest: Option<&'static str>,
+    /// The name of the makefile, where that is a script: the two may be exchanged.
+    pub exchanged: Option<&'a str>,
+}
+
+impl fmt::Display for ScriptMistake<'_> {
+    fn fmt<W: fmt::Write>(&self, f: &mut fmt::Formatter<W>) -> fmt::Result {
+        let said = said_of(self.mistake.cause);
+        match self.nearest {
+            Some(word) => write!(f, "{said}; the nearest is `{word}`"),
+            None => write!(f, "{said}"),
+        }
+    }
+}
+
+/// What is wrong with a script of this name and text at a line, from 1, that is no command.
+pub fn script_mistake<'a>(script: &'a str, text: &[u8], line: u64) -> Option<ScriptMistake<'a>> {
+    let mistake = mistake_at(text, line)?;
+    let nearest = match mistake.cause {
+        MistakeCause::UnknownCommand => nearest_at(text, line, mistake.column),
+        _ => None,
+    };
+    Some(ScriptMistake {
+        script,
+        line,
+        mistake,
+        nearest,
+        exchanged: None,
+    })
+}
+
+// What is said of a field that is missing.
+fn missing_field(name: FieldName) -> &'static str {
+    match name {
+        FieldName::Command => "a command is missing",
+        FieldName::Nth => "N is missing",
+        FieldName::Place => "PLACE is missing",
+        FieldName::Name => "NAME is missing",
+        FieldName::Operator => "OP is missing",
+        FieldName::Value => "VALUE is missing",
+        FieldName::Word => "WORD is missing",
+        FieldName::Target => "TARGET is missing",
+        FieldName::Targets => "TARGETS is missing",
+        FieldName::Separator => "SEP is missing",
+        FieldName::Prerequisites => "PREREQS is missing",
+        FieldName::Number => "K is missing",
+        FieldName::Line => "LINE is missing",
+        FieldName::Old => "OLD is missing",
+        FieldName::New => "NEW is missing",
+    }
+}
+
+// What is wrong, in words.
+fn said_of(cause: MistakeCause) -> &'static str {
+    match cause {
+        MistakeCause::Missing(name) => missing_field(name),
+        MistakeCause::TooMany =>
+            "no field may follow here; a field with blanks stands between double quotes",
+        MistakeCause::OpenQuote => "the quote is not closed",
+        MistakeCause::BadEscape => "between quotes `\\` stands before `\"` or `\\` alone",
+        MistakeCause::TextAfterQuote => "a blank follows the closing quote",
+        MistakeCause::NotANumber => "this is no number of at most ten digits, up to 4294967295",
+        MistakeCause::UnknownPlace => {
+            "PLACE is `bottom`, `before-var NAME`, `after-var NAME` or `before-rule TARGET`"
+        }
+        MistakeCause::UnknownOperator => "OP is `=`, `:=`, `::=`, `:::=`, `?=`, `+=` or `!=`",
+        MistakeCause::UnknownSeparator => "SEP is `:` or `::`",
+        MistakeCause::UnknownCommand => "there is no such command",
+        MistakeCause::NotAfterTry =>
+            "`try` and `or` stand before the whole command of an edit, and only one of them",
+        MistakeCause::NotAfterNth => "`nth` may not stand before this command",
+        MistakeCause::NotAfterAll =>
+            "`all` may stand before `set`, `append`, `add` and `drop` alone",
+        MistakeCause::NthBottom => "`nth` may not stand before a command with the place `bottom`",
+        MistakeCause::StrayOr => "`or` stands below an edit without `try`, or below another `or`",
+    }
+}
+
+/// Puts the notes on a mistake behind others: where it is and what is wrong, and below it whether script
+/// and makefile may be exchanged.
+///
+/// # Errors
+///
+/// Want of memory.
+pub fn push_mistake(notes: &mut String, found: &ScriptMistake<'_>) -> Result<(), AllocError> {
+    let (script, line, column) = (found.script, found.line, found.mistake.column);
+    writeln!(notes, "{script}:{line}:{column}: note: {found}")?;
+    if let Some(makefile) = found.exchanged {
+        writeln!(
+            notes,
+            "{script}: note: this is no script, and {makefile} is one: they may be exchanged"
+        )?;
+    }
+    Ok(())
+}

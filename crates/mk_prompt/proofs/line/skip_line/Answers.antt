@@ -1,6 +1,0 @@
-use Rattle.std.proofs.Common.{rules}
-use Rattle.mk_prompt.proofs.LineLemmas.{SameRest-refl}
-use Rattle.mk_prompt.proofs.line.skip_line.Goals as goal
-
-pub loop-init : goal.loop-init
-loop-init g c = (search rules, SameRest-refl _)

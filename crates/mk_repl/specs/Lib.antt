@@ -1,0 +1,11 @@
+-- # What the public contracts say
+pub mod AnswerLines
+pub mod InputLines
+pub mod QueryTexts
+pub mod Replies
+pub mod Requests
+pub mod Reverted
+pub mod SessionFaults
+pub mod SessionForms
+pub mod SessionReplies
+pub mod Talks

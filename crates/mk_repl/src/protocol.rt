@@ -1,0 +1,111 @@
+//! The replies of a makefile that is open, by the protocol.
+ghost use Rattle.std.specs.Prelude.{◌≡◌, ◌⊎◌, false, true, Err, IfErr, IfOk, IsOkAnd, OnOk, is_ok};
+ghost use Rattle.mk_repl.specs.AnswerLines.{answer_lines};
+ghost use Rattle.mk_repl.specs.Requests.{request_in};
+ghost use Rattle.mk_repl.specs.Talks.{SaysOut, greeting, too_long};
+ghost use Rattle.mk_repl.specs.SessionReplies.{IsHeard, IsOtherAnswered, IsReplyTo, answer_text};
+
+use crate::desk::Desk;
+use crate::not_done::{NotDone, put_fault, shown_name};
+use crate::{
+    After, Listener, Obeyed, answer_lines, read_request, write_greeting, write_reply,
+    write_too_long,
+};
+use mk_lines::sink::write_parts;
+use mk_lines::{ByteSink, Fault};
+
+impl Desk<'_> {
+    // The lines of an answer, if there is one.
+    fn quoted(&self, answer: Result<Vec<u8>, NotDone>) -> Result<Vec<u8>, NotDone>
+        ensures lines { IfOk result (λ lines. IsOkAnd answer
+            (λ text. lines.items ≡ answer_lines text.items)) }
+        ensures fault { IfErr result (λ why. (answer ≡ Err why)
+            ⊎ ((is_ok answer ≡ true) × (why ≡ NotDone.NoMemory))) }
+    {
+        match answer {
+            Ok(text) => match answer_lines(self.runtime().alloc(), text.as_slice()) {
+                Ok(lines) => Ok(lines),
+                Err(_) => Err(NotDone::NoMemory),
+            },
+            Err(not_done) => Err(not_done),
+        }
+    }
+
+    // Replies to a request. A file is shown by this name.
+    fn put_answer<W: ByteSink>(
+        &self,
+        answer: Result<Vec<u8>, NotDone>,
+        name: &[u8],
+        out: &mut W,
+    ) -> Result<(), Fault>
+        requires { W.failed out.old ≡ false }
+        ensures said { OnOk result (SaysOut (W.contents out.old) (W.contents out.new)
+            (IsReplyTo name.now (answer_text answer))) }
+        ensures fault { IfErr result (λ fault. (fault ≡ Fault.Write) × (W.failed out.new ≡ true)) }
+        ensures works { OnOk result (W.failed out.new ≡ false) }
+    {
+        match self.quoted(answer) {
+            Ok(lines) => write_parts(out, &[lines.as_slice(), b"ok\n"]),
+            Err(not_done) => put_fault(not_done, name, out),
+        }
+    }
+
+    // Replies to a line that is no command.
+    fn answer_other<W: ByteSink>(&mut self, line: &[u8], out: &mut W) -> Result<After, Fault>
+        requires { W.failed out.old ≡ false }
+        ensures said { IfOk result (λ after. SaysOut (W.contents out.old) (W.contents out.new) (λ reply.
+            IsOtherAnswered (request_in line.now) self.old.opened self.old.session.shown reply after
+            self.new.session.shown)) }
+        ensures opened { self.new.opened ≡ self.old.opened }
+        ensures fault { IfErr result (λ fault. (fault ≡ Fault.Write) × (W.failed out.new ≡ true)) }
+        ensures works { OnOk result (W.failed out.new ≡ false) }
+    {
+        let Some(request) = read_request(line) else {
+            put_fault(NotDone::NotACommand, shown_name(self.name()), out)?;
+            return Ok(After::GoesOn);
+        };
+        let asked = self.ask(request);
+        self.put_answer(asked.answer, self.shown_in(request), out)?;
+        Ok(asked.after)
+    }
+
+    // Replies to a line.
+    fn answer_to<W: ByteSink>(&mut self, line: &[u8], out: &mut W) -> Result<After, Fault>
+        requires { W.failed out.old ≡ false }
+        ensures said { IfOk result (λ after. SaysOut (W.contents out.old) (W.contents out.new) (λ reply.
+            IsHeard line.now self.old.opened self.old.session.shown reply after
+            self.new.session.shown
+            × (self.new.opened ≡ self.old.opened))) }
+        ensures fault { IfErr result (λ fault. (fault ≡ Fault.Write) × (W.failed out.new ≡ true)) }
+        ensures works { OnOk result (W.failed out.new ≡ false) }
+    {
+        let obeyed = self.obey(line);
+        if obeyed == Obeyed::NoCommand {
+            return self.answer_other(line, out);
+        }
+        write_reply(obeyed, out)?;
+        Ok(After::GoesOn)
+    }
+}
+
+impl Listener for Desk<'_> {
+    ghost greets = { λ _ text. text ≡ greeting };
+
+    ghost turns_down = { λ _ reply. reply ≡ too_long };
+
+    ghost hears = { λ old line reply after new.
+        IsHeard line old.opened old.session.shown reply after new.session.shown
+        × (new.opened ≡ old.opened) };
+
+    fn greet<W: ByteSink>(&self, out: &mut W) -> Result<(), Fault> {
+        write_greeting(out)
+    }
+
+    fn turn_down<W: ByteSink>(&self, out: &mut W) -> Result<(), Fault> {
+        write_too_long(out)
+    }
+
+    fn hear<W: ByteSink>(&mut self, line: &[u8], out: &mut W) -> Result<After, Fault> {
+        self.answer_to(line, out)
+    }
+}

@@ -1,0 +1,192 @@
+//! What a makefile is asked for, and what is found for it.
+ghost use Rattle.std.specs.Prelude.{◌≡◌, ℕ, List, false, Err, IfOk, IfSome, None, Some};
+ghost use Rattle.mk_lines.specs.Device.{Writes};
+ghost use Rattle.mk_lines.specs.declared.fault.Fault.TheVariants.{NoMemory};
+ghost use Rattle.mk_tree.specs.Documents.{IsFaithful};
+ghost use Rattle.mk_tree.specs.LocatedLines.{located_text};
+ghost use Rattle.mk_repl.specs.declared.question.Unanswered.TheVariants as unanswered;
+ghost use Rattle.mk_repl.specs.QueryTexts.{IsSaid, answer_refusal, answer_text, found_text, query_text, question_to};
+
+use mk_cli::{Form, Query};
+use mk_json as json;
+use mk_lines::sink::{write_all, write_parts};
+use mk_lines::{ByteSink, Fault};
+use mk_lookup::get;
+use mk_queries::{caveats, check, recipes, recipes_for, rules, rules_for, vars, vars_named};
+use mk_session::Refusal;
+use mk_tree::Doc;
+use std::alloc::{AllocError, Allocator};
+
+/// What each of some makefiles is asked for.
+#[derive(Clone, Copy)]
+pub enum Inquiry<'a> {
+    /// What a query lists, in this form.
+    Query(Query<'a>, Form),
+    /// The value that [`Question::Value`] is on.
+    Value(Option<u32>, &'a str),
+}
+
+impl<'a> Inquiry<'a> {
+    /// The question to the makefile of this name.
+    pub fn to(self, file: &'a str) -> Question<'a>
+        ensures { result ≡ question_to file.entry self.entry }
+    {
+        match self {
+            Inquiry::Query(query, Form::Text) => Question::Lines(query),
+            Inquiry::Query(query, Form::Json) => Question::Json(query, file),
+            Inquiry::Value(nth, name) => Question::Value(nth, name),
+        }
+    }
+}
+
+/// What a makefile is asked for.
+#[derive(Clone, Copy)]
+pub enum Question<'a> {
+    /// A line for each thing that a query lists.
+    Lines(Query<'a>),
+    /// The same, each as a line of JSON in which the makefile has this name.
+    Json(Query<'a>, &'a str),
+    /// The value of the assignment of this name that `set` takes: that with this number, from 1, or
+    /// the only one.
+    Value(Option<u32>, &'a str),
+}
+
+/// Why a question has no answer.
+#[derive(Clone, Copy, Debug, PartialEq, Eq)]
+pub enum Unanswered {
+    /// A device, a limit or memory ended it.
+    Fault(Fault),
+    /// `set` would be refused so for the name that it gives.
+    Refused(Refusal),
+}
+
+impl From<Fault> for Unanswered {
+    ghost from_gives = { λ fault answer. answer ≡ unanswered.Fault fault };
+
+    fn from(fault: Fault) -> Unanswered {
+        Unanswered::Fault(fault)
+    }
+}
+
+impl From<AllocError> for Unanswered {
+    ghost from_gives = { λ _ answer. answer ≡ unanswered.Fault NoMemory };
+
+    fn from(_refused: AllocError) -> Unanswered {
+        Unanswered::Fault(Fault::NoMemory)
+    }
+}
+
+/// What is found for a question.
+#[derive(Drop)]
+pub enum Found<'a, B: Allocator> {
+    /// The lines of a query, which are not written yet.
+    Lines(Query<'a>),
+    /// Lines of JSON.
+    Json(Vec<u8, B>),
+    /// The value of a variable.
+    Value(&'a [u8]),
+}
+
+/// What a document has for a question.
+///
+/// # Errors
+///
+/// [`Unanswered::Refused`] for a variable that `set` would not take either. [`Unanswered::Fault`] with
+/// [`Fault::NoMemory`] where the lines of JSON could not grow.
+pub fn found_for<'a, A: Allocator, B: Allocator + Copy>(
+    alloc: B,
+    question: Question<'a>,
+    doc: &'a Doc<A>,
+) -> Result<Found<'a, B>, Unanswered>
+    requires { IsFaithful doc.now }
+    ensures found { IfOk result (λ found. IfSome (answer_text question.entry (located_text doc.now))
+        (λ text. found_text found doc.now ≡ Some text)) }
+    ensures unrefused { IfOk result (λ found.
+        answer_refusal question.entry (located_text doc.now) ≡ None) }
+    ensures refused { (refusal : Refusal) → result ≡ Err (Unanswered.Refused refusal)
+        → answer_refusal question.entry (located_text doc.now) ≡ Some refusal }
+    ensures fault { (fault : Fault) → result ≡ Err (Unanswered.Fault fault)
+        → fault ≡ Fault.NoMemory }
+{
+    match question {
+        Question::Lines(query) => Ok(Found::Lines(query)),
+        Question::Json(query, file) => Ok(Found::Json(json_lines(alloc, query, file, doc)?)),
+        Question::Value(nth, name) => match get(doc, nth, name.as_bytes()) {
+            Ok(value) => Ok(Found::Value(value)),
+            Err(refusal) => Err(Unanswered::Refused(refusal)),
+        },
+    }
+}
+
+/// The lines of JSON of a query. The makefile is called by this name in them.
+///
+/// # Errors
+///
+/// [`AllocError`] if a growth was refused.
+pub(crate) fn json_lines<'a, A: Allocator, B: Allocator + Copy>(
+    alloc: B,
+    query: Query<'a>,
+    file: &str,
+    doc: &'a Doc<A>,
+) -> Result<Vec<u8, B>, AllocError>
+    requires { IsFaithful doc.now }
+{
+    let file = file.as_bytes();
+    match query {
+        Query::Vars(name) => json::vars(alloc, file, doc, name.map(|it| it.as_bytes())),
+        Query::Rules(target) => json::rules(alloc, file, doc, target.map(|it| it.as_bytes())),
+        Query::Recipes(target) => json::recipes(alloc, file, doc, target.map(|it| it.as_bytes())),
+        Query::Check => json::check(alloc, file, doc),
+        Query::Caveats => json::caveats(alloc, file, doc),
+    }
+}
+
+/// Writes the lines of a query.
+///
+/// # Errors
+///
+/// [`Fault::Write`] if the sink failed. A prefix is out then.
+pub(crate) fn put_lines<A: Allocator, W: ByteSink>(
+    query: Query<'_>,
+    doc: &Doc<A>,
+    out: &mut W,
+) -> Result<(), Fault>
+    requires faithful { IsFaithful doc.now }
+    requires works { W.failed out.old ≡ false }
+    ensures { (text : List ℕ) × Writes W.contents W.failed W.flushes out.old out.new result text
+        × IsSaid (query_text query.entry doc.now) text }
+{
+    match query {
+        Query::Vars(None) => vars(doc, out),
+        Query::Vars(Some(name)) => vars_named(doc, name.as_bytes(), out),
+        Query::Rules(None) => rules(doc, out),
+        Query::Rules(Some(target)) => rules_for(doc, target.as_bytes(), out),
+        Query::Recipes(None) => recipes(doc, out),
+        Query::Recipes(Some(target)) => recipes_for(doc, target.as_bytes(), out),
+        Query::Check => check(doc, out),
+        Query::Caveats => caveats(doc, out),
+    }
+}
+
+/// Writes what is found in a document: the lines of a query, for a person or as JSON, or a value and the
+/// end of its line.
+///
+/// # Errors
+///
+/// [`Fault::Write`] if the sink failed. A prefix is out then.
+pub fn put_found<A: Allocator, B: Allocator, W: ByteSink>(
+    found: Found<'_, B>,
+    doc: &Doc<A>,
+    out: &mut W,
+) -> Result<(), Fault>
+    requires faithful { IsFaithful doc.now }
+    requires works { W.failed out.old ≡ false }
+    ensures { (text : List ℕ) × Writes W.contents W.failed W.flushes out.old out.new result text
+        × IsSaid (found_text found.entry doc.now) text }
+{
+    match found {
+        Found::Lines(query) => put_lines(query, doc, out),
+        Found::Json(lines) => write_all(out, lines.as_slice()),
+        Found::Value(value) => write_parts(out, &[value, b"\n"]),
+    }
+}

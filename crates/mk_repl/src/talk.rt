@@ -1,0 +1,182 @@
+//! A talk: lines that are read and answered, one after the other.
+ghost use Rattle.std.specs.Prelude.{◌≡◌, List, false, true, ℕ, ⊤, IfErr, IfOk, OnOk};
+ghost use Rattle.mk_lines.specs.Device.{Writes};
+ghost use Rattle.mk_repl.specs.Talks.{IsReadReplied, IsTalk, SaysOut, greeting, too_long};
+
+use crate::line::{LineRead, MAX_LINE, read_line};
+use mk_lines::sink::write_all;
+use mk_lines::{ByteSink, ByteSource, Fault};
+use std::alloc::Allocator;
+
+/// Whether a talk goes on after a line.
+#[derive(Clone, Copy, Debug, PartialEq, Eq)]
+pub enum After {
+    /// The next line is read.
+    GoesOn,
+    /// No more is read.
+    Ends,
+}
+
+/// Somebody who replies to lines.
+pub trait Listener {
+    ghost use Rattle.mk_repl.specs.declared.talk.After.{After};
+
+    // What the listener says before the first line. The default says nothing of it.
+    ghost greets: { Self → List ℕ → Type 0 } = { λ _ _. ⊤ };
+
+    // The reply to a line that is too long. The default says nothing of it.
+    ghost turns_down: { Self → List ℕ → Type 0 } = { λ _ _. ⊤ };
+
+    // What hearing a line comes to: the listener before it, the line, the reply, whether the talk goes
+    // on, and the listener after it. The default says nothing.
+    ghost hears: { Self → List ℕ → List ℕ → After → Self → Type 0 } = { λ _ _ _ _ _. ⊤ };
+
+    /// Says what stands before the first line is read. Nothing is flushed.
+    ///
+    /// # Errors
+    ///
+    /// [`Fault::Write`] if the sink failed.
+    fn greet<W: ByteSink>(&self, out: &mut W) -> Result<(), Fault>
+        requires { W.failed out.old ≡ false }
+        ensures greeted { OnOk result (SaysOut (W.contents out.old) (W.contents out.new)
+            (greets self.now)) }
+        ensures works { OnOk result (W.failed out.new ≡ false) };
+
+    /// Replies to a line that is too long, of which the listener does not hear more. Nothing is flushed.
+    ///
+    /// # Errors
+    ///
+    /// [`Fault::Write`] if the sink failed.
+    fn turn_down<W: ByteSink>(&self, out: &mut W) -> Result<(), Fault>
+        requires { W.failed out.old ≡ false }
+        ensures turned { OnOk result (SaysOut (W.contents out.old) (W.contents out.new)
+            (turns_down self.now)) }
+        ensures works { OnOk result (W.failed out.new ≡ false) };
+
+    /// Replies to a line, of which the last may have no line feed, and says whether the talk goes on.
+    /// Nothing is flushed.
+    ///
+    /// # Errors
+    ///
+    /// [`Fault::Write`] if the sink failed.
+    fn hear<W: ByteSink>(&mut self, line: &[u8], out: &mut W) -> Result<After, Fault>
+        requires { W.failed out.old ≡ false }
+        ensures heard { IfOk result (λ after. SaysOut (W.contents out.old) (W.contents out.new)
+            (λ reply. hears self.old line.now reply after self.new)) }
+        ensures fault { IfErr result (λ fault. (fault ≡ Fault.Write) × (W.failed out.new ≡ true)) }
+        ensures works { OnOk result (W.failed out.new ≡ false) };
+}
+
+/// Writes the first line of the protocol, which has its version.
+///
+/// # Errors
+///
+/// [`Fault::Write`] if the sink failed. A prefix of the line is out then.
+pub fn write_greeting<W: ByteSink>(out: &mut W) -> Result<(), Fault>
+    requires { W.failed out.old ≡ false }
+    ensures { Writes W.contents W.failed W.flushes out.old out.new result greeting }
+{
+    write_all(out, b"mkedit session 1\n")
+}
+
+/// Writes the reply of the protocol to a line that is too long.
+///
+/// # Errors
+///
+/// [`Fault::Write`] if the sink failed. A prefix of the reply is out then.
+pub fn write_too_long<W: ByteSink>(out: &mut W) -> Result<(), Fault>
+    requires { W.failed out.old ≡ false }
+    ensures { Writes W.contents W.failed W.flushes out.old out.new result too_long }
+{
+    write_all(out, b"fault line too long\n")
+}
+
+// Has the listener say what stands before the first line, and flushes it.
+fn greet<L: Listener, W: ByteSink>(listener: &L, out: &mut W) -> Result<(), Fault>
+    requires { W.failed out.old ≡ false }
+    ensures greeted { OnOk result (SaysOut (W.contents out.old) (W.contents out.new)
+        (L.greets listener.now)) }
+    ensures works { OnOk result (W.failed out.new ≡ false) }
+{
+    listener.greet(out)?;
+    out.flush()
+}
+
+// Replies to what was read. After the last line there is no reply.
+fn hear_read<L: Listener, W: ByteSink>(
+    listener: &mut L,
+    read: LineRead,
+    line: &[u8],
+    out: &mut W,
+) -> Result<After, Fault>
+    requires { W.failed out.old ≡ false }
+    ensures replied { IfOk result (λ after. SaysOut (W.contents out.old) (W.contents out.new)
+        (λ reply. IsReadReplied L.turns_down L.hears read line.now listener.old reply after listener.new)) }
+    ensures works { OnOk result (W.failed out.new ≡ false) }
+{
+    match read {
+        LineRead::Line => listener.hear(line, out),
+        LineRead::TooLong => {
+            listener.turn_down(out)?;
+            Ok(After::GoesOn)
+        }
+        LineRead::End => Ok(After::Ends),
+    }
+}
+
+// Replies to what was read, and flushes the reply.
+fn reply<L: Listener, W: ByteSink>(
+    listener: &mut L,
+    read: LineRead,
+    line: &[u8],
+    out: &mut W,
+) -> Result<After, Fault>
+    requires { W.failed out.old ≡ false }
+    ensures replied { IfOk result (λ after. SaysOut (W.contents out.old) (W.contents out.new)
+        (λ reply. IsReadReplied L.turns_down L.hears read line.now listener.old reply after listener.new)) }
+    ensures works { OnOk result (W.failed out.new ≡ false) }
+{
+    let after = hear_read(listener, read, line, out)?;
+    out.flush()?;
+    Ok(after)
+}
+
+/// Has the listener greet, then reads line after line and has it reply, until it says that the talk
+/// ends, or until there is no line any more. After the greeting and after each reply the sink is
+/// flushed, before more is read.
+///
+/// # Errors
+///
+/// - [`Fault::NoMemory`] if there is no memory for a line; nothing is read or written then.
+/// - [`Fault::Read`] if the source answered it.
+/// - [`Fault::Write`] if the sink failed.
+/// - [`Fault::TooLong`] if a line has no end after 2^64 bytes, or if no end comes after 2^64 lines.
+pub fn converse<A, S, L, W>(
+    alloc: A,
+    source: &mut S,
+    listener: &mut L,
+    out: &mut W,
+) -> Result<(), Fault>
+where
+    A: Allocator,
+    S: ByteSource,
+    L: Listener,
+    W: ByteSink,
+    requires source_works { S.failed source.old ≡ false }
+    requires out_works { W.failed out.old ≡ false }
+    ensures talk { OnOk result (SaysOut (W.contents out.old) (W.contents out.new)
+        (λ said. IsTalk L.greets L.turns_down L.hears (S.remaining source.old) listener.old said listener.new)) }
+    ensures source { OnOk result (S.failed source.new ≡ false) }
+    ensures works { OnOk result (W.failed out.new ≡ false) }
+{
+    let mut line = Vec::with_capacity(alloc, MAX_LINE)?;
+    greet(listener, out)?;
+    for _ in 0..u64::MAX {
+        let read = read_line(source, &mut line)?;
+        match reply(listener, read, line.as_slice(), out)? {
+            After::Ends => return Ok(()),
+            After::GoesOn => {}
+        }
+    }
+    Err(Fault::TooLong)
+}

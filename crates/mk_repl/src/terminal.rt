@@ -1,0 +1,281 @@
+//! A makefile that is open at a terminal: a prompt before each line, and sentences for replies.
+ghost use Rattle.std.specs.Prelude.{◌≡◌, ◌++◌, codes, false, true, ⊤, IfErr, IfOk, OnOk};
+ghost use Rattle.mk_lines.specs.Device.{Writes};
+ghost use Rattle.mk_repl.specs.Talks.{SaysOut};
+ghost use Rattle.mk_diff.specs.PaintedDiffs.{shown_diff};
+
+use crate::desk::Desk;
+use crate::not_done::{NotDone, shown_name};
+use crate::sentences::{AS_IT_WAS, NO_MEMORY, TOO_LONG, changed_lines, mistake_sentence, sentence};
+use crate::{After, Listener, Obeyed, Request, RequestOf, RequestWord, converse, read_request};
+use mk_diff::{diff, patch_name, shown};
+use mk_lines::sink::{write_all, write_parts};
+use mk_lines::{ByteSink, ByteSource, Fault};
+use mk_session::Refusal;
+use std::mem;
+
+// Writes a text, and a prompt with this name and this mark behind it.
+fn write_prompt<'b, W: ByteSink>(
+    said: &'b [u8],
+    name: &'b [u8],
+    mark: &'b [u8],
+    out: &mut W,
+) -> Result<(), Fault>
+    requires { W.failed out.old ≡ false }
+    ensures { Writes W.contents W.failed W.flushes out.old out.new result
+        (said.now ++ (name.now ++ (mark.now ++ codes "> "))) }
+{
+    write_parts(out, &[said, name, mark, b"> "])
+}
+
+// A makefile that is open at a terminal.
+#[derive(Drop)]
+struct Terminal<'a> {
+    desk: Desk<'a>,
+    // The text as it was shown last.
+    shown: Vec<u8>,
+    // Whether a diff has colours.
+    has_color: bool,
+    // Whether a request has ended the session.
+    is_over: bool,
+}
+
+impl<'a> Terminal<'a> {
+    // The session is at its first line.
+    fn open(desk: Desk<'a>, has_color: bool) -> Result<Terminal<'a>, Fault> {
+        let shown = Vec::from_slice(desk.runtime().alloc(), desk.left())?;
+        Ok(Terminal {
+            desk,
+            shown,
+            has_color,
+            is_over: false,
+        })
+    }
+
+    // A mark where there are unwritten changes.
+    fn mark(&self) -> &'static [u8] {
+        if self.shown.as_slice() == self.desk.left() {
+            b""
+        } else {
+            b"*"
+        }
+    }
+
+    // Writes a text, and what stands before the next line.
+    fn put_prompt<W: ByteSink>(&self, said: &[u8], out: &mut W) -> Result<(), Fault>
+        requires { W.failed out.old ≡ false }
+        ensures said { OnOk result (SaysOut (W.contents out.old) (W.contents out.new) (λ _. ⊤)) }
+        ensures fault { IfErr result (λ fault. (fault ≡ Fault.Write) × (W.failed out.new ≡ true)) }
+        ensures works { OnOk result (W.failed out.new ≡ false) }
+    {
+        write_prompt(said, shown_name(self.desk.name()), self.mark(), out)
+    }
+
+    // The sentence on a request that is not done. A file is shown by this name.
+    fn sentence(&self, not_done: NotDone, name: &[u8]) -> Result<Vec<u8>, NotDone> {
+        Ok(sentence(self.desk.runtime().alloc(), not_done, name)?)
+    }
+
+    // A diff as it is shown.
+    fn diff_shown(&self, diff: Vec<u8>) -> Result<Vec<u8>, NotDone>
+        ensures { IfOk result (λ text. text.items ≡ shown_diff self.now.has_color diff.items) }
+    {
+        match shown(self.desk.runtime().alloc(), diff, self.has_color) {
+            Ok(text) => Ok(text),
+            Err(_) => Err(NotDone::NoMemory),
+        }
+    }
+
+    // The lines of a diff that were taken out and put in, as they are shown.
+    fn changes_of(&self, diff: Vec<u8>) -> Result<Vec<u8>, NotDone> {
+        let alloc = self.desk.runtime().alloc();
+        let plain = Vec::from_slice(alloc, diff.as_slice())?;
+        let shown = self.diff_shown(diff)?;
+        Ok(changed_lines(alloc, plain.as_slice(), shown.as_slice())?)
+    }
+
+    // What has changed since the text was shown last, of which no more is said from now on.
+    fn change(&mut self) -> Result<Vec<u8>, NotDone> {
+        let alloc = self.desk.runtime().alloc();
+        let text = self.desk.text()?;
+        let shown = mem::replace(&mut self.shown, text);
+        let name = patch_name(self.desk.name().as_bytes());
+        match diff(alloc, shown.as_slice(), self.shown.as_slice(), name) {
+            Ok(diff) => self.changes_of(diff),
+            Err(_) => Err(NotDone::NoMemory),
+        }
+    }
+
+    // What a command that was done has changed.
+    fn done(&mut self) -> Result<Vec<u8>, NotDone> {
+        let changed = self.change()?;
+        if changed.is_empty() {
+            return Ok(Vec::from_slice(self.desk.runtime().alloc(), AS_IT_WAS)?);
+        }
+        Ok(changed)
+    }
+
+    // That a file is written.
+    fn written(&self, name: &[u8]) -> Result<Vec<u8>, NotDone> {
+        let mut said = Vec::from_slice(self.desk.runtime().alloc(), name)?;
+        said.extend_from_slice(b" is written.\n")?;
+        Ok(said)
+    }
+
+    // The answer to a request, and a line end behind it where it has none.
+    fn answer(&mut self, request: Request<'_>) -> Result<Vec<u8>, NotDone> {
+        let asked = self.desk.ask(request);
+        self.is_over = asked.after == After::Ends;
+        let mut text = asked.answer?;
+        match request {
+            Request::Word(RequestWord::Write | RequestWord::WriteAnyway)
+            | Request::Of(RequestOf::Write, _) => self.written(self.desk.shown_in(request)),
+            Request::Word(RequestWord::Revert) => self.done(),
+            Request::Word(RequestWord::Diff) => self.diff_shown(text),
+            _ => {
+                if !matches!(text.last(), None | Some(b'\n')) {
+                    text.extend_from_slice(b"\n")?;
+                }
+                Ok(text)
+            }
+        }
+    }
+
+    // What is said of a request. What one has undone that is not done is shown too.
+    fn said_of(&mut self, request: Request<'_>) -> Result<Vec<u8>, NotDone> {
+        match self.answer(request) {
+            Ok(text) => Ok(text),
+            Err(not_done) => {
+                let mut said = self.change()?;
+                let sentence = self.sentence(not_done, self.desk.shown_in(request))?;
+                said.extend_from_slice(sentence.as_slice())?;
+                Ok(said)
+            }
+        }
+    }
+
+    // That a line is neither a command nor a request, and what is wrong with it as a command.
+    fn no_command(&self, line: &[u8]) -> Result<Vec<u8>, NotDone> {
+        let mut said = self.sentence(NotDone::NotACommand, b"")?;
+        let mistake = mistake_sentence(self.desk.runtime().alloc(), line)?;
+        said.extend_from_slice(mistake.as_bytes())?;
+        Ok(said)
+    }
+
+    // What is said of a line that is no command.
+    fn said_of_other(&mut self, line: &[u8]) -> Result<Vec<u8>, NotDone> {
+        match read_request(line) {
+            Some(request) => self.said_of(request),
+            None => self.no_command(line),
+        }
+    }
+
+    // What is said of a line.
+    fn said(&mut self, line: &[u8]) -> Result<Vec<u8>, NotDone> {
+        match self.desk.obey(line) {
+            Obeyed::Done => self.done(),
+            Obeyed::Refused(Refusal::NoMemory) => Err(NotDone::NoMemory),
+            Obeyed::Refused(refusal) => self.sentence(NotDone::Refused(refusal), b""),
+            Obeyed::Nothing => Ok(Vec::new(self.desk.runtime().alloc())),
+            Obeyed::NoCommand => self.said_of_other(line),
+        }
+    }
+
+    // Says what is to be said of a line, and the next prompt if the session goes on.
+    fn put_said<W: ByteSink>(
+        &self,
+        said: Result<Vec<u8>, NotDone>,
+        out: &mut W,
+    ) -> Result<After, Fault>
+        requires { W.failed out.old ≡ false }
+        ensures said { OnOk result (SaysOut (W.contents out.old) (W.contents out.new) (λ _. ⊤)) }
+        ensures fault { IfErr result (λ fault. (fault ≡ Fault.Write) × (W.failed out.new ≡ true)) }
+        ensures works { OnOk result (W.failed out.new ≡ false) }
+    {
+        let text = text_said(&said);
+        if self.is_over {
+            write_all(out, text)?;
+            return Ok(After::Ends);
+        }
+        self.put_prompt(text, out)?;
+        Ok(After::GoesOn)
+    }
+
+    // The key that ends the input was pressed, which is `quit`.
+    fn end<W: ByteSink>(&mut self, out: &mut W) -> Result<(), Fault>
+        requires { W.failed out.old ≡ false }
+        ensures works { OnOk result (W.failed out.new ≡ false) }
+    {
+        let said = self.said_of(Request::Word(RequestWord::Quit));
+        write_parts(out, &[b"\n", text_said(&said)])?;
+        out.flush()
+    }
+}
+
+// What is to be said, or that there is no memory for it.
+fn text_said(said: &Result<Vec<u8>, NotDone>) -> &[u8] {
+    match said {
+        Ok(text) => text.as_slice(),
+        Err(_) => NO_MEMORY.as_bytes(),
+    }
+}
+
+impl Listener for Terminal<'_> {
+    fn greet<W: ByteSink>(&self, out: &mut W) -> Result<(), Fault> {
+        self.put_prompt(b"", out)
+    }
+
+    fn turn_down<W: ByteSink>(&self, out: &mut W) -> Result<(), Fault> {
+        self.put_prompt(TOO_LONG, out)
+    }
+
+    fn hear<W: ByteSink>(&mut self, line: &[u8], out: &mut W) -> Result<After, Fault> {
+        let said = self.said(line);
+        self.put_said(said, out)
+    }
+}
+
+// Replies to the lines of a source up to its end, which is a `quit`, or up to another one.
+fn converse_once<S: ByteSource, W: ByteSink>(
+    terminal: &mut Terminal<'_>,
+    source: &mut S,
+    out: &mut W,
+) -> Result<(), Fault>
+    requires source_works { S.failed source.old ≡ false }
+    requires out_works { W.failed out.old ≡ false }
+    ensures source { OnOk result (S.failed source.new ≡ false) }
+    ensures works { OnOk result (W.failed out.new ≡ false) }
+{
+    converse(terminal.desk.runtime().alloc(), source, terminal, out)?;
+    if terminal.is_over {
+        return Ok(());
+    }
+    terminal.end(out)?;
+    Ok(())
+}
+
+/// Replies at a terminal to the lines of a source, also behind an end of it that is a `quit` which is
+/// not done. What changes is shown in colours or not. The session is not given up: the program ends soon.
+///
+/// # Errors
+///
+/// Those of [`converse`], and [`Fault::NoMemory`] if there is none for the text that is shown.
+pub fn converse_at_terminal<S: ByteSource, W: ByteSink>(
+    desk: Desk<'_>,
+    has_color: bool,
+    source: &mut S,
+    out: &mut W,
+) -> Result<(), Fault>
+    requires source_works { S.failed source.old ≡ false }
+    requires out_works { W.failed out.old ≡ false }
+{
+    let mut terminal = Terminal::open(desk, has_color)?;
+    for _ in 0..u64::MAX {
+        converse_once(&mut terminal, source, out)?;
+        if terminal.is_over {
+            mem::forget(terminal);
+            return Ok(());
+        }
+    }
+    Err(Fault::TooLong)
+}

@@ -1,6 +1,0 @@
--- What is left of the answer becomes shorter.
-use Rattle.std.proofs.Common.{length}
-use Rattle.mkedit.proofs.session.text_lines.text_lines.Given as goal
-
-abbrev pub decreases-lines : goal.decreases-lines
-decreases-lines g l = length l.rest
