@@ -134,6 +134,7 @@ class Devices(RoomCase):
             reader, writer = os.pipe()
             os.close(reader)
             self.assert_run(silent(0), query, "queried", stdout=writer)
+            self.assert_run(silent(0), query, "--notes", "queried", stdout=writer)
             os.close(writer)
 
     def test_a_refused_script_needs_no_output(self):

@@ -311,7 +311,8 @@ class Session(RoomCase):
         talk = self.talk("Makefile")
         self.assert_replies(talk, ("set CC clang", "ok"), ("quit", UNWRITTEN))
         self.assertEqual(talk.answer("print"), b"CC = clang # c\n")
-        self.assert_replies(talk, ("quit", UNWRITTEN), ("# no reply\nquit", "ok"))
+        self.assert_replies(talk, ("quit", UNWRITTEN), ("qiut", "fault not a command"), ("quit", UNWRITTEN))
+        self.assert_replies(talk, ("# no reply\nquit", "ok"))
         self.assertEqual(talk.end(), Outcome(b"", b"", 0))
 
     def test_quit_ends_where_nothing_is_unwritten(self):

@@ -23,6 +23,7 @@ PLAIN = {"NO_COLOR": "1"}
 PAINTED = b"\x1b[31m-CC = gcc # c\x1b[0m\n\x1b[32m+CC = clang # c\x1b[0m\nMakefile*> "
 UNPAINTED = b"-CC = gcc # c\n+CC = clang # c\nMakefile*> "
 UNWRITTEN = b"There are unwritten changes: `write` writes them, and `quit` once more drops them.\n"
+NO_COMMAND = b"This is no command and no request; `help` lists them.\n"
 
 
 def prepare():
@@ -145,13 +146,12 @@ class Terminal(RoomCase):
     def test_faults_are_sentences(self):
         user = self.at_terminal("-d", "1", "Makefile")
         user.shown(b"> ")
-        no_command = b"This is no command and no request; `help` lists them.\n"
         self.assert_said(
             user,
-            (b"frobnicate\n", no_command + b"Makefile> "),
-            (b"ste CC gcc\n", no_command + b"Column 1: there is no such command; the nearest is `set`\nMakefile> "),
-            (b" set CC\n", no_command + b"Column 8: VALUE is missing\nMakefile> "),
-            (b"help set it\n", no_command + b"Makefile> "),
+            (b"frobnicate\n", NO_COMMAND + b"Makefile> "),
+            (b"ste CC gcc\n", NO_COMMAND + b"Column 1: there is no such command; the nearest is `set`\nMakefile> "),
+            (b" set CC\n", NO_COMMAND + b"Column 8: VALUE is missing\nMakefile> "),
+            (b"help set it\n", NO_COMMAND + b"Makefile> "),
             (b"help frobnicate\n", b"No command of a script has this word.\nMakefile> "),
             (b"write no/such\n", b"no/such cannot be written.\nMakefile> "),
         )
@@ -179,6 +179,7 @@ class Terminal(RoomCase):
         user.shown(b"> ")
         user.types(b"set CC clang\n")
         self.assert_said(user, (b"quit\n", UNWRITTEN + b"Makefile*> "), (b"print\n", b"CC = clang # c\nMakefile*> "))
+        self.assert_said(user, (b"quit\n", UNWRITTEN + b"Makefile*> "), (b"qiut\n", NO_COMMAND + b"Makefile*> "))
         self.assert_said(user, (b"quit\n", UNWRITTEN + b"Makefile*> "))
         os.write(user.side, b"quit\n")
         self.assertEqual(user.status(), 0)

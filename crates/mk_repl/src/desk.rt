@@ -475,6 +475,14 @@ impl<'a> Desk<'a> {
         obeyed
     }
 
+    /// Takes note of a line that is neither a command nor a request: a `quit` behind it is the first one.
+    pub(crate) fn forget_quit(&mut self)
+        ensures session { self.new.session ≡ self.old.session }
+        ensures opened { self.new.opened ≡ self.old.opened }
+    {
+        self.is_warned = false;
+    }
+
     /// The name by which a reply to a request shows a file: that of the makefile, or of the file that the
     /// request names.
     pub fn shown_in<'b>(&self, request: Request<'b>) -> &'b [u8]

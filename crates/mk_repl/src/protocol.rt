@@ -61,6 +61,7 @@ impl Desk<'_> {
         ensures works { OnOk result (W.failed out.new ≡ false) }
     {
         let Some(request) = read_request(line) else {
+            self.forget_quit();
             put_fault(NotDone::NotACommand, shown_name(self.name()), out)?;
             return Ok(After::GoesOn);
         };

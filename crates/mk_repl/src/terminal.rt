@@ -166,7 +166,10 @@ impl<'a> Terminal<'a> {
     fn said_of_other(&mut self, line: &[u8]) -> Result<Vec<u8>, NotDone> {
         match read_request(line) {
             Some(request) => self.said_of(request),
-            None => self.no_command(line),
+            None => {
+                self.desk.forget_quit();
+                self.no_command(line)
+            }
         }
     }
 

@@ -233,7 +233,8 @@ struct Asked<'a> {
     is_left: bool,
 }
 
-// How a query ended with this outcome, of a makefile that is called by this name.
+// How a query ended with this outcome, of a makefile that is called by this name. That nobody reads the
+// output any more is no fault.
 fn end_of_query<'a, R, W>(
     outcome: Outcome,
     name: &'a str,
@@ -241,10 +242,14 @@ fn end_of_query<'a, R, W>(
     out: &WithError<W>,
 ) -> Asked<'a> {
     let is_left = matches!(out.error(), Some(ErrorKind::BrokenPipe));
-    let end = End::of(query_outcome(outcome, is_left))
-        .with_fault(makefile.fault(name))
-        .with_fault(out.fault(STANDARD_OUTPUT));
-    Asked { end, is_left }
+    let end = End::of(query_outcome(outcome, is_left)).with_fault(makefile.fault(name));
+    if is_left {
+        return Asked { end, is_left };
+    }
+    Asked {
+        end: end.with_fault(out.fault(STANDARD_OUTPUT)),
+        is_left,
+    }
 }
 
 // Answers on standard output. The makefile is called by this name in notes; where there is a prefix,
