@@ -1,7 +1,8 @@
 """What is said of each command of a script, read from its one source, and the forms in which the documents have it.
 
-The commands and their texts stand in crates/mk_cli/src/command_texts.rt, as the program prints them: what
-the command does, its refusals, and an example, with an empty line between the three.
+The table of commands stands in crates/mk_script/src/table.rt, and the texts in crates/mk_cli/src/command_texts.rt,
+as the program prints them: what the command does, its refusals, and an example, with an empty line between the
+three.
 """
 
 import re
@@ -12,9 +13,11 @@ import mdoc
 from refusals import CONSTANT, ESCAPE, ESCAPED, cell, on_one_line, outdented
 
 TOP = Path(__file__).resolve().parent.parent
+TABLE = "crates/mk_script/src/table.rt"
 TEXTS = "crates/mk_cli/src/command_texts.rt"
 
-# A command's form, and the constant that has its text.
+# A command's form; its word, and the constant that has its text.
+FORM = re.compile(r'^ +CommandForm\("(.*)", CommandKind::\w+\),$', re.M)
 ROW = re.compile(r'^ +\("(.*)", ([A-Z_]+)\),$', re.M)
 PARTS = re.compile(
     r"(.*?)\n\nIs refused with (.*?)\.\n\nExample: over\n(.*?)\nthe script\n(.*?)\nmakes\n(.*)\n", re.S
@@ -60,13 +63,14 @@ def command_of(form, text):
 
 
 def commands(top=TOP):
-    """All commands, in the order of the program. A ValueError says what the source has in another form."""
+    """All commands, in the order of the table. A ValueError says what the sources have in another form."""
+    forms = FORM.findall((top / TABLE).read_text(encoding="utf-8"))
     source = (top / TEXTS).read_text(encoding="utf-8")
     texts = {name: ESCAPE.sub(lambda it: ESCAPED[it[1]], text) for name, text in CONSTANT.findall(source)}
-    rows = ROW.findall(source)
-    if sorted(texts) != sorted(name for _, name in rows):
-        raise ValueError(f"{TEXTS} has not one text for each command")
-    return [command_of(form, texts[name]) for form, name in rows]
+    rows = dict(ROW.findall(source))
+    if sorted(texts) != sorted(rows.values()) or [*rows] != [it.split()[0] for it in forms]:
+        raise ValueError(f"{TEXTS} has not one text for each command of {TABLE}")
+    return [command_of(form, texts[rows[form.split()[0]]]) for form in forms]
 
 
 def table(found):

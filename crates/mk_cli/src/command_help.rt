@@ -1,9 +1,10 @@
 //! What `mkedit help` says of a command of a script: its form, what it does, its refusals and an example.
 ghost use Rattle.std.specs.Prelude.{◌≡◌, false, true, IfErr, OnOk};
 
-use crate::command_texts::COMMANDS;
+use crate::command_texts::TEXTS;
 use mk_lines::sink::write_parts;
 use mk_lines::{ByteSink, Fault};
+use mk_script::table::command_form;
 
 /// What is said of a command of a script.
 #[derive(Clone, Copy)]
@@ -16,9 +17,13 @@ pub struct CommandHelp {
 
 /// What is said of the command of a script that has this word, if one has.
 pub fn command_called(word: &str) -> Option<CommandHelp> {
-    for (form, text) in COMMANDS {
-        if form.split(' ').next() == Some(word) {
-            return Some(CommandHelp { form, text });
+    let command = command_form(word.as_bytes())?;
+    for (known, text) in TEXTS {
+        if known == word {
+            return Some(CommandHelp {
+                form: command.0,
+                text,
+            });
         }
     }
     None

@@ -1,11 +1,14 @@
 //! The note on a line of a script that is no command: where in the line a mistake is, and what is wrong.
 
-use mk_script::{FieldName, Mistake, MistakeCause, mistake_at, nearest_at};
+use mk_script::{Mistake, MistakeCause, mistake_at, nearest_at};
 use std::alloc::AllocError;
 use std::fmt;
 
 /// What the lines of the command line are called, where they are the script.
 pub const COMMAND_LINES: &str = "-e";
+
+// What the table of commands calls a whole command, where it is the field of another one.
+const COMMAND: &str = "COMMAND";
 
 /// What is wrong with a line of a script that is no command. It is shown in words, with the nearest
 /// command.
@@ -25,10 +28,11 @@ pub struct ScriptMistake<'a> {
 
 impl fmt::Display for ScriptMistake<'_> {
     fn fmt<W: fmt::Write>(&self, f: &mut fmt::Formatter<W>) -> fmt::Result {
+        let field = missing_field(self.mistake.cause);
         let said = said_of(self.mistake.cause);
         match self.nearest {
             Some(word) => write!(f, "{said}; the nearest is `{word}`"),
-            None => write!(f, "{said}"),
+            None => write!(f, "{field}{said}"),
         }
     }
 }
@@ -49,31 +53,19 @@ pub fn script_mistake<'a>(script: &'a str, text: &[u8], line: u64) -> Option<Scr
     })
 }
 
-// What is said of a field that is missing.
-fn missing_field(name: FieldName) -> &'static str {
-    match name {
-        FieldName::Command => "a command is missing",
-        FieldName::Nth => "N is missing",
-        FieldName::Place => "PLACE is missing",
-        FieldName::Name => "NAME is missing",
-        FieldName::Operator => "OP is missing",
-        FieldName::Value => "VALUE is missing",
-        FieldName::Word => "WORD is missing",
-        FieldName::Target => "TARGET is missing",
-        FieldName::Targets => "TARGETS is missing",
-        FieldName::Separator => "SEP is missing",
-        FieldName::Prerequisites => "PREREQS is missing",
-        FieldName::Number => "K is missing",
-        FieldName::Line => "LINE is missing",
-        FieldName::Old => "OLD is missing",
-        FieldName::New => "NEW is missing",
+// The name of the field that is missing, before the words on it, if one is.
+fn missing_field(cause: MistakeCause) -> &'static str {
+    match cause {
+        MistakeCause::Missing(name) if name != COMMAND => name,
+        _ => "",
     }
 }
 
 // What is wrong, in words.
 fn said_of(cause: MistakeCause) -> &'static str {
     match cause {
-        MistakeCause::Missing(name) => missing_field(name),
+        MistakeCause::Missing(name) if name == COMMAND => "a command is missing",
+        MistakeCause::Missing(_) => " is missing",
         MistakeCause::TooMany =>
             "no field may follow here; a field with blanks stands between double quotes",
         MistakeCause::OpenQuote => "the quote is not closed",

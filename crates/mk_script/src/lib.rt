@@ -16,6 +16,7 @@
 //! - [`script`]: the steps of a script, from its lines.
 //! - [`spelling`]: words that are spelled alike.
 //! - [`step`]: the steps of a script.
+//! - [`table`]: the table of commands.
 //! - [`word`]: the words that commands are known by.
 //!
 //! A script does not say whether a field may stand in its edit, such as a name or a value: an edit
@@ -33,9 +34,10 @@ mod number;
 pub mod script;
 pub mod spelling;
 pub mod step;
+pub mod table;
 mod word;
 
-pub use mistake::{FieldName, Mistake, MistakeCause, mistake_at, nearest_at};
+pub use mistake::{Mistake, MistakeCause, mistake_at, nearest_at};
 pub use mk_command::Command;
 pub use script::{ScriptFault, parse_script};
 pub use step::{Chain, NumberedCommand, NumberedEdit, Step};

@@ -8,51 +8,15 @@ use crate::field::Field;
 use crate::fields::{after_blanks, bare_len, first_field, is_blank, is_special, split_at_quote};
 use crate::number::number_of;
 use crate::spelling::nearest_command;
-use crate::word::{EditWord, PlaceWord, call, edit_word, flavor, place_word, rule_separator};
+use crate::table::{CommandForm, CommandKind, command_form};
+use crate::word::{PlaceWord, flavor, place_word, rule_separator};
 use bstr::ByteSlice;
-use mk_command::Command;
-use std::alloc::Global;
-
-/// What a field of a command says.
-#[derive(Clone, Copy, Debug, PartialEq, Eq)]
-pub enum FieldName {
-    /// The word of a command.
-    Command,
-    /// N, the number behind `nth`.
-    Nth,
-    /// PLACE, of a new line.
-    Place,
-    /// NAME, of a variable.
-    Name,
-    /// OP.
-    Operator,
-    /// VALUE.
-    Value,
-    /// WORD.
-    Word,
-    /// TARGET.
-    Target,
-    /// TARGETS, of a new rule.
-    Targets,
-    /// SEP.
-    Separator,
-    /// PREREQS, of a new rule.
-    Prerequisites,
-    /// K, the number of a recipe line.
-    Number,
-    /// LINE, of a recipe.
-    Line,
-    /// OLD, the text or the name that is there.
-    Old,
-    /// NEW, a name.
-    New,
-}
 
 /// What is wrong with a line that is no command.
 #[derive(Clone, Copy, Debug, PartialEq, Eq)]
 pub enum MistakeCause {
-    /// The line ends, and this field should follow.
-    Missing(FieldName),
+    /// The line ends, and the field of this name should follow, as the table of commands has it.
+    Missing(&'static str),
     /// The command has all its fields, and another one follows.
     TooMany,
     /// A double quote begins a field, and none ends it.
@@ -131,7 +95,7 @@ fn quotes_fault(opened: &[u8]) -> Fault {
 }
 
 // The field of this name at the front of a text, and what follows it.
-fn field_at(name: FieldName, text: &[u8]) -> Result<(Field<'_>, &[u8]), Fault> {
+fn field_at<'a>(name: &'static str, text: &'a [u8]) -> Result<(Field<'a>, &'a [u8]), Fault> {
     match first_field(text) {
         Ok(found) => Ok(found),
         Err(_) if is_blank(text) => Err(Fault::at_field(text, MistakeCause::Missing(name))),
@@ -140,21 +104,20 @@ fn field_at(name: FieldName, text: &[u8]) -> Result<(Field<'_>, &[u8]), Fault> {
 }
 
 // What is wrong with a field of this name, alone.
-fn cause_of(name: FieldName, field: Field<'_>) -> Option<MistakeCause> {
-    match name {
-        FieldName::Nth | FieldName::Number if number_of(field).is_err() => {
-            Some(MistakeCause::NotANumber)
-        }
-        FieldName::Operator if flavor(field).is_none() => Some(MistakeCause::UnknownOperator),
-        FieldName::Separator if rule_separator(field).is_none() => {
-            Some(MistakeCause::UnknownSeparator)
-        }
-        _ => None,
+fn cause_of(name: &str, field: Field<'_>) -> Option<MistakeCause> {
+    if (name == "N" || name == "K") && number_of(field).is_err() {
+        Some(MistakeCause::NotANumber)
+    } else if name == "OP" && flavor(field).is_none() {
+        Some(MistakeCause::UnknownOperator)
+    } else if name == "SEP" && rule_separator(field).is_none() {
+        Some(MistakeCause::UnknownSeparator)
+    } else {
+        None
     }
 }
 
 // What follows the field of this name at the front of a text.
-fn after_field(name: FieldName, text: &[u8]) -> Result<&[u8], Fault> {
+fn after_field<'a>(name: &'static str, text: &'a [u8]) -> Result<&'a [u8], Fault> {
     let (field, rest) = field_at(name, text)?;
     match cause_of(name, field) {
         None => Ok(rest),
@@ -164,42 +127,15 @@ fn after_field(name: FieldName, text: &[u8]) -> Result<&[u8], Fault> {
 
 // What follows the place at the front of a text.
 fn after_place(is_numbered: bool, text: &[u8]) -> Result<&[u8], Fault> {
-    let (word, rest) = field_at(FieldName::Place, text)?;
+    let (word, rest) = field_at("PLACE", text)?;
     match place_word(word) {
         None => Err(Fault::at_field(text, MistakeCause::UnknownPlace)),
         Some(PlaceWord::Bottom) if is_numbered => {
             Err(Fault::at_field(text, MistakeCause::NthBottom))
         }
         Some(PlaceWord::Bottom) => Ok(rest),
-        Some(PlaceWord::BeforeVar | PlaceWord::AfterVar) => after_field(FieldName::Name, rest),
-        Some(PlaceWord::BeforeRule) => after_field(FieldName::Target, rest),
-    }
-}
-
-// The names of the fields that follow an edit's word, and its place if it has one.
-fn fields_of(word: EditWord) -> &'static [FieldName] {
-    match word {
-        EditWord::Set | EditWord::Append => &[FieldName::Name, FieldName::Value],
-        EditWord::Add | EditWord::Drop => &[FieldName::Name, FieldName::Word],
-        EditWord::Unset => &[FieldName::Name],
-        EditWord::Assign => &[FieldName::Name, FieldName::Operator, FieldName::Value],
-        EditWord::Rule => &[
-            FieldName::Targets,
-            FieldName::Separator,
-            FieldName::Prerequisites,
-        ],
-        EditWord::Unrule => &[FieldName::Target],
-        EditWord::Depend | EditWord::DependOrder | EditWord::Undepend => {
-            &[FieldName::Target, FieldName::Word]
-        }
-        EditWord::Recipe => &[FieldName::Target, FieldName::Line],
-        EditWord::RecipeSet | EditWord::RecipeInsert => {
-            &[FieldName::Target, FieldName::Number, FieldName::Line]
-        }
-        EditWord::RecipeDel => &[FieldName::Target, FieldName::Number],
-        EditWord::RecipeReplace => &[FieldName::Target, FieldName::Old, FieldName::Line],
-        EditWord::RecipeRemove => &[FieldName::Target, FieldName::Old],
-        EditWord::Rename => &[FieldName::Old, FieldName::New],
+        Some(PlaceWord::BeforeVar | PlaceWord::AfterVar) => after_field("NAME", rest),
+        Some(PlaceWord::BeforeRule) => after_field("TARGET", rest),
     }
 }
 
@@ -212,73 +148,66 @@ fn check_end(text: &[u8]) -> Result<(), Fault> {
     }
 }
 
-// Whether a text is what may follow an edit's word.
-fn check_fields(word: EditWord, is_numbered: bool, text: &[u8]) -> Result<(), Fault> {
+// Whether a text is what may follow the word of a command: its fields, which the row of the table has behind
+// the word. `is_numbered` says whether `nth` and a number stand before it.
+fn check_fields(command: CommandForm, is_numbered: bool, text: &[u8]) -> Result<(), Fault> {
+    let mut names = command.0.split(' ');
+    names.next();
     let mut rest = text;
-    if matches!(word, EditWord::Assign | EditWord::Rule) {
-        rest = after_place(is_numbered, rest)?;
-    }
-    for name in fields_of(word) {
-        rest = after_field(*name, rest)?;
+    for name in names {
+        rest = if name == "PLACE" {
+            after_place(is_numbered, rest)?
+        } else {
+            after_field(name, rest)?
+        };
     }
     check_end(rest)
 }
 
-// Whether a word stands for a call that has no edit.
-fn is_call(word: Field<'_>) -> bool {
-    let call: Option<Command<Global>> = call(word);
-    call.is_some()
-}
-
-// Whether commands begin with this word.
-fn is_command_word(word: Field<'_>) -> bool {
-    let is_prefix = word.is(b"nth") || word.is(b"all") || word.is(b"try") || word.is(b"or");
-    is_prefix || is_call(word) || edit_word(word).is_some()
-}
-
-// What is wrong with the word at the front of a text, which may not stand there: this, if commands begin
-// with it.
-fn misplaced(word: Field<'_>, text: &[u8], cause: MistakeCause) -> Fault {
-    if is_command_word(word) {
-        Fault::at_field(text, cause)
-    } else {
-        Fault::at_field(text, MistakeCause::UnknownCommand)
+// The command that the word at the front of a text begins.
+fn command_at(word: Field<'_>, text: &[u8]) -> Result<CommandForm, Fault> {
+    match command_form(word.written()) {
+        Some(command) => Ok(command),
+        None => Err(Fault::at_field(text, MistakeCause::UnknownCommand)),
     }
 }
 
 // Whether a text is what may follow `nth`.
 fn check_numbered(text: &[u8]) -> Result<(), Fault> {
-    let text = after_field(FieldName::Nth, text)?;
-    let (word, rest) = field_at(FieldName::Command, text)?;
-    match edit_word(word) {
-        None | Some(EditWord::Rename) => Err(misplaced(word, text, MistakeCause::NotAfterNth)),
-        Some(edit) => check_fields(edit, true, rest),
+    let text = after_field("N", text)?;
+    let (word, rest) = field_at("COMMAND", text)?;
+    let command = command_at(word, text)?;
+    match command.1 {
+        CommandKind::ValueEdit | CommandKind::NumberedEdit => check_fields(command, true, rest),
+        _ => Err(Fault::at_field(text, MistakeCause::NotAfterNth)),
     }
 }
 
 // Whether a text is what may follow `all`.
 fn check_all(text: &[u8]) -> Result<(), Fault> {
-    let (word, rest) = field_at(FieldName::Command, text)?;
-    match edit_word(word) {
-        Some(edit @ (EditWord::Set | EditWord::Append | EditWord::Add | EditWord::Drop)) => {
-            check_fields(edit, false, rest)
-        }
-        _ => Err(misplaced(word, text, MistakeCause::NotAfterAll)),
+    let (word, rest) = field_at("COMMAND", text)?;
+    let command = command_at(word, text)?;
+    match command.1 {
+        CommandKind::ValueEdit => check_fields(command, false, rest),
+        _ => Err(Fault::at_field(text, MistakeCause::NotAfterAll)),
     }
 }
 
-// Whether a text is an edit's command, from its first field and what follows it. A word with which other
-// commands begin has this cause.
-fn check_edit(text: &[u8], word: Field<'_>, rest: &[u8], cause: MistakeCause) -> Result<(), Fault> {
+// Whether a text is an edit's command.
+fn check_edit(text: &[u8]) -> Result<(), Fault> {
+    let (word, rest) = field_at("COMMAND", text)?;
     if word.is(b"nth") {
         return check_numbered(rest);
     }
     if word.is(b"all") {
         return check_all(rest);
     }
-    match edit_word(word) {
-        None => Err(misplaced(word, text, cause)),
-        Some(edit) => check_fields(edit, false, rest),
+    let command = command_at(word, text)?;
+    match command.1 {
+        CommandKind::Call | CommandKind::Prefix => {
+            Err(Fault::at_field(text, MistakeCause::NotAfterTry))
+        }
+        _ => check_fields(command, false, rest),
     }
 }
 
@@ -287,14 +216,13 @@ fn check_line(line: &[u8]) -> Result<(), Fault> {
     if is_skipped(line) {
         return Ok(());
     }
-    let (word, rest) = field_at(FieldName::Command, line)?;
+    let (word, rest) = field_at("COMMAND", line)?;
     if word.is(b"try") || word.is(b"or") {
-        let (word, after) = field_at(FieldName::Command, rest)?;
-        check_edit(rest, word, after, MistakeCause::NotAfterTry)
-    } else if is_call(word) {
-        check_end(rest)
-    } else {
-        check_edit(line, word, rest, MistakeCause::UnknownCommand)
+        return check_edit(rest);
+    }
+    match command_form(word.written()) {
+        Some(call @ CommandForm(_, CommandKind::Call)) => check_fields(call, false, rest),
+        _ => check_edit(line),
     }
 }
 

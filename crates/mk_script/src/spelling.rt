@@ -1,10 +1,6 @@
 //! Words that are spelled alike: what somebody may have meant who wrote a word that is none.
 
-// The words with which commands begin. Of several that are spelled like a word the first is meant.
-const COMMAND_WORDS: &str =
-    "set append add drop unset assign rule unrule depend depend-order undepend \
-    recipe recipe-set recipe-del recipe-insert recipe-replace recipe-remove rename nth all try or \
-    undo redo begin end cancel";
+use crate::table::COMMANDS;
 
 // What a text has behind its first bytes, of which there are so many.
 fn behind(text: &[u8], count: usize) -> &[u8] {
@@ -39,11 +35,12 @@ pub fn are_alike(one: &[u8], other: &[u8]) -> bool {
         || is_exchanged(one, other)
 }
 
-/// The first word with which commands begin that is spelled like this word, if there is one.
+/// The first word with which commands begin that is spelled like this word, if there is one. Of several the
+/// first of the table is meant.
 pub fn nearest_command(word: &[u8]) -> Option<&'static str> {
-    for known in COMMAND_WORDS.split(' ') {
-        if are_alike(word, known.as_bytes()) {
-            return Some(known);
+    for command in COMMANDS {
+        if are_alike(word, command.word().as_bytes()) {
+            return Some(command.word());
         }
     }
     None
