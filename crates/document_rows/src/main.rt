@@ -5,7 +5,7 @@
 //! - [`devices`]: a reader and a writer whose calls end as a text says.
 //! - [`classes`]: `mk_class`.
 //! - [`documents`]: `mk_tree`.
-//! - [`views`]: `mk_views` and `mk_listing`.
+//! - [`views`]: `mk_tree::views` and `mk_listing`.
 //! - [`queries`]: `mk_queries`.
 //! - [`json`]: `mk_json`.
 //! - [`diffs`]: `mk_diff`.

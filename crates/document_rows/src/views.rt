@@ -3,8 +3,7 @@
 use crate::documents::document;
 use mk_lines::Fault;
 use mk_listing::{RuleLine, assignments, assignments_of, line_at, numbered, rules, rules_for};
-use mk_tree::Line;
-use mk_views::{AssignmentRef, LineViews, RuleRef, WordTexts, text_of};
+use mk_tree::{AssignmentRef, Line, RuleRef, WordTexts, text_of};
 use std::alloc::{AllocError, Global};
 use std::fmt::{Debug, Write as _};
 use test_support::Case;

@@ -1,9 +1,8 @@
 //! The conditionals that are open at a line.
 
 use mk_listing::Position;
-use mk_tree::Line;
 use mk_tree::part::text_of_line;
-use mk_views::{Conditional, LineViews};
+use mk_tree::{Conditional, Line};
 use std::alloc::{AllocError, Allocator};
 
 /// A line of a conditional.

@@ -8,7 +8,7 @@ ghost use Rattle.mk_json.specs.TextLines.{base64_tokens, text_tokens};
 use crate::conditional::{ConditionalLine, OpenConditional};
 use base64::engine::general_purpose::STANDARD;
 use json::Writer;
-use mk_views::WordTexts;
+use mk_tree::WordTexts;
 use std::alloc::{AllocError, Allocator};
 use std::str::from_utf8;
 

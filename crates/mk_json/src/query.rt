@@ -7,8 +7,7 @@ use crate::object::Object;
 use mk_class::{Class, Separator};
 use mk_listing::{Rules, numbered};
 use mk_queries::{Caveat, line_caveats};
-use mk_tree::Doc;
-use mk_views::{AssignmentRef, LineViews, WordTexts};
+use mk_tree::{AssignmentRef, Doc, WordTexts};
 use std::alloc::{AllocError, Allocator};
 
 /// A line of JSON on each assignment of a makefile in order, for targets or not; of the variable of

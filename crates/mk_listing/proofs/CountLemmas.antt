@@ -4,7 +4,7 @@ use Rattle.std.specs.Prelude.{Option, Some, None, is_some}
 use Rattle.std.proofs.lemmas.List.Sums.{sum_by-cons}
 use Rattle.mk_lines.specs.Lists.{leading}
 use Rattle.mk_tree.specs.LocatedLines.{LocatedLine}
-use Rattle.mk_views.specs.Views.{recipe_of}
+use Rattle.mk_tree.specs.Views.{recipe_of}
 use Rattle.mk_listing.specs.Finding.{recipe_count}
 use Rattle.mk_listing.specs.Listings.{Spot, Standing, Walk, position_below, recipe_spots, recipes_ahead, seen, seen_before, standing_below, stays}
 

@@ -16,8 +16,8 @@ use Rattle.mk_tree.specs.Documents.{document_lines}
 use Rattle.mk_tree.specs.LineTexts.{StandingLine}
 use Rattle.mk_tree.specs.LocatedLines.{LocatedLine, located_line, located_lines}
 use Rattle.mk_tree.specs.RecipeLines.{recipe_lines, rule_lines, stays_in_rule}
-use Rattle.mk_views.specs.Views.{AssignmentView, RuleView, assignment_of, recipe_of, rule_of}
-use Rattle.mk_views.specs.ViewLaws.{SeesAssignment, SeesRule, AssignmentsAreSeen, RulesAreSeen}
+use Rattle.mk_tree.specs.Views.{AssignmentView, RuleView, assignment_of, recipe_of, rule_of}
+use Rattle.mk_tree.specs.ViewLaws.{SeesAssignment, SeesRule, AssignmentsAreSeen, RulesAreSeen}
 use Rattle.mk_edit_language.specs.Addresses.{Rule, assigns, found, is_rule_for}
 use Rattle.mk_edit_language.specs.Spots.{nth_of, spots, spot_if, under}
 use Rattle.mk_edit_language.specs.Stretches.{below_header, recipe_spot}

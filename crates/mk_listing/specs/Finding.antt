@@ -5,7 +5,7 @@ use Rattle.std.specs.Borrow.{Bor}
 use Rattle.mk_tree.specs.LocatedLines.{LocatedLine}
 use Rattle.mk_listing.specs.declared.position.Position.{Position}
 use Rattle.mk_lines.specs.Lists.{leading}
-use Rattle.mk_views.specs.Views.{recipe_of}
+use Rattle.mk_tree.specs.Views.{recipe_of}
 use Rattle.mk_listing.specs.Listings.{Walk, seen, seen_recipes, standing, stays}
 
 -- A walk passes the lines up to the first of which something is seen, which is found; or all of them,

@@ -11,7 +11,7 @@ use Rattle.mk_class.specs.Texts.{is_one_of}
 use Rattle.mk_tree.specs.LocatedLines.{LocatedLine, located_text, context_after_located_lines}
 use Rattle.mk_tree.specs.Trees.{line_view}
 use Rattle.mk_tree.specs.declared.tree.Line.{Line}
-use Rattle.mk_views.specs.Views.{AssignmentView, RuleView, assignment_of, recipe_of, rule_of}
+use Rattle.mk_tree.specs.Views.{AssignmentView, RuleView, assignment_of, recipe_of, rule_of}
 use Rattle.mk_listing.specs.declared.assignment.AssignmentLine.{AssignmentLine}
 use Rattle.mk_listing.specs.declared.position.Position.{Position}
 

@@ -1,13 +1,12 @@
 //! The assignments of a document.
 ghost use Rattle.std.specs.Prelude.{◌≡◌, option_map};
-ghost use Rattle.mk_views.specs.Views.{assignment_of};
+ghost use Rattle.mk_tree.specs.Views.{assignment_of};
 ghost use Rattle.mk_listing.specs.Finding.{FindsFirst};
 ghost use Rattle.mk_listing.specs.Listings.{assignments_ahead, is_of, whole};
 
 use crate::position::Position;
 use crate::walk::NumberedLines;
-use mk_tree::Doc;
-use mk_views::{AssignmentRef, LineViews};
+use mk_tree::{AssignmentRef, Doc};
 use std::alloc::{Allocator, Global};
 use std::marker::Model;
 

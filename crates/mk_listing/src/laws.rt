@@ -1,7 +1,7 @@
 //! Laws of listings, each as the contract of a function that does nothing.
 ghost use Rattle.mk_listing.specs.ListingLaws.{AssignmentsHaveTheirNumbers, RecipeLinesHaveTheirNumbers, RulesHaveTheirNumbers};
 
-use mk_views::laws::views_are_the_parts;
+use mk_tree::views::laws::views_are_the_parts;
 
 /// The numbers of what is listed of one name or target are those that edits take: an edit with this
 /// name or target and the number of a line that is listed means this line. An edit of a recipe line,

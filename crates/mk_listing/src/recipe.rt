@@ -8,7 +8,6 @@ use crate::position::Position;
 use crate::walk::NumberedLines;
 use mk_class::Class;
 use mk_tree::Lines;
-use mk_views::LineViews;
 use std::alloc::{Allocator, Global};
 use std::marker::Model;
 

@@ -1,15 +1,14 @@
 //! The rules of a document.
 ghost use Rattle.std.specs.Prelude.{◌≡◌, ◌≤◌, length, option_map};
 ghost use Rattle.mk_lines.specs.Limits.{max_text};
-ghost use Rattle.mk_views.specs.Views.{rule_of};
+ghost use Rattle.mk_tree.specs.Views.{rule_of};
 ghost use Rattle.mk_listing.specs.Finding.{FindsFirst};
 ghost use Rattle.mk_listing.specs.Listings.{is_for, recipes_ahead, rules_ahead, whole};
 
 use crate::position::Position;
 use crate::recipe::{RecipeLines, count_recipe_lines};
 use crate::walk::{NumberedLines, Place};
-use mk_tree::Doc;
-use mk_views::{LineViews, RuleRef};
+use mk_tree::{Doc, RuleRef};
 use std::alloc::{Allocator, Global};
 use std::marker::Model;
 

@@ -25,8 +25,8 @@ use Rattle.mk_edit_parts.specs.Found.{IsFoundAt, IsPicked}
 use Rattle.mk_edit_parts.specs.declared.seek.Found.{Found}
 use Rattle.mk_edit_parts.proofs.CauseLemmas.{passed}
 use Rattle.mk_edit_parts.proofs.on_finding.PlaceLemmas.{line-at}
-use Rattle.mk_views.specs.Views.{assignment_in, assignment_of}
-use Rattle.mk_views.specs.ViewLaws.{AssignmentsAreSeen, SeesAssignment}
+use Rattle.mk_tree.specs.Views.{assignment_in, assignment_of}
+use Rattle.mk_tree.specs.ViewLaws.{AssignmentsAreSeen, SeesAssignment}
 use Rattle.mk_lookup.specs.Lookups.{first_causes, looked_up, value_at, value_of, value_unless}
 use Rattle.mk_lookup.specs.ValuesSeen.{value_seen}
 

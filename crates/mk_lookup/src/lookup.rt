@@ -7,7 +7,7 @@ ghost use Rattle.mk_tree.specs.Trees.{line_view};
 ghost use Rattle.mk_edit_language.specs.Addresses.{Rule, Variable};
 ghost use Rattle.mk_edit_parts.specs.Found.{IsNotPicked, IsPicked};
 ghost use Rattle.mk_edit_parts.specs.Seeking.{IsSought};
-ghost use Rattle.mk_views.specs.Views.{assignment_of};
+ghost use Rattle.mk_tree.specs.Views.{assignment_of};
 ghost use Rattle.mk_lookup.specs.Lookups.{looked_up};
 ghost use Rattle.mk_lookup.specs.ValuesSeen.{value_seen};
 
@@ -16,9 +16,8 @@ use mk_edit_language::{Field, Refusal};
 use mk_edit_parts::address::Address;
 use mk_edit_parts::seek::{Found, Sought, seek};
 use mk_edit_parts::text::is_prefix_name;
+use mk_tree::views::laws::views_are_the_parts;
 use mk_tree::{Doc, Line};
-use mk_views::LineViews;
-use mk_views::laws::views_are_the_parts;
 use std::alloc::Allocator;
 
 /// The value of the assignment of this name that `set` takes: the nth, from 1, or the only one.

@@ -4,7 +4,6 @@ use mk_class::{Class, Flavor};
 use mk_edit_parts::address::Address;
 use mk_script::spelling::are_alike;
 use mk_tree::Line;
-use mk_views::LineViews;
 use std::alloc::Allocator;
 
 /// The byte order mark of UTF-8, which some editors put at the front of a file.

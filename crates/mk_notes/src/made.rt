@@ -8,8 +8,7 @@ use mk_class::{Flavor, Separator};
 use mk_edit_language::{Edit, Place};
 use mk_edit_parts::address::address_of;
 use mk_listing::{Position, RuleLine, numbered, rules_for};
-use mk_tree::Doc;
-use mk_views::{LineViews, WordTexts};
+use mk_tree::{Doc, WordTexts};
 use std::alloc::{AllocError, Allocator};
 
 /// How many targets of a new rule are looked at.

@@ -12,7 +12,6 @@ use mk_edit_parts::value_words::bares_end;
 use mk_lines::is_closed;
 use mk_listing::{Position, assignments_of, numbered};
 use mk_tree::Doc;
-use mk_views::LineViews;
 use std::alloc::{AllocError, Allocator};
 
 /// The notes on a refusal of an edit, as a text: each line begins with the name of a file, mostly the

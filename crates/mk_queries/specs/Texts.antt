@@ -8,7 +8,7 @@ use Rattle.mk_class.specs.OperatorTexts.{operator_text, separator_text}
 use Rattle.mk_class.specs.declared.class.Class.{Class}
 use Rattle.mk_class.specs.declared.class.Class.TheVariants.{Opaque, Rough}
 use Rattle.mk_class.specs.declared.rule.Separator.{Separator}
-use Rattle.mk_views.specs.Views.{AssignmentView, TargetAssignmentView}
+use Rattle.mk_tree.specs.Views.{AssignmentView, TargetAssignmentView}
 use Rattle.mk_listing.specs.Listings.{RecipeSpot, RuleSpot, recipes_ahead}
 use Rattle.mk_listing.specs.declared.position.Position.{Position}
 

@@ -2,8 +2,7 @@
 
 use mk_class::Separator;
 use mk_listing::{RuleLine, rules_for};
-use mk_tree::Doc;
-use mk_views::RuleRef;
+use mk_tree::{Doc, RuleRef};
 use std::alloc::Allocator;
 
 /// The target of a rule that has one, with a `:`, and nothing else; none if this is the target of a

@@ -11,7 +11,6 @@ use mk_lines::after_first_unit;
 use mk_lines::source::MAX_TEXT;
 use mk_listing::Rules;
 use mk_tree::{ContextedLines, Doc, Line};
-use mk_views::LineViews;
 use std::alloc::{Allocator, Global};
 use std::marker::Model;
 

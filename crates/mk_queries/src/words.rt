@@ -8,8 +8,8 @@ use crate::gathering::put_parts;
 use mk_class::Separator;
 use mk_lines::Fault;
 use mk_lines::sink::ByteSink;
+use mk_tree::WordTexts;
 use mk_tree::gathering::{Gathered, put};
-use mk_views::WordTexts;
 
 /// Puts words, each with a space before it.
 ///

@@ -18,7 +18,7 @@ use crate::question::{json_lines, put_lines};
 use crate::text_lines::text_lines;
 use crate::{
     After, Obeyed, Request, RequestOf, RequestWord, Reverted, TextSink, lines_between, obey_line,
-    revert, text_of,
+    revert,
 };
 use mk_cli::{Form, Query, SessionWords, command_called, put_explanation, put_help, refusal_of};
 use mk_diff::{diff, patch_name};
@@ -27,6 +27,7 @@ use mk_lines::Fault;
 use mk_lookup::get;
 use mk_queries::{recipes_for, rules_for, vars_named};
 use mk_session::{Refusal, Session};
+use mk_tree::text_of;
 use std::alloc::Global;
 use std::str::from_utf8;
 

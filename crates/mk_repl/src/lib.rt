@@ -10,7 +10,7 @@
 //! - [`converse`]: line after line is read, and a [`Listener`] replies to each. What it says first and
 //!   what it replies to a line that is too long is [`write_greeting`] and [`write_too_long`] by the
 //!   protocol.
-//! - [`text_of`]: the text of a document in memory; [`TextSink`]: what is written, in memory.
+//! - [`TextSink`]: what is written, in memory.
 //! - [`found_for`]: what a makefile has for a [`Question`]; [`put_found`] writes it.
 //! - [`Desk`]: the makefile that `mkedit session` has open, a listener by the protocol;
 //!   [`converse_at_terminal`] replies to a person.
@@ -63,5 +63,5 @@ pub use quote::answer_lines;
 pub use request::{Request, RequestOf, RequestWord, read_request};
 pub use talk::{After, Listener, converse, write_greeting, write_too_long};
 pub use terminal::converse_at_terminal;
-pub use text::{TextSink, text_of};
+pub use text::TextSink;
 pub use undoing::{Reverted, revert};

@@ -1,10 +1,8 @@
 //! A text in memory.
-ghost use Rattle.std.specs.Prelude.{◌≡◌, [], false, IfOk, Some};
-ghost use Rattle.mk_tree.specs.LocatedLines.{located_text};
+ghost use Rattle.std.specs.Prelude.{◌≡◌, [], false, Some};
 
 use mk_lines::{ByteSink, Fault};
-use mk_tree::Doc;
-use std::alloc::{AllocError, Allocator};
+use std::alloc::Allocator;
 
 /// A text in memory, as a sink. Where it cannot grow, the sink fails.
 #[derive(Drop)]
@@ -49,20 +47,5 @@ impl<A: Allocator> ByteSink for TextSink<A> {
 
     fn failed(&self) -> bool {
         self.is_failed
-    }
-}
-
-/// The text of a document.
-///
-/// # Errors
-///
-/// Want of memory.
-pub fn text_of<A: Allocator, B: Allocator>(alloc: A, doc: &Doc<B>) -> Result<Vec<u8, A>, AllocError>
-    ensures { IfOk result (λ text. text.items ≡ located_text doc.now) }
-{
-    let mut sink = TextSink::new(alloc);
-    match doc.write_to(&mut sink) {
-        Ok(()) => Ok(sink.text),
-        Err(_) => Err(AllocError),
     }
 }

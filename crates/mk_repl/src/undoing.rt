@@ -2,8 +2,8 @@
 ghost use Rattle.std.specs.Prelude.{◌≡◌, ◌≢◌, IfErr, OnErr, OnOk, Ok, is_some, true};
 ghost use Rattle.mk_repl.specs.Reverted.{undone};
 
-use crate::text::text_of;
 use mk_session::{Refusal, Session};
+use mk_tree::text_of;
 use std::alloc::Allocator;
 
 // Undoes all that can be undone.

@@ -15,6 +15,8 @@ pub mod PlainLines
 pub mod Prefixes
 pub mod Reading
 pub mod WalkLemmas
+-- Lemmas on the views of lines
+mod PartLemmas
 -- Definitions computed
 mod WorkedRows
 mod ChangeRows

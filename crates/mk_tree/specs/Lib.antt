@@ -19,8 +19,11 @@ pub mod TreeWalks
 pub mod Admissions
 pub mod UnreadPrefixes
 pub mod Printing
+-- Views of lines
+pub mod Views
 -- Statements of laws
 pub mod DocumentLaws
+pub mod ViewLaws
 pub mod ChangeLaws
 -- # Vocabulary of private contracts
 -- What the code stores

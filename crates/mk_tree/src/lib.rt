@@ -19,6 +19,7 @@
 //! - `print`: the text of a document.
 //! - `shown`: documents and lines as `{:?}` shows them.
 //! - [`gathering`]: texts on their way to a sink, gathered into few writes.
+//! - [`views`]: the parts of a line, by name.
 //! - [`laws`]: theorems on the definitions of documents.
 #![tactic(auto)]
 
@@ -41,6 +42,7 @@ mod short_class;
 mod shown;
 pub mod tree;
 mod unread;
+pub mod views;
 pub mod walk;
 
 pub use document::Doc;
@@ -48,4 +50,5 @@ pub use end::End;
 pub use iter::Lines;
 pub use line_bytes::LineBytes;
 pub use tree::Line;
+pub use views::{AssignmentRef, Conditional, RuleRef, TargetAssignmentRef, WordTexts, text_of};
 pub use walk::ContextedLines;

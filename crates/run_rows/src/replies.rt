@@ -4,9 +4,10 @@ ghost use Rattle.std.specs.Prelude.{◌≡◌, false};
 use mk_lines::Fault;
 use mk_repl::{
     Obeyed, Reverted, answer_line, answer_lines, line_length, lines_between, obey_line,
-    read_request, revert, text_of,
+    read_request, revert,
 };
 use mk_session::{Refusal, Session};
+use mk_tree::text_of;
 use test_support::text::{joined, number};
 use test_support::{Case, Heap, MemorySink};
 

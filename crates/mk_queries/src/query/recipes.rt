@@ -13,9 +13,8 @@ use crate::words::put_spaced;
 use mk_lines::Fault;
 use mk_lines::sink::{ByteSink, write_all};
 use mk_listing::{RecipeLine, RuleLine, Rules};
-use mk_tree::Doc;
 use mk_tree::gathering::Gathered;
-use mk_views::WordTexts;
+use mk_tree::{Doc, WordTexts};
 use std::alloc::Allocator;
 
 /// Writes a line of text on each recipe line that stands below the line of a rule, in order. Nothing

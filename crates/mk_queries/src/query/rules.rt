@@ -13,9 +13,8 @@ use crate::words::{put_targets, put_words};
 use mk_lines::Fault;
 use mk_lines::sink::{ByteSink, write_all};
 use mk_listing::{RuleLine, Rules};
-use mk_tree::Doc;
 use mk_tree::gathering::Gathered;
-use mk_views::{RuleRef, WordTexts};
+use mk_tree::{Doc, RuleRef, WordTexts};
 use std::alloc::Allocator;
 
 /// Writes a line of text on each rule of the makefile, in order. Nothing is flushed. Takes no memory.

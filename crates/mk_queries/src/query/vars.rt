@@ -16,8 +16,7 @@ use mk_lines::Fault;
 use mk_lines::sink::{ByteSink, write_all};
 use mk_listing::{Position, is_of, numbered};
 use mk_tree::gathering::Gathered;
-use mk_tree::{Doc, Line};
-use mk_views::{AssignmentRef, LineViews, TargetAssignmentRef};
+use mk_tree::{AssignmentRef, Doc, Line, TargetAssignmentRef};
 use std::alloc::Allocator;
 
 /// Writes a line of text on each assignment of the makefile, in order. Nothing is flushed. Takes no

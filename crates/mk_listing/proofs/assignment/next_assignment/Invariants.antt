@@ -1,6 +1,6 @@
 -- What is seen of the walk is what was seen of it at first.
 use Rattle.std.proofs.Common.{◌≡◌, ◌≤◌, length, option_map}
-use Rattle.mk_views.specs.Views.{assignment_of}
+use Rattle.mk_tree.specs.Views.{assignment_of}
 use Rattle.mk_listing.specs.Listings.{is_of, seen, standing}
 use Rattle.mk_listing.proofs.assignment.next_assignment.Given as goal
 

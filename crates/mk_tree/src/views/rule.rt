@@ -1,10 +1,10 @@
 //! The parts of the line of a rule.
 ghost use Rattle.std.specs.Prelude.{◌≡◌, option_map, slice_get};
 ghost use Rattle.mk_lines.specs.Words.{words_in};
-ghost use Rattle.mk_views.specs.Views.{rule_at};
+ghost use Rattle.mk_tree.specs.Views.{rule_at};
 
-use crate::clip::clip;
-use crate::word_texts::WordTexts;
+use crate::views::clip::clip;
+use crate::views::word_texts::WordTexts;
 use mk_class::{Header, Separator};
 use mk_lines::split_first_word;
 use std::marker::Model;
@@ -18,7 +18,7 @@ pub struct RuleRef<'a> {
 }
 
 impl<'a> Model for RuleRef<'a> {
-    ghost use Rattle.mk_views.specs.Views.{RuleView, rule_at};
+    ghost use Rattle.mk_tree.specs.Views.{RuleView, rule_at};
 
     ghost Value = { RuleView };
 

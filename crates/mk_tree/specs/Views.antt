@@ -12,8 +12,8 @@ use Rattle.mk_class.specs.declared.rule.Header as header
 use Rattle.mk_class.specs.declared.rule.Separator.{Separator}
 use Rattle.mk_class.specs.declared.class.Class as class
 use Rattle.mk_class.specs.declared.class.Class.TheVariants as variants
-use Rattle.mk_views.specs.declared.line.Conditional.{Conditional}
-use Rattle.mk_views.specs.declared.line.Conditional.TheVariants.{If, Else, Endif}
+use Rattle.mk_tree.specs.declared.views.line.Conditional.{Conditional}
+use Rattle.mk_tree.specs.declared.views.line.Conditional.TheVariants.{If, Else, Endif}
 use Rattle.mk_tree.specs.LocatedLines.{LocatedLine, text_of_line}
 
 -- ---- assignments

@@ -1,5 +1,5 @@
 //! Laws of views, each as the contract of a function that does nothing.
-ghost use Rattle.mk_views.specs.ViewLaws.{AssignmentsAreSeen, RulesAreSeen, TargetAssignmentsAreSeen};
+ghost use Rattle.mk_tree.specs.ViewLaws.{AssignmentsAreSeen, RulesAreSeen, TargetAssignmentsAreSeen};
 
 /// A line of a faithful document has a view exactly where the definition of classes gives it this
 /// class, and the view shows the parts of this class.

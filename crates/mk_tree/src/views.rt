@@ -11,7 +11,6 @@
 //!
 //! A class tells where the parts of a line stand, as offsets in its joined text. A view lends the
 //! parts themselves. It asks nothing of the line, copies nothing and takes no memory.
-#![tactic(auto)]
 
 pub mod assignment;
 mod clip;
@@ -23,7 +22,7 @@ pub mod text;
 pub mod word_texts;
 
 pub use assignment::{AssignmentRef, TargetAssignmentRef};
-pub use line::{Conditional, LineViews};
+pub use line::Conditional;
 pub use rule::RuleRef;
 pub use text::text_of;
 pub use word_texts::WordTexts;

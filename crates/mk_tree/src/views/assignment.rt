@@ -1,9 +1,9 @@
 //! The parts of an assignment, and of an assignment for targets.
 ghost use Rattle.std.specs.Prelude.{◌≡◌};
-ghost use Rattle.mk_views.specs.Views.{assignment_at, target_assignment_at};
+ghost use Rattle.mk_tree.specs.Views.{assignment_at, target_assignment_at};
 
-use crate::clip::clip;
-use crate::word_texts::WordTexts;
+use crate::views::clip::clip;
+use crate::views::word_texts::WordTexts;
 use mk_class::{Assignment, Flavor, Separator, TargetAssignment};
 use std::marker::Model;
 
@@ -18,7 +18,7 @@ pub struct AssignmentRef<'a> {
 
 impl<'a> Model for AssignmentRef<'a> {
     ghost use Rattle.mk_lines.specs.Words.{words_in};
-    ghost use Rattle.mk_views.specs.Views.{AssignmentView};
+    ghost use Rattle.mk_tree.specs.Views.{AssignmentView};
 
     ghost Value = { AssignmentView };
 
@@ -80,7 +80,7 @@ pub struct TargetAssignmentRef<'a> {
 }
 
 impl<'a> Model for TargetAssignmentRef<'a> {
-    ghost use Rattle.mk_views.specs.Views.{TargetAssignmentView, target_assignment_at};
+    ghost use Rattle.mk_tree.specs.Views.{TargetAssignmentView, target_assignment_at};
 
     ghost Value = { TargetAssignmentView };
 

@@ -2,7 +2,7 @@
 ghost use Rattle.std.specs.Prelude.{◌≡◌, IfOk};
 ghost use Rattle.mk_tree.specs.LocatedLines.{located_text};
 
-use mk_tree::Doc;
+use crate::document::Doc;
 use std::alloc::{AllocError, Allocator};
 
 /// The text of a document: what [`Doc::write_to`] writes.

@@ -1,14 +1,14 @@
 //! The views of a line.
 ghost use Rattle.std.specs.Prelude.{◌≡◌, MatchOption, Some, None, option_map};
 ghost use Rattle.mk_tree.specs.Trees.{line_view};
-ghost use Rattle.mk_views.specs.Views.{assignment_of, conditional_of, define_of, recipe_of, rule_of, target_assignment_of};
+ghost use Rattle.mk_tree.specs.Views.{assignment_of, conditional_of, define_of, recipe_of, rule_of, target_assignment_of};
 
-use crate::assignment::{AssignmentRef, TargetAssignmentRef};
-use crate::clip::clip;
-use crate::define::defined_name;
-use crate::rule::RuleRef;
+use crate::tree::Line;
+use crate::views::assignment::{AssignmentRef, TargetAssignmentRef};
+use crate::views::clip::clip;
+use crate::views::define::defined_name;
+use crate::views::rule::RuleRef;
 use mk_class::Class;
-use mk_tree::Line;
 use std::alloc::Allocator;
 
 /// Which line of a conditional a line is.
@@ -23,28 +23,9 @@ pub enum Conditional {
 }
 
 /// The parts of a line by name. Each call tells whether the line is such a line.
-pub trait LineViews {
+impl<A: Allocator> Line<A> {
     /// The parts of an assignment.
-    fn assignment(&self) -> Option<AssignmentRef<'_>>;
-
-    /// The parts of an assignment for targets, such as `main: CFLAGS += -g`.
-    fn target_assignment(&self) -> Option<TargetAssignmentRef<'_>>;
-
-    /// The parts of the line of a rule.
-    fn rule(&self) -> Option<RuleRef<'_>>;
-
-    /// The text of a recipe line after its first byte, the recipe prefix. Folds are spaces in it.
-    fn recipe(&self) -> Option<&[u8]>;
-
-    /// The name of a define, in the line that begins it. It is empty if the line has none.
-    fn define(&self) -> Option<&[u8]>;
-
-    /// Which line of a conditional the line is.
-    fn conditional(&self) -> Option<Conditional>;
-}
-
-impl<A: Allocator> LineViews for Line<A> {
-    fn assignment(&self) -> Option<AssignmentRef<'_>>
+    pub fn assignment(&self) -> Option<AssignmentRef<'_>>
         ensures { MatchOption result (assignment_of (line_view self.now) ≡ None)
             (λ seen. assignment_of (line_view self.now) ≡ Some seen) }
     {
@@ -54,7 +35,8 @@ impl<A: Allocator> LineViews for Line<A> {
         }
     }
 
-    fn target_assignment(&self) -> Option<TargetAssignmentRef<'_>>
+    /// The parts of an assignment for targets, such as `main: CFLAGS += -g`.
+    pub fn target_assignment(&self) -> Option<TargetAssignmentRef<'_>>
         ensures { MatchOption result (target_assignment_of (line_view self.now) ≡ None)
             (λ seen. target_assignment_of (line_view self.now) ≡ Some seen) }
     {
@@ -64,7 +46,8 @@ impl<A: Allocator> LineViews for Line<A> {
         }
     }
 
-    fn rule(&self) -> Option<RuleRef<'_>>
+    /// The parts of the line of a rule.
+    pub fn rule(&self) -> Option<RuleRef<'_>>
         ensures { MatchOption result (rule_of (line_view self.now) ≡ None)
             (λ seen. rule_of (line_view self.now) ≡ Some seen) }
     {
@@ -74,7 +57,8 @@ impl<A: Allocator> LineViews for Line<A> {
         }
     }
 
-    fn recipe(&self) -> Option<&[u8]>
+    /// The text of a recipe line after its first byte, the recipe prefix. Folds are spaces in it.
+    pub fn recipe(&self) -> Option<&[u8]>
         ensures { option_map (λ text. text.now) result ≡ recipe_of (line_view self.now) }
     {
         match self.class() {
@@ -83,7 +67,8 @@ impl<A: Allocator> LineViews for Line<A> {
         }
     }
 
-    fn define(&self) -> Option<&[u8]>
+    /// The name of a define, in the line that begins it. It is empty if the line has none.
+    pub fn define(&self) -> Option<&[u8]>
         ensures { option_map (λ name. name.now) result ≡ define_of (line_view self.now) }
     {
         match self.class() {
@@ -92,7 +77,8 @@ impl<A: Allocator> LineViews for Line<A> {
         }
     }
 
-    fn conditional(&self) -> Option<Conditional>
+    /// Which line of a conditional the line is.
+    pub fn conditional(&self) -> Option<Conditional>
         ensures { result ≡ conditional_of (line_view self.now) }
     {
         match self.class() {

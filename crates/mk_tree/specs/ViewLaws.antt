@@ -12,7 +12,7 @@ use Rattle.mk_class.specs.ClassTable.{class_of}
 use Rattle.mk_class.specs.Contexts.{Context}
 use Rattle.mk_class.specs.LocatedClasses.{located_class}
 use Rattle.mk_tree.specs.LocatedLines.{LocatedLine}
-use Rattle.mk_views.specs.Views.{AssignmentView, TargetAssignmentView, RuleView, assignment_of, target_assignment_of, rule_of}
+use Rattle.mk_tree.specs.Views.{AssignmentView, TargetAssignmentView, RuleView, assignment_of, target_assignment_of, rule_of}
 
 -- a line of a document that stands in a context
 abbrev line_in : Context → (bytes : List ℕ) → LocatedLine

@@ -14,8 +14,8 @@ use Rattle.mk_class.specs.declared.assignment.Assignment as offsets
 use Rattle.mk_class.specs.declared.class.Class.TheVariants as variants
 use Rattle.mk_class.proofs.on_classes.FirstWordLemmas.{text_words-words}
 use Rattle.mk_class.proofs.on_classes.LinePartLemmas.{line-parts_located, header-located, target-located}
-use Rattle.mk_views.specs.Views.{assignment_at, assignment_in, target_assignment_in, rule_in}
-use Rattle.mk_views.specs.ViewLaws.{ShowsAssignment, SeesAssignment, SeesTargetAssignment, SeesRule, AssignmentsAreSeen, TargetAssignmentsAreSeen, RulesAreSeen}
+use Rattle.mk_tree.specs.Views.{assignment_at, assignment_in, target_assignment_in, rule_in}
+use Rattle.mk_tree.specs.ViewLaws.{ShowsAssignment, SeesAssignment, SeesTargetAssignment, SeesRule, AssignmentsAreSeen, TargetAssignmentsAreSeen, RulesAreSeen}
 
 -- the words of a part
 words-shown : (cs : List Cell) (s e : ℕ) (before part : List (List Cell)) → IsPart cs s e before part

@@ -1,5 +1,5 @@
-use Rattle.mk_views.proofs.PartLemmas.{assignments-seen, target_assignments-seen, rules-seen}
-use Rattle.mk_views.proofs.laws.views_are_the_parts.Goals as goal
+use Rattle.mk_tree.proofs.PartLemmas.{assignments-seen, target_assignments-seen, rules-seen}
+use Rattle.mk_tree.proofs.views.laws.views_are_the_parts.Goals as goal
 
 pub returns-clause-assignments : goal.returns-clause-assignments
 returns-clause-assignments c = assignments-seen
