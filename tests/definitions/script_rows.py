@@ -224,15 +224,48 @@ def antt_nth(nth):
     return "None" if nth is None else f"(Some {nth})"
 
 
+def antt_change(kind, text):
+    """A change of a value as a term."""
+    return f"(edits.{kind} {text})"
+
+
 def antt_argument(name, part):
     """An argument of an edit as a term."""
     if name == "ChangeValues" and isinstance(part, tuple):
-        return f"(edits.{part[0]} {antt_text(part[1])})"
+        return antt_change(part[0], antt_text(part[1]))
     if isinstance(part, tuple):
         return part[0] if len(part) == 1 else f"({part[0]} {antt_nth(part[1])} {antt_text(part[2])})"
     if isinstance(part, bool):
         return antt_bool(part)
     return antt_text(part) if isinstance(part, bytes) else str(part)
+
+
+# The form that each edit has in the definitions, with its arguments in their order.
+FORMS = {
+    "SetValue": f"ChangeValue (One {{0}}) {{1}} {antt_change('Set', '{2}')}",
+    "AppendValue": f"ChangeValue (One {{0}}) {{1}} {antt_change('Append', '{2}')}",
+    "AddWord": f"ChangeValue (One {{0}}) {{1}} {antt_change('Add', '{2}')}",
+    "RemoveWord": f"ChangeValue (One {{0}}) {{1}} {antt_change('Remove', '{2}')}",
+    "ChangeValues": "ChangeValue Every {0} {1}",
+    "AddAssign": "AddLine {0} (NewAssign {1} {2} {3})",
+    "RemoveAssign": "RemoveLines (OfAssign {0} {1})",
+    "AddRule": "AddLine {0} (NewRule {1} {2} {3})",
+    "RemoveRule": "RemoveLines (OfRule {0} {1})",
+    "AddPrereq": "ChangePrereqs {1} {2} (AddPrereq {0} {3})",
+    "RemovePrereq": "ChangePrereqs {0} {1} (RemovePrereq {2})",
+    "AddRecipe": "AddRecipe {0} {1} Last {2}",
+    "SetRecipe": "SetRecipe {0} {1} (ByNumber {2}) {3}",
+    "RemoveRecipe": "RemoveLines (OfRecipe {0} {1} (ByNumber {2}))",
+    "InsertRecipe": "AddRecipe {0} {1} (At {2}) {3}",
+    "SetRecipeByText": "SetRecipe {0} {1} (ByText {2}) {3}",
+    "RemoveRecipeByText": "RemoveLines (OfRecipe {0} {1} (ByText {2}))",
+    "RenameTarget": "RenameTarget {0} {1}",
+}
+# The words of the forms.
+FORM_WORDS = (
+    "One Every NewAssign NewRule AddPrereq RemovePrereq ByNumber ByText Last At OfAssign OfRule OfRecipe"
+    " ChangeValue ChangePrereqs AddLine AddRecipe SetRecipe RemoveLines RenameTarget"
+).split()
 
 
 def antt_edit(name, *arguments):
@@ -242,7 +275,7 @@ def antt_edit(name, *arguments):
         antt_nth(part) if at == NTH_AT.get(name) else sign[part] if sign and at == 2 else antt_argument(name, part)
         for at, part in enumerate(arguments)
     ]
-    return f"({name} {' '.join(terms)})"
+    return f"({FORMS[name].format(*terms)})"
 
 
 def antt_step(step):
@@ -272,7 +305,7 @@ EDIT_IMPORTS = [
     ("Rattle.mk_class.specs.declared.assignment.Flavor.TheVariants", list(FLAVORS.values())),
     ("Rattle.mk_edit_language.specs.declared.edit.RuleSeparator.TheVariants", list(SEPARATORS.values())),
     ("Rattle.mk_edit_language.specs.Edits", ["Edit", "Bottom", *PLACES.values()]),
-    ("Rattle.mk_edit_language.specs.Edits", [*NTH_AT, "ChangeValues", "AddAssign", "AddRule", "RenameTarget"]),
+    ("Rattle.mk_edit_language.specs.Edits", FORM_WORDS),
     ("Rattle.mk_edit_language.specs.Edits", "edits"),
 ]
 SCRIPT_IMPORTS = [

@@ -7,5 +7,4 @@ pub mod RecipePlaces
 pub mod MeantRecipes
 pub mod RemoveRecipePlans
 pub mod AddRecipePlans
-pub mod InsertRecipePlans
 pub mod SetRecipePlans

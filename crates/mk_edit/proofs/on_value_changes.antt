@@ -1,4 +1,4 @@
--- Lemmas. A change of all values of a name: what it does to each line, and its plan.
+-- Lemmas. Changes of values: what a change does to each line, and its plan; of all values of a name, and of one.
 pub mod ChangedBytes
 pub mod LinesTold
 pub mod WindowsWalked
@@ -7,3 +7,4 @@ pub mod CausesOfChange
 pub mod ChangeTurns
 pub mod ChangePlans
 pub mod ChangeLoops
+pub mod OneChanges

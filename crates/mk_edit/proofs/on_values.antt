@@ -1,7 +1,4 @@
--- Lemmas. Edits of a value, planned.
+-- Lemmas. The value of an assignment's line.
 pub mod ValuePlaces
 pub mod OwnLines
-pub mod SetValuePlans
-pub mod AppendValuePlans
-pub mod AddWordPlans
-pub mod RemoveWordPlans
+pub mod ValueSpans

@@ -1,7 +1,7 @@
 -- What a change of all values of a name finds among the lines of a document, which of them it changes,
 -- and the first cause of refusal that this decides.
 -- Told in docs/ARCHITECTURE.md, "An edit's way, from Edit to moved lines".
-use Rattle.std.specs.Prelude.{◌≡◌, ℕ, ◌+◌, ◌*◌, ◌≤◌, ◌==◌, ◌||◌, not, nat_lt, if◌then◌else◌, Bool, false, List, [], ◌∷◌, ◌++◌, drop, length, map, Option, None, IfSome}
+use Rattle.std.specs.Prelude.{◌≡◌, ℕ, ◌+◌, ◌*◌, ◌≤◌, ◌==◌, ◌||◌, not, nat_lt, if◌then◌else◌, Bool, true, false, List, [], ◌∷◌, ◌++◌, drop, length, map, Option, None, IfSome}
 use Rattle.mk_lines.specs.Limits.{max_text}
 use Rattle.mk_class.specs.Contexts.{Context, start, context_after_located}
 use Rattle.mk_tree.specs.LocatedLines.{LocatedLine, size_of}
@@ -13,7 +13,7 @@ use Rattle.mk_edit_language.specs.declared.refusal.Refusal.{Refusal}
 use Rattle.mk_edit_language.specs.declared.refusal.Refusal.TheVariants.{Absent, Already, NoSuch, OpenValue, RecipePrefix, TooLong}
 use Rattle.mk_edit_parts.specs.LocatedParts.{assigns_located, is_unread_located}
 use Rattle.mk_edit_parts.specs.declared.seek.Found.{Found}
-use Rattle.mk_edit.specs.ValueChangeLines.{is_changed_located, is_open_located, put_by, spared_by}
+use Rattle.mk_edit.specs.ValueChangeLines.{has_effect_located, is_changed_located, is_open_located, put_by, spared_by}
 use Rattle.mk_edit.specs.declared.change_values_places.Meant.{Meant}
 use Rattle.mk_edit.specs.declared.change_values_survey.Findings.{Findings}
 
@@ -52,6 +52,16 @@ found_with n c f (l ∷ ls) = found_with n c (found_by n c l f) ls
 -- what is found among lines
 abbrev pub findings_on : (name : List ℕ) → ValueChange → List LocatedLine → Findings
 findings_on n c ls = found_with n c nothing_found ls
+
+-- what is found in the line of an assignment that is meant
+abbrev pub found_in : ValueChange → LocatedLine → Findings
+found_in c l = record {
+  has_unread_prefix = false;
+  is_there = true;
+  is_open = is_open_located c l;
+  lines = if has_effect_located c l then 1 else 0;
+  spared = spared_by c l;
+}
 
 -- ---- the lines that are changed
 

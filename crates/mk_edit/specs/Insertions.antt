@@ -6,7 +6,7 @@ use Rattle.mk_lines.specs.PhysicalLines.{line_end_bytes, file_line_end}
 use Rattle.mk_class.specs.ClassedLines.{classed_lines}
 use Rattle.mk_tree.specs.Documents.{context_of}
 use Rattle.mk_tree.specs.LocatedLines.{LocatedLine, located_text}
-use Rattle.mk_edit_language.specs.Edits.{Place, Bottom, Edit, AddAssign, AddRule, AddRecipe, InsertRecipe}
+use Rattle.mk_edit_language.specs.Edits.{Place, Bottom, Edit, AddLine, AddRecipe}
 use Rattle.mk_edit_language.specs.Stretches.{Stretch}
 use Rattle.mk_edit_language.specs.EditSpans.{spans_of}
 use Rattle.mk_edit_language.specs.LineCauses.{open_line, open_define, leaning, too_long}
@@ -17,16 +17,13 @@ use Rattle.mk_edit_parts.specs.declared.seek.Found.{Found}
 
 -- an edit that puts a line in
 abbrev pub IsOfNewLine : Edit → Type 0
-IsOfNewLine (AddAssign p n f v) = Unit {0}
-IsOfNewLine (AddRule p ts c ws) = Unit {0}
-IsOfNewLine (AddRecipe nth t c) = Unit {0}
-IsOfNewLine (InsertRecipe nth t k c) = Unit {0}
+IsOfNewLine (AddLine p l) = Unit {0}
+IsOfNewLine (AddRecipe nth t p c) = Unit {0}
 IsOfNewLine e = ⊥
 
 -- an edit that puts a line in at a place that it names
 abbrev pub IsOfPlace : Edit → Type 0
-IsOfPlace (AddAssign p n f v) = Unit {0}
-IsOfPlace (AddRule p ts c ws) = Unit {0}
+IsOfPlace (AddLine p l) = Unit {0}
 IsOfPlace e = ⊥
 
 -- whether a place is the end of the text
@@ -36,8 +33,7 @@ is_bottom p = false
 
 -- whether an edit puts a line in at the end of the text
 abbrev pub is_at_bottom : Edit → Bool
-is_at_bottom (AddAssign p n f v) = is_bottom p
-is_at_bottom (AddRule p ts c ws) = is_bottom p
+is_at_bottom (AddLine p l) = is_bottom p
 is_at_bottom e = false
 
 -- A new line goes between the lines of a document: there is a stretch for it, which begins at this

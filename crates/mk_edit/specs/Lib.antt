@@ -12,10 +12,7 @@ pub mod PrerequisiteEdits
 -- A rename
 pub mod RenameTargetEffects
 pub mod RenameTargetPatches
--- Edits of a value
-pub mod ValueEdits
-pub mod RangeEdits
--- A change of all values of a name
+-- Changes of values
 pub mod ValueChangeLines
 pub mod ChangeValuesSurveys
 pub mod ChangeValuesPatches

@@ -1,37 +1,35 @@
 -- The edits that take out a rule, or put in, change or take out a recipe line; which recipe line
--- they mean, and where it has its command.
+-- they mean, where a new one goes, and where a recipe line has its command.
 -- Told in docs/EDITS.md, "Rules" and "Recipes".
 use Rattle.std.specs.Prelude.{◌≡◌, ℕ, ◌+◌, List, [], ◌∷◌, filter, length, Option, Some, None, option_map, Result, Ok, Err}
 use Rattle.mk_lines.specs.PhysicalLines.{without_line_end}
 use Rattle.mk_lines.specs.declared.split.Span.{Span}
+use Rattle.mk_class.specs.ClassedLines.{ClassedLine}
 use Rattle.mk_tree.specs.LineTexts.{StandingLine}
-use Rattle.mk_edit_language.specs.Edits.{Edit, RemoveRule, AddRecipe, SetRecipe, RemoveRecipe, InsertRecipe, SetRecipeByText, RemoveRecipeByText}
+use Rattle.mk_tree.specs.RecipeLines.{recipe_run}
+use Rattle.mk_edit_language.specs.Edits.{RecipeLine, ByNumber, ByText, RecipePlace, Last, At, OfRule, OfRecipe, Edit, AddRecipe, SetRecipe, RemoveLines}
 use Rattle.mk_edit_language.specs.Spots.{nth_of}
 use Rattle.mk_edit_language.specs.Stretches.{has_text}
 use Rattle.mk_edit_language.specs.declared.refusal.Refusal.{Refusal}
 use Rattle.mk_edit_language.specs.declared.refusal.Refusal.TheVariants.{Ambiguous, Absent}
+use Rattle.mk_edit_parts.specs.RecipeWalks.{gaps_in}
 
 -- the removal of a rule
 abbrev pub IsRemoveRule : Edit → Type 0
-IsRemoveRule (RemoveRule nth t) = Unit {0}
+IsRemoveRule (RemoveLines (OfRule nth t)) = Unit {0}
 IsRemoveRule e = ⊥
-
--- a new recipe line
-abbrev pub IsAddRecipe : Edit → Type 0
-IsAddRecipe (AddRecipe nth t c) = Unit {0}
-IsAddRecipe e = ⊥
 
 -- another command for a recipe line
 abbrev pub IsSetRecipe : (command : List ℕ) → Edit → Type 0
-IsSetRecipe c (SetRecipe nth t k d) = d ≡ c
-IsSetRecipe c (SetRecipeByText nth t o d) = d ≡ c
+IsSetRecipe c (SetRecipe nth t w d) = d ≡ c
 IsSetRecipe c e = ⊥
 
 -- the removal of a recipe line
 abbrev pub IsRemoveRecipe : Edit → Type 0
-IsRemoveRecipe (RemoveRecipe nth t k) = Unit {0}
-IsRemoveRecipe (RemoveRecipeByText nth t o) = Unit {0}
+IsRemoveRecipe (RemoveLines (OfRecipe nth t w)) = Unit {0}
 IsRemoveRecipe e = ⊥
+
+-- ---- the recipe line that is meant
 
 -- an index, if there is one
 abbrev pub index_or_absent : Option ℕ → Result ℕ Refusal
@@ -44,20 +42,36 @@ only_index from [] = Err Absent
 only_index from (s ∷ []) = Ok (from + length s.above)
 only_index from (s ∷ r ∷ ss) = Err (Ambiguous (length (s ∷ r ∷ ss)))
 
--- the index of the recipe line that an edit means, among those of its rule
+-- the index of the recipe line that is meant, among those of its rule, which stand below this index
+abbrev pub line_index : RecipeLine → (from : ℕ) → List StandingLine → Result ℕ Refusal
+line_index (ByNumber k) from ss =
+    index_or_absent (option_map (λ s. from + length s.above) (nth_of k ss))
+line_index (ByText o) from ss = only_index from (filter (has_text o) ss)
+
+-- the same of the recipe line that an edit means
 abbrev pub meant_recipe : Edit → (from : ℕ) → List StandingLine → Result ℕ Refusal
-meant_recipe (SetRecipe nth t k c) from ss =
-    index_or_absent (option_map (λ s. from + length s.above) (nth_of k ss))
-meant_recipe (RemoveRecipe nth t k) from ss =
-    index_or_absent (option_map (λ s. from + length s.above) (nth_of k ss))
-meant_recipe (SetRecipeByText nth t o c) from ss = only_index from (filter (has_text o) ss)
-meant_recipe (RemoveRecipeByText nth t o) from ss = only_index from (filter (has_text o) ss)
+meant_recipe (SetRecipe nth t w c) from ss = line_index w from ss
+meant_recipe (RemoveLines (OfRecipe nth t w)) from ss = line_index w from ss
 meant_recipe e from ss = Err Absent
 
--- a new recipe line at the place of this number
-abbrev pub IsInsertRecipe : (number : ℕ) → Edit → Type 0
-IsInsertRecipe n (InsertRecipe nth t k c) = k ≡ n
-IsInsertRecipe n e = ⊥
+-- ---- a new recipe line
+
+-- where it goes: where it gets this number, or after the last one
+abbrev pub place_for : (number : Option ℕ) → RecipePlace
+place_for None = Last
+place_for (Some k) = At k
+
+-- a new recipe line there
+abbrev pub IsAddRecipe : RecipePlace → Edit → Type 0
+IsAddRecipe p (AddRecipe nth t q c) = q ≡ p
+IsAddRecipe p e = ⊥
+
+-- the index of the place, among the lines below a header, which stand from this index on
+abbrev pub place_index : RecipePlace → (from : ℕ) → List ClassedLine → Option ℕ
+place_index Last from ls = Some (from + length (recipe_run ls))
+place_index (At k) from ls = option_map (λ gap. from + gap) (nth_of k (gaps_in ls))
+
+-- ---- the line
 
 -- where the command of a recipe line stands among the line's bytes: after the first byte, up to the
 -- line end

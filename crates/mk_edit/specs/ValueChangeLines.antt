@@ -1,25 +1,57 @@
--- What a change of values does to the line of one assignment, as a document shows the line.
+-- What a change of a value does to the line of one assignment, as a document shows the line.
 -- Told in docs/ARCHITECTURE.md, "An edit's way, from Edit to moved lines".
-use Rattle.std.specs.Prelude.{◌≡◌, ℕ, ◌+◌, ◌-◌, ◌==◌, ◌&&◌, ◌||◌, not, nat_lt, if◌then◌else◌, Bool, true, false, List, ◌++◌, take, drop, length, None}
-use Rattle.mk_lines.specs.Cells.{joined_byte}
+use Rattle.std.specs.Prelude.{◌≡◌, ℕ, ◌+◌, ◌-◌, ◌==◌, ◌&&◌, ◌||◌, not, nat_lt, if◌then◌else◌, Bool, true, false, List, [], ◌∷◌, ◌++◌, take, drop, length, Option, Some, None}
+use Rattle.mk_lines.specs.Cells.{joined_byte, Cell}
 use Rattle.mk_lines.specs.Pieces.{replaced}
+use Rattle.mk_lines.specs.Ranges.{text_at}
 use Rattle.mk_lines.specs.Units.{is_closed}
 use Rattle.mk_lines.specs.Words.{words_in}
-use Rattle.mk_lines.specs.Cells.{Cell}
+use Rattle.mk_class.specs.ListTests.{is_empty}
 use Rattle.mk_class.specs.Texts.{is_one_of}
 use Rattle.mk_class.specs.Assignments.{Assignment}
 use Rattle.mk_class.specs.Classes.Class.{Assign}
 use Rattle.mk_class.specs.ClassTable.{class_of}
 use Rattle.mk_class.specs.Contexts.{Context}
 use Rattle.mk_class.specs.LocatedClasses.{located_class}
-use Rattle.mk_tree.specs.LocatedLines.{LocatedLine}
-use Rattle.mk_edit_language.specs.Edits.{ValueChange, Set, Append, Add, Remove}
+use Rattle.mk_class.specs.declared.class.Class as class
+use Rattle.mk_class.specs.declared.class.Class.TheVariants as variants
+use Rattle.mk_tree.specs.LocatedLines.{LocatedLine, text_of_line}
+use Rattle.mk_edit_language.specs.Edits.{One, ValueChange, Set, Append, Add, Remove, Edit, ChangeValue}
 use Rattle.mk_edit_language.specs.LineCauses.{bares_end_among, is_open_to}
-use Rattle.mk_edit_language.specs.ValueChanges.{change_spans}
-use Rattle.mk_edit_language.specs.ValueSpans.{assignment_spans}
+use Rattle.mk_edit_language.specs.ValueChanges.{change_spans, assignment_spans}
 use Rattle.mk_edit_parts.specs.LineRanges.{ends_in_fold_located, value_range_located}
 use Rattle.mk_edit_parts.specs.LocatedParts.{assigns_located}
-use Rattle.mk_edit.specs.ValueEdits.{space_after, value_text_located}
+use Rattle.mk_edit.specs.declared.value_change.Change.{Change}
+use Rattle.mk_edit.specs.declared.value_change.Change.TheVariants as seen
+
+-- a change; its text is seen as bytes
+abbrev pub change_view : Change → ValueChange
+change_view (seen.Set value) = Set value.now
+change_view (seen.Append text) = Append text.now
+change_view (seen.Add word) = Add word.now
+change_view (seen.Remove word) = Remove word.now
+
+-- an edit changes the value of one assignment so
+pub record IsChangeOfOne (c : ValueChange) (e : Edit) : Type 0 where
+  pub nth : Option ℕ
+  pub name : List ℕ
+  pub is : e ≡ ChangeValue (One nth) name c
+
+-- ---- the line of an assignment
+
+-- the text of the value of an assignment's line of this joined text and class; the empty text for
+-- any other line
+abbrev value_text_in : (text : List ℕ) → class.Class → List ℕ
+value_text_in t (variants.Assign at p) = text_at t at.value
+value_text_in t k = []
+
+abbrev pub value_text_located : LocatedLine → List ℕ
+value_text_located l = value_text_in (text_of_line l) l.class
+
+-- what stands between a value and a text that is put after it: a space, or nothing if the value is
+-- empty
+abbrev pub space_after : (value : List ℕ) → List ℕ
+space_after v = if is_empty v then [] else 32 ∷ []
 
 -- whether the change does something to the value of an assignment's line
 abbrev pub has_effect_located : ValueChange → LocatedLine → Bool
@@ -72,7 +104,7 @@ pub record IsOwnLine (c : ValueChange) (context : Context) (l : LocatedLine) : T
   pub assigned : Assignment Cell
   pub here : class_of context l.bytes ≡ Assign assigned None
   pub class_is : l.class ≡ located_class joined_byte (Assign assigned None)
-  pub not_open : is_open_to c (Assign assigned None) ≡ false
+  pub not_open : is_open_to c (Some (Assign assigned None)) ≡ false
 
 -- the bytes of a line that the change changes: the line, which stands in this context, with the spans
 -- in it replaced

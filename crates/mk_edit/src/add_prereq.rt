@@ -4,11 +4,13 @@ ghost use Rattle.mk_lines.specs.Cells.{Cell};
 ghost use Rattle.mk_class.specs.Headers;
 ghost use Rattle.mk_tree.specs.Documents.{IsFaithful};
 ghost use Rattle.mk_tree.specs.Trees.{line_view};
+ghost use Rattle.mk_edit_language.specs.Edits.{AddPrereq};
 ghost use Rattle.mk_edit_language.specs.EditViews.{edit_of};
+ghost use Rattle.mk_edit_language.specs.RuleCauses.{has_prereq};
 ghost use Rattle.mk_edit_parts.specs.Seeking.{IsLineKnown};
 ghost use Rattle.mk_edit_parts.specs.SeenHeaders.{HasHeader, IsHeaderSeen};
 ghost use Rattle.mk_edit.specs.Planned.{Plans};
-ghost use Rattle.mk_edit.specs.PrerequisiteEdits.{IsAddPrereq, is_in_list};
+ghost use Rattle.mk_edit.specs.PrerequisiteEdits.{IsChangeOfPrereqs};
 
 use crate::header::header_of;
 use crate::moves::replace_line;
@@ -40,7 +42,7 @@ pub(crate) fn plan_add_prereq<A: Allocator + Copy>(
     meter: &mut Meter,
 ) -> Result<Patch<A>, Refusal>
     requires faithful { IsFaithful doc.now }
-    requires kind { IsAddPrereq order word.now (edit_of edit.now) }
+    requires kind { IsChangeOfPrereqs (AddPrereq order word.now) (edit_of edit.now) }
     requires known { IsLineKnown (edit_of edit.now) doc.now known }
     ensures { Plans (edit_of edit.now) doc.now meter.old meter.new result }
 {
@@ -64,7 +66,7 @@ pub(crate) fn plan_add_prereq<A: Allocator + Copy>(
 fn is_in_list<A: Allocator>(line: &Line<A>, header: Header, order: bool, word: &[u8]) -> bool
     requires { HasHeader (line_view line.now) header }
     ensures { (h : Headers.Header Cell) → IsHeaderSeen (line_view line.now) header h
-        → result ≡ is_in_list order word.now h }
+        → result ≡ has_prereq (AddPrereq order word.now) h }
 {
     if order {
         has_order_only(line, header, word)

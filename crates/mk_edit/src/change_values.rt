@@ -1,15 +1,17 @@
 //! A change of all values of a name, planned.
 ghost use Rattle.std.specs.Prelude.{◌≡◌};
 ghost use Rattle.mk_tree.specs.Documents.{IsFaithful};
-ghost use Rattle.mk_edit_language.specs.Edits.{ChangeValues};
-ghost use Rattle.mk_edit_language.specs.EditViews.{edit_of, value_change_of};
+ghost use Rattle.mk_edit_language.specs.Edits.{ChangeValue, Every};
+ghost use Rattle.mk_edit_language.specs.EditViews.{edit_of};
 ghost use Rattle.mk_edit_parts.specs.Windows.{AreWindows, concerns_name, first_place};
 ghost use Rattle.mk_edit.specs.Planned.{Plans};
+ghost use Rattle.mk_edit.specs.ValueChangeLines.{change_view};
 
 use crate::change_values_causes::accepted_change;
 use crate::change_values_patch::change_values_patch;
+use crate::value_change::Change;
 use mk_class::Meter;
-use mk_edit_language::{Edit, Refusal, ValueChange};
+use mk_edit_language::{Edit, Refusal};
 use mk_edit_parts::window::Window;
 use mk_patch::Patch;
 use mk_tree::Doc;
@@ -27,11 +29,11 @@ pub(crate) fn plan_change_values<A: Allocator + Copy>(
     edit: &Edit<A>,
     windows: &[Window],
     name: &[u8],
-    change: &ValueChange<A>,
+    change: Change<'_>,
     meter: &mut Meter,
 ) -> Result<Patch<A>, Refusal>
     requires faithful { IsFaithful doc.now }
-    requires kind { edit_of edit.now ≡ ChangeValues name.now (value_change_of change.now) }
+    requires kind { edit_of edit.now ≡ ChangeValue Every name.now (change_view change) }
     requires windows { AreWindows (concerns_name name.now) first_place doc.now windows.now }
     ensures { Plans (edit_of edit.now) doc.now meter.old meter.new result }
 {

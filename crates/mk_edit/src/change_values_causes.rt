@@ -5,15 +5,16 @@ ghost use Rattle.mk_class.specs.ClassedLines.{classed_lines};
 ghost use Rattle.mk_tree.specs.Documents.{IsFaithful};
 ghost use Rattle.mk_tree.specs.LocatedLines.{located_text};
 ghost use Rattle.mk_edit_language.specs.Refusals.{causes, first_cause};
-ghost use Rattle.mk_edit_language.specs.Edits.{ChangeValues};
-ghost use Rattle.mk_edit_language.specs.EditViews.{edit_of, value_change_of};
+ghost use Rattle.mk_edit_language.specs.Edits.{ChangeValue, Every};
+ghost use Rattle.mk_edit_language.specs.EditViews.{edit_of};
 ghost use Rattle.mk_edit_parts.specs.Windows.{AreWindows, concerns_name, first_place};
 ghost use Rattle.mk_edit.specs.ChangeValuesSurveys.{first_of_findings, idle, meant_places, meant_view};
+ghost use Rattle.mk_edit.specs.ValueChangeLines.{change_view};
 
 use crate::change_values_places::Meant;
 use crate::change_values_survey::{Findings, change_values_survey};
-use crate::value_change::put_by;
-use mk_edit_language::{Edit, Refusal, ValueChange};
+use crate::value_change::{Change, put_by};
+use mk_edit_language::{Edit, Refusal};
 use mk_edit_parts::argument::{bad_field, is_reserved};
 use mk_edit_parts::window::Window;
 use mk_lines::source::MAX_TEXT;
@@ -37,14 +38,14 @@ pub(crate) fn accepted_change<'a, A: Allocator + Copy>(
     edit: &Edit<A>,
     windows: &[Window],
     name: &[u8],
-    change: &ValueChange<A>,
+    change: Change<'_>,
 ) -> Result<Option<Vec<Meant<'a, A>, A>>, Refusal>
     requires faithful { IsFaithful doc.now }
-    requires kind { edit_of edit.now ≡ ChangeValues name.now (value_change_of change.now) }
+    requires kind { edit_of edit.now ≡ ChangeValue Every name.now (change_view change) }
     requires windows { AreWindows (concerns_name name.now) first_place doc.now windows.now }
     ensures places { IfOk result (λ noted. IfSome noted (λ places.
         map meant_view places.items
-        ≡ meant_places name.now (value_change_of change.now) doc.now)) }
+        ≡ meant_places name.now (change_view change.entry) doc.now)) }
     ensures accepted { IfOk result (λ _. first_cause (causes (located_text doc.now)
         (classed_lines (located_text doc.now)) (edit_of edit.now)) ≡ None) }
     ensures refused { IfErr result (λ refusal. first_cause (causes (located_text doc.now)
@@ -63,16 +64,16 @@ pub(crate) fn accepted_change<'a, A: Allocator + Copy>(
     }
 }
 
-// The first refusal whose cause lies in the lines of a document of this size, by what a change of
-// values finds among them.
-fn first_of_findings<A: Allocator>(
+/// The first refusal whose cause lies in the lines of a document of this size, by what a change of
+/// values finds among them, or a change of one value in its line.
+pub(crate) fn first_of_findings(
     findings: Findings,
-    change: &ValueChange<A>,
+    change: Change<'_>,
     size: usize,
 ) -> Option<Refusal>
     requires within { size ≤ max_text }
     requires few { findings.spared ≤ 2 * max_text }
-    ensures { result ≡ first_of_findings (value_change_of change.now) findings size }
+    ensures { result ≡ first_of_findings (change_view change.entry) findings size }
 {
     if findings.has_unread_prefix {
         return Some(Refusal::RecipePrefix);
@@ -94,12 +95,12 @@ fn first_of_findings<A: Allocator>(
 
 // The refusal of a change of words that changes this many lines: if it changes none, the word is
 // there already, or it is absent.
-fn idle<A: Allocator>(change: &ValueChange<A>, lines: usize) -> Option<Refusal>
-    ensures { result ≡ idle (value_change_of change.now) lines }
+fn idle(change: Change<'_>, lines: usize) -> Option<Refusal>
+    ensures { result ≡ idle (change_view change.entry) lines }
 {
     match change {
-        ValueChange::Add(_) if lines == 0 => Some(Refusal::Already),
-        ValueChange::Remove(_) if lines == 0 => Some(Refusal::Absent),
+        Change::Add(_) if lines == 0 => Some(Refusal::Already),
+        Change::Remove(_) if lines == 0 => Some(Refusal::Absent),
         _ => None,
     }
 }

@@ -6,18 +6,18 @@
 //! the lines that get longer.
 ghost use Rattle.std.specs.Prelude.{◌≡◌, ◌≤◌, ◌+◌, ◌++◌, IfOk, if◌then◌else◌, Some, None, length, map, option_map};
 ghost use Rattle.mk_tree.specs.Trees.{line_view};
-ghost use Rattle.mk_edit_language.specs.EditViews.{value_change_of};
 ghost use Rattle.mk_edit_parts.specs.LocatedParts.{IsClassed};
 ghost use Rattle.mk_edit.specs.ChangeValuesPatches.{AreChangeable, IsChangeable, changing_moves, is_of_turn, is_turn_for, line_changed, turn_moves};
 ghost use Rattle.mk_edit.specs.ChangeValuesSurveys.{meant_view};
 ghost use Rattle.mk_edit.specs.Planned.{ReadsAnew};
+ghost use Rattle.mk_edit.specs.ValueChangeLines.{change_view};
 
 use crate::change_values_places::Meant;
 use crate::moves::{builder, read_line};
 use crate::rename_target_effect::Turn;
-use crate::value_change::{bytes_changed, is_longer};
+use crate::value_change::{Change, bytes_changed, is_longer};
 use mk_class::Meter;
-use mk_edit_language::{Refusal, ValueChange};
+use mk_edit_language::Refusal;
 use mk_patch::{Patch, PatchBuilder, Step};
 use mk_tree::Line;
 use std::alloc::Allocator;
@@ -30,12 +30,12 @@ use std::alloc::Allocator;
 pub(crate) fn change_values_patch<A: Allocator + Copy>(
     alloc: A,
     places: &[Meant<'_, A>],
-    change: &ValueChange<A>,
+    change: Change<'_>,
     meter: &mut Meter,
 ) -> Result<Patch<A>, Refusal>
-    requires { AreChangeable (value_change_of change.now) (map meant_view places.now) }
+    requires { AreChangeable (change_view change) (map meant_view places.now) }
     ensures moves { IfOk result (λ patch. patch
-        ≡ changing_moves (value_change_of change.now) (map meant_view places.now)) }
+        ≡ changing_moves (change_view change.entry) (map meant_view places.now)) }
     ensures reads { ReadsAnew (length places.now) meter.old meter.new result }
 {
     let mut patch = builder(alloc, places.len())?;
@@ -48,21 +48,21 @@ pub(crate) fn change_values_patch<A: Allocator + Copy>(
 fn exchange_changed<A: Allocator + Copy>(
     alloc: A,
     places: &[Meant<'_, A>],
-    change: &ValueChange<A>,
+    change: Change<'_>,
     turn: Turn,
     patch: &mut PatchBuilder<A>,
     meter: &mut Meter,
 ) -> Result<(), Refusal>
-    requires can { AreChangeable (value_change_of change.now) (map meant_view places.now) }
+    requires can { AreChangeable (change_view change) (map meant_view places.now) }
     requires room { length patch.old.moves
-        + length (turn_moves turn (value_change_of change.now) (map meant_view places.now))
+        + length (turn_moves turn (change_view change) (map meant_view places.now))
         ≤ patch.old.room }
     ensures moves { IfOk result (λ _. patch.new ≡ record patch.old {
       moves = patch.old.moves
-          ++ turn_moves turn (value_change_of change.now) (map meant_view places.now);
+          ++ turn_moves turn (change_view change.entry) (map meant_view places.now);
     }) }
     ensures reads { ReadsAnew
-        (length (turn_moves turn (value_change_of change.now) (map meant_view places.now)))
+        (length (turn_moves turn (change_view change.entry) (map meant_view places.now)))
         meter.old meter.new result }
 {
     'places: for meant in places {
@@ -78,24 +78,24 @@ fn exchange_changed<A: Allocator + Copy>(
 fn changed_in_turn<A: Allocator + Copy>(
     alloc: A,
     meant: &Meant<'_, A>,
-    change: &ValueChange<A>,
+    change: Change<'_>,
     turn: Turn,
     meter: &mut Meter,
 ) -> Result<Option<Line<A>>, Refusal>
-    requires { IsChangeable (value_change_of change.now) (meant_view meant.now) }
+    requires { IsChangeable (change_view change) (meant_view meant.now) }
     ensures line { IfOk result (λ changed. option_map line_view changed
-        ≡ (if is_of_turn turn (value_change_of change.now) (meant_view meant.now)
-        then Some (line_changed (value_change_of change.now) (meant_view meant.now))
+        ≡ (if is_of_turn turn (change_view change.entry) (meant_view meant.now)
+        then Some (line_changed (change_view change.entry) (meant_view meant.now))
         else None)) }
     ensures reads { ReadsAnew
-        (if is_of_turn turn (value_change_of change.now) (meant_view meant.now) then 1 else 0)
+        (if is_of_turn turn (change_view change.entry) (meant_view meant.now) then 1 else 0)
         meter.old meter.new result }
 {
     let line = meant.line;
     if !is_exchanged(change, line, turn) {
         return Ok(None);
     }
-    let Ok(bytes) = bytes_changed(alloc, change, meant.place, line) else {
+    let Ok(bytes) = bytes_changed(alloc, change, &meant.place, line) else {
         return Err(Refusal::NoMemory);
     };
     let changed = read_line(alloc, bytes, meant.place.context, meter)?;
@@ -103,9 +103,9 @@ fn changed_in_turn<A: Allocator + Copy>(
 }
 
 // Whether a line that is changed is exchanged in this turn.
-fn is_exchanged<A: Allocator>(change: &ValueChange<A>, line: &Line<A>, turn: Turn) -> bool
+fn is_exchanged<A: Allocator>(change: Change<'_>, line: &Line<A>, turn: Turn) -> bool
     requires { IsClassed (line_view line.now) }
-    ensures { result ≡ is_turn_for turn (value_change_of change.now) (line_view line.now) }
+    ensures { result ≡ is_turn_for turn (change_view change.entry) (line_view line.now) }
 {
     match turn {
         Turn::NoLonger => !is_longer(change, line),

@@ -5,16 +5,14 @@ ghost use Rattle.mk_tree.specs.Admissions.{AreAdmitted};
 ghost use Rattle.mk_tree.specs.Documents.{IsFaithful};
 ghost use Rattle.mk_tree.specs.Origins.{lines_between};
 ghost use Rattle.mk_tree.specs.Trees.{line_view};
-ghost use Rattle.mk_edit_language.specs.EditViews.{value_change_of};
 ghost use Rattle.mk_edit_parts.specs.LocatedParts.{IsClassed};
 ghost use Rattle.mk_edit_parts.specs.Windows.{AreWindows, below_all, concerns_name, first_place};
-ghost use Rattle.mk_edit.specs.ValueChangeLines.{is_changed_located, spared_by};
+ghost use Rattle.mk_edit.specs.ValueChangeLines.{change_view, is_changed_located, spared_by};
 ghost use Rattle.mk_edit.specs.ChangeValuesSurveys.{IsSurveyedTo, findings_on, found_by, meant_places, meant_view, nothing_found};
 
 use crate::change_values_places::{Meant, with_meant};
-use crate::value_change::{has_effect, is_open, spared_by};
+use crate::value_change::{Change, has_effect, is_open, spared_by};
 use mk_class::Class;
-use mk_edit_language::ValueChange;
 use mk_edit_parts::line_test::assigns;
 use mk_edit_parts::seek::Found;
 use mk_edit_parts::window::Window;
@@ -56,15 +54,15 @@ pub(crate) fn change_values_survey<'a, A: Allocator + Copy>(
     doc: &'a Doc<A>,
     windows: &[Window],
     name: &[u8],
-    change: &ValueChange<A>,
+    change: Change<'_>,
 ) -> Survey<'a, A>
     requires faithful { IsFaithful doc.now }
     requires windows { AreWindows (concerns_name name.now) first_place doc.now windows.now }
     ensures findings { result.findings
-        ≡ findings_on name.now (value_change_of change.now) doc.now }
+        ≡ findings_on name.now (change_view change.entry) doc.now }
     ensures few { result.findings.spared ≤ 2 * max_text }
     ensures places { IfSome result.places (λ places. map meant_view places.items
-        ≡ meant_places name.now (value_change_of change.now) doc.now) }
+        ≡ meant_places name.now (change_view change.entry) doc.now) }
 {
     // The contract of `size` says that the text is within the limit, and so is what is spared; that of
     // `iter` says that each line is admitted where it stands.
@@ -85,15 +83,15 @@ fn surveyed<'a, A: Allocator>(
     doc: &'a Doc<A>,
     window: Window,
     name: &[u8],
-    change: &ValueChange<A>,
+    change: Change<'_>,
     survey: Survey<'a, A>,
 ) -> Survey<'a, A>
     requires faithful { IsFaithful doc.now }
     requires in_range { window.place.at + window.count ≤ length doc.now }
     requires admitted { AreAdmitted window.place.context (drop window.place.at doc.now) }
-    requires surveyed { IsSurveyedTo name.now (value_change_of change.now) doc.now window.place
+    requires surveyed { IsSurveyedTo name.now (change_view change) doc.now window.place
         survey.findings (λ p. p.items) survey.places }
-    ensures { IsSurveyedTo name.now (value_change_of change.now) doc.now
+    ensures { IsSurveyedTo name.now (change_view change.entry) doc.now
         (below_all window.place (lines_between window.place.at window.count doc.now))
         result.findings (λ p. p.items) result.places }
 {
@@ -142,12 +140,12 @@ fn changes_line<A: Allocator>(
     line: &Line<A>,
     class: &Class,
     name: &[u8],
-    change: &ValueChange<A>,
+    change: Change<'_>,
 ) -> bool
     requires classed { IsClassed (line_view line.now) }
     requires class { class.now ≡ (line_view line.now).class }
     ensures { result
-        ≡ is_changed_located name.now (value_change_of change.now) (line_view line.now) }
+        ≡ is_changed_located name.now (change_view change.entry) (line_view line.now) }
 {
     assigns(line, class, name) && has_effect(change, line)
 }
@@ -158,18 +156,18 @@ fn found<A: Allocator>(
     line: &Line<A>,
     class: &Class,
     name: &[u8],
-    change: &ValueChange<A>,
+    change: Change<'_>,
     is_changed: bool,
 ) -> Findings
     requires classed { IsClassed (line_view line.now) }
     requires class { class.now ≡ (line_view line.now).class }
     requires changed { is_changed
-        ≡ is_changed_located name.now (value_change_of change.now) (line_view line.now) }
+        ≡ is_changed_located name.now (change_view change) (line_view line.now) }
     requires few_lines { findings.lines ≤ max_text }
-    requires few { findings.spared + spared_by (value_change_of change.now) (line_view line.now)
+    requires few { findings.spared + spared_by (change_view change) (line_view line.now)
         < 2 ^ 32 }
     ensures { result
-        ≡ found_by name.now (value_change_of change.now) (line_view line.now) findings }
+        ≡ found_by name.now (change_view change.entry) (line_view line.now) findings }
 {
     let mut found = findings;
     found.has_unread_prefix |= sets_prefix_unread(line, class);

@@ -17,20 +17,16 @@
 //! - `insertion`: where new lines go, and the causes of refusal that their places decide.
 //! - `add_line`: new lines, planned: those of assignments and of rules.
 //! - `add_recipe`: a new recipe line, planned.
-//! - `insert_recipe`: a new recipe line at the place of a number, planned.
 //! - `header`: the header in the line of a rule.
 //! - `add_prereq`: a new prerequisite, planned.
 //! - `remove_prereq`: a prerequisite taken out, planned.
-//! - `set_value`: another value, planned.
-//! - `append_value`: a text appended to a value, planned.
-//! - `add_word`: a word put after a value, planned.
-//! - `assignment`: the assignment in its line.
-//! - `remove_word`: a word taken out of a value, planned.
 //! - `remove_assign`: the removal of an assignment.
-//! - `value_change`: what a change of values does to the line of one assignment.
+//! - `assignment`: the assignment in its line.
+//! - `value_change`: a change of a value, and what it does to the line of one assignment.
 //! - `change_values_places`: the lines that a change of values changes and their places, noted.
 //! - `change_values_survey`: what a change of values finds among the lines.
 //! - `change_values_causes`: the causes of refusal of a change of values.
+//! - `change_value`: a change of the value of one assignment, planned.
 //! - `change_values_patch`: the patch of a change of values whose causes are decided.
 //! - `change_values`: a change of all values of a name, planned.
 //! - `rename_target_places`: the lines that a rename exchanges and their places, noted.
@@ -43,16 +39,14 @@
 mod add_line;
 mod add_prereq;
 mod add_recipe;
-mod add_word;
-mod append_value;
 mod assignment;
+mod change_value;
 mod change_values;
 mod change_values_causes;
 mod change_values_patch;
 mod change_values_places;
 mod change_values_survey;
 mod header;
-mod insert_recipe;
 mod insertion;
 mod meant_recipe;
 mod moves;
@@ -61,14 +55,12 @@ mod remove_assign;
 mod remove_prereq;
 mod remove_recipe;
 mod remove_rule;
-mod remove_word;
 mod rename_target;
 mod rename_target_causes;
 mod rename_target_effect;
 mod rename_target_patch;
 mod rename_target_places;
 mod set_recipe;
-mod set_value;
 mod value_change;
 
 pub use mk_edit_language::{Detail, Edit, Field, Place, Refusal, RuleSeparator, ValueChange};

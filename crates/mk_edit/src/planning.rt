@@ -1,28 +1,26 @@
 //! What an edit would do to a document, or why it is refused.
 ghost use Rattle.std.specs.Prelude.{◌≡◌};
 ghost use Rattle.mk_tree.specs.Documents.{IsFaithful};
-ghost use Rattle.mk_edit_language.specs.Edits.{ChangeValues, RenameTarget};
-ghost use Rattle.mk_edit_language.specs.EditViews.{edit_of, value_change_of};
+ghost use Rattle.mk_edit_language.specs.Edits.{ChangeValue, Every, RenameTarget};
+ghost use Rattle.mk_edit_language.specs.EditViews.{edit_of};
 ghost use Rattle.mk_edit_parts.specs.Windows.{IsKnown};
 ghost use Rattle.mk_edit.specs.Planned.{Plans};
+ghost use Rattle.mk_edit.specs.ValueChangeLines.{change_view};
 
 use crate::add_line::plan_add_line;
 use crate::add_prereq::plan_add_prereq;
 use crate::add_recipe::plan_add_recipe;
-use crate::add_word::plan_add_word;
-use crate::append_value::plan_append_value;
+use crate::change_value::plan_change_value;
 use crate::change_values::plan_change_values;
-use crate::insert_recipe::plan_insert_recipe;
 use crate::remove_assign::plan_remove_assign;
 use crate::remove_prereq::plan_remove_prereq;
 use crate::remove_recipe::plan_remove_recipe;
 use crate::remove_rule::plan_remove_rule;
-use crate::remove_word::plan_remove_word;
 use crate::rename_target::plan_rename_target;
 use crate::set_recipe::plan_set_recipe;
-use crate::set_value::plan_set_value;
+use crate::value_change::{Change, change_of};
 use mk_class::Meter;
-use mk_edit_language::{Edit, Refusal, ValueChange};
+use mk_edit_language::{Edit, Refusal};
 use mk_edit_parts::window::{Known, Window};
 use mk_patch::Patch;
 use mk_tree::Doc;
@@ -74,12 +72,18 @@ pub fn plan_with<A: Allocator + Copy>(
 {
     let sought = known.line();
     match edit {
-        Edit::SetValue { value, .. } => plan_set_value(alloc, doc, edit, sought, value, meter),
-        Edit::AppendValue { value, .. } => plan_append_value(
-            alloc, doc, edit, sought, value, meter,
-        ),
-        Edit::AddWord { word, .. } => plan_add_word(alloc, doc, edit, sought, word, meter),
-        Edit::RemoveWord { word, .. } => plan_remove_word(alloc, doc, edit, sought, word, meter),
+        Edit::SetValue { value, .. } => {
+            plan_change_value(alloc, doc, edit, sought, Change::Set(value), meter)
+        }
+        Edit::AppendValue { value, .. } => {
+            plan_change_value(alloc, doc, edit, sought, Change::Append(value), meter)
+        }
+        Edit::AddWord { word, .. } => {
+            plan_change_value(alloc, doc, edit, sought, Change::Add(word), meter)
+        }
+        Edit::RemoveWord { word, .. } => {
+            plan_change_value(alloc, doc, edit, sought, Change::Remove(word), meter)
+        }
         Edit::AddAssign { .. } | Edit::AddRule { .. } => plan_add_line(
             alloc, doc, edit, sought, meter,
         ),
@@ -91,7 +95,7 @@ pub fn plan_with<A: Allocator + Copy>(
         Edit::RemovePrereq { word, .. } => plan_remove_prereq(
             alloc, doc, edit, sought, word, meter,
         ),
-        Edit::AddRecipe { .. } => plan_add_recipe(alloc, doc, edit, sought, meter),
+        Edit::AddRecipe { .. } => plan_add_recipe(alloc, doc, edit, sought, None, meter),
         Edit::SetRecipe { line, .. } | Edit::SetRecipeByText { line, .. } => {
             plan_set_recipe(alloc, doc, edit, sought, line, meter)
         }
@@ -99,11 +103,11 @@ pub fn plan_with<A: Allocator + Copy>(
             alloc, doc, edit, sought,
         ),
         Edit::InsertRecipe { number, .. } => {
-            plan_insert_recipe(alloc, doc, edit, sought, *number, meter)
+            plan_add_recipe(alloc, doc, edit, sought, Some(*number), meter)
         }
-        Edit::ChangeValues { name, change } => plan_values(
-            alloc, doc, edit, known, name, change, meter,
-        ),
+        Edit::ChangeValues { name, change } => {
+            plan_values(alloc, doc, edit, known, name, change_of(change), meter)
+        }
         Edit::RenameTarget { from, to } => plan_rename(alloc, doc, edit, known, from, to, meter),
     }
 }
@@ -139,11 +143,11 @@ fn plan_values<A: Allocator + Copy>(
     edit: &Edit<A>,
     known: &Known<A>,
     name: &[u8],
-    change: &ValueChange<A>,
+    change: Change<'_>,
     meter: &mut Meter,
 ) -> Result<Patch<A>, Refusal>
     requires faithful { IsFaithful doc.now }
-    requires kind { edit_of edit.now ≡ ChangeValues name.now (value_change_of change.now) }
+    requires kind { edit_of edit.now ≡ ChangeValue Every name.now (change_view change) }
     requires known { IsKnown (edit_of edit.now) doc.now known.now }
     ensures { Plans (edit_of edit.now) doc.now meter.old meter.new result }
 {

@@ -1,15 +1,16 @@
 //! A prerequisite taken out of a rule, planned.
-ghost use Rattle.std.specs.Prelude.{◌≡◌, ◌||◌};
+ghost use Rattle.std.specs.Prelude.{◌≡◌};
 ghost use Rattle.mk_lines.specs.Cells.{Cell};
 ghost use Rattle.mk_class.specs.Headers;
 ghost use Rattle.mk_tree.specs.Documents.{IsFaithful};
 ghost use Rattle.mk_tree.specs.Trees.{line_view};
+ghost use Rattle.mk_edit_language.specs.Edits.{RemovePrereq};
 ghost use Rattle.mk_edit_language.specs.EditViews.{edit_of};
-ghost use Rattle.mk_edit_language.specs.RuleCauses.{is_normal, is_order_only};
+ghost use Rattle.mk_edit_language.specs.RuleCauses.{has_prereq};
 ghost use Rattle.mk_edit_parts.specs.Seeking.{IsLineKnown};
 ghost use Rattle.mk_edit_parts.specs.SeenHeaders.{HasHeader, IsHeaderSeen};
 ghost use Rattle.mk_edit.specs.Planned.{Plans};
-ghost use Rattle.mk_edit.specs.PrerequisiteEdits.{IsRemovePrereq};
+ghost use Rattle.mk_edit.specs.PrerequisiteEdits.{IsChangeOfPrereqs};
 
 use crate::header::header_of;
 use crate::moves::replace_line;
@@ -38,7 +39,7 @@ pub(crate) fn plan_remove_prereq<A: Allocator + Copy>(
     meter: &mut Meter,
 ) -> Result<Patch<A>, Refusal>
     requires faithful { IsFaithful doc.now }
-    requires kind { IsRemovePrereq word.now (edit_of edit.now) }
+    requires kind { IsChangeOfPrereqs (RemovePrereq word.now) (edit_of edit.now) }
     requires known { IsLineKnown (edit_of edit.now) doc.now known }
     ensures { Plans (edit_of edit.now) doc.now meter.old meter.new result }
 {
@@ -61,7 +62,7 @@ pub(crate) fn plan_remove_prereq<A: Allocator + Copy>(
 fn is_prerequisite<A: Allocator>(line: &Line<A>, header: Header, word: &[u8]) -> bool
     requires { HasHeader (line_view line.now) header }
     ensures { (h : Headers.Header Cell) → IsHeaderSeen (line_view line.now) header h
-        → result ≡ (is_normal word.now h || is_order_only word.now h) }
+        → result ≡ has_prereq (RemovePrereq word.now) h }
 {
     has_normal(line, header, word) || has_order_only(line, header, word)
 }

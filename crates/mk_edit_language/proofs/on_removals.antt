@@ -1,4 +1,3 @@
 -- Lemmas. Lines taken out.
 pub mod RemovalLemmas
-pub mod RemoveAssignLemmas
 pub mod RuleTakenLemmas

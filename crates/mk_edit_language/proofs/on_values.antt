@@ -8,7 +8,6 @@ pub mod SetValueEmptyLemmas
 pub mod LastFoldLemmas
 pub mod BlankAdded
 pub mod AppendValueLemmas
-pub mod AddWordLemmas
 pub mod WordParts
 pub mod CellsKept
 pub mod RemoveWordLemmas

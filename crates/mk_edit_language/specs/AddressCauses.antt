@@ -11,7 +11,7 @@ use Rattle.mk_class.specs.Classes.{Class}
 use Rattle.mk_class.specs.Classes.Class.{Assign, DefineHead}
 use Rattle.mk_class.specs.Contexts.{Context, start, context_after}
 use Rattle.mk_class.specs.ClassedLines.{ClassedLine}
-use Rattle.mk_edit_language.specs.Edits.{Edit, ChangeValues, AddAssign, AddRule, RenameTarget}
+use Rattle.mk_edit_language.specs.Edits.{Every, Edit, ChangeValue, AddLine, RenameTarget}
 use Rattle.mk_edit_language.specs.Spots.{nth_of}
 use Rattle.mk_edit_language.specs.Addresses.{Address, assigns, candidates, nth_meant, address, is_a_target}
 use Rattle.mk_edit_language.specs.Stretches.{Stretch, insertion}
@@ -47,7 +47,7 @@ no_such_line ls None = None
 no_such_line ls (Some a) = where_holds (is_missing (nth_meant a) (candidates ls a)) NoSuch
 
 abbrev pub no_such : List ClassedLine → Edit → Option Refusal
-no_such ls (ChangeValues n c) = where_holds (not (list_any (λ l. assigns n l.class) ls)) NoSuch
+no_such ls (ChangeValue Every n c) = where_holds (not (list_any (λ l. assigns n l.class) ls)) NoSuch
 no_such ls (RenameTarget o n) = where_holds (not (is_a_target ls o)) NoSuch
 no_such ls e = no_such_line ls (address e)
 
@@ -86,11 +86,7 @@ begins_some_renamed_line o n c (l ∷ ls) =
     || begins_some_renamed_line o n (context_after c l.class) ls
 
 abbrev pub prefix_led : List ClassedLine → Edit → Option Refusal
-prefix_led ls (AddAssign p n f v) =
-    where_holds (begins_new_line (AddAssign p n f v) (insertion ls (AddAssign p n f v)))
-    RecipePrefix
-prefix_led ls (AddRule p ts c ws) =
-    where_holds (begins_new_line (AddRule p ts c ws) (insertion ls (AddRule p ts c ws)))
-    RecipePrefix
+prefix_led ls (AddLine p l) =
+    where_holds (begins_new_line (AddLine p l) (insertion ls (AddLine p l))) RecipePrefix
 prefix_led ls (RenameTarget o n) = where_holds (begins_some_renamed_line o n start ls) RecipePrefix
 prefix_led ls e = None

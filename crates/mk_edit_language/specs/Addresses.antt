@@ -9,7 +9,7 @@ use Rattle.mk_class.specs.Classes.{Class}
 use Rattle.mk_class.specs.Classes.Class.{Assign, TargetAssign, Header}
 use Rattle.mk_class.specs.ClassedLines.{ClassedLine}
 use Rattle.mk_tree.specs.LineTexts.{StandingLine}
-use Rattle.mk_edit_language.specs.Edits.{Place, Bottom, BeforeVar, AfterVar, BeforeRule, Edit, SetValue, AppendValue, AddWord, RemoveWord, ChangeValues, AddAssign, RemoveAssign, AddRule, RemoveRule, AddPrereq, RemovePrereq, AddRecipe, SetRecipe, RemoveRecipe, InsertRecipe, SetRecipeByText, RemoveRecipeByText, RenameTarget}
+use Rattle.mk_edit_language.specs.Edits.{Place, Bottom, BeforeVar, AfterVar, BeforeRule, One, Every, OfAssign, OfRule, OfRecipe, Edit, ChangeValue, ChangePrereqs, AddLine, AddRecipe, SetRecipe, RemoveLines, RenameTarget}
 use Rattle.mk_edit_language.specs.Spots.{spots, picked}
 
 -- a variable by its name among the assignments, or a rule by a target among the headers
@@ -50,23 +50,15 @@ place_address (BeforeRule nth t) = Some (Rule nth t)
 
 -- the address of an edit, or of its place; an edit of every line of a name has none
 abbrev pub address : Edit → Option Address
-address (SetValue nth n v) = Some (Variable nth n)
-address (AppendValue nth n v) = Some (Variable nth n)
-address (AddWord nth n w) = Some (Variable nth n)
-address (RemoveWord nth n w) = Some (Variable nth n)
-address (ChangeValues n c) = None
-address (AddAssign p n f v) = place_address p
-address (RemoveAssign nth n) = Some (Variable nth n)
-address (AddRule p ts c ws) = place_address p
-address (RemoveRule nth t) = Some (Rule nth t)
-address (AddPrereq order nth t w) = Some (Rule nth t)
-address (RemovePrereq nth t w) = Some (Rule nth t)
-address (AddRecipe nth t c) = Some (Rule nth t)
-address (SetRecipe nth t k c) = Some (Rule nth t)
-address (RemoveRecipe nth t k) = Some (Rule nth t)
-address (InsertRecipe nth t k c) = Some (Rule nth t)
-address (SetRecipeByText nth t o c) = Some (Rule nth t)
-address (RemoveRecipeByText nth t o) = Some (Rule nth t)
+address (ChangeValue (One nth) n c) = Some (Variable nth n)
+address (ChangeValue Every n c) = None
+address (ChangePrereqs nth t c) = Some (Rule nth t)
+address (AddLine p l) = place_address p
+address (AddRecipe nth t p c) = Some (Rule nth t)
+address (SetRecipe nth t w c) = Some (Rule nth t)
+address (RemoveLines (OfAssign nth n)) = Some (Variable nth n)
+address (RemoveLines (OfRule nth t)) = Some (Rule nth t)
+address (RemoveLines (OfRecipe nth t w)) = Some (Rule nth t)
 address (RenameTarget o n) = None
 
 -- the targets of a header or of a target assignment

@@ -8,7 +8,8 @@ use Rattle.mk_class.specs.ListTests.{is_empty}
 use Rattle.mk_class.specs.Keywords.{is_reserved_word}
 use Rattle.mk_class.specs.RecipePrefix.{is_prefix_name}
 use Rattle.mk_class.specs.Arguments.{is_value, is_word, is_target, is_name, is_command}
-use Rattle.mk_edit_language.specs.Edits.{Place, Bottom, BeforeVar, AfterVar, BeforeRule, ValueChange, Set, Append, Add, Remove, Edit, SetValue, AppendValue, AddWord, RemoveWord, ChangeValues, AddAssign, RemoveAssign, AddRule, RemoveRule, AddPrereq, RemovePrereq, AddRecipe, SetRecipe, RemoveRecipe, InsertRecipe, SetRecipeByText, RemoveRecipeByText, RenameTarget}
+use Rattle.mk_edit_language.specs.Edits.{Place, Bottom, BeforeVar, AfterVar, BeforeRule, NewLine, NewAssign, NewRule, Every, ValueChange, Set, Append, Add, Remove, PrereqChange, AddPrereq, RemovePrereq, RecipeLine, ByNumber, ByText, Removal, OfAssign, OfRule, OfRecipe, Edit, ChangeValue, ChangePrereqs, AddLine, AddRecipe, SetRecipe, RemoveLines, RenameTarget}
+use Rattle.mk_edit_language.specs.Addresses.{Address, Variable, Rule, address}
 use Rattle.mk_edit_language.specs.Causes.{where_holds}
 use Rattle.mk_edit_language.specs.declared.refusal.Field.{Field}
 use Rattle.mk_edit_language.specs.declared.refusal.Field.TheVariants as field
@@ -54,41 +55,39 @@ change_test (Append v) = Tested field.Value (is_value v && not (is_empty v))
 change_test (Add w) = Tested field.Word (is_value_word w)
 change_test (Remove w) = Tested field.Word (is_value_word w)
 
+-- the test of the word of a change of prerequisites
+abbrev prereq_test : PrereqChange → FieldTest
+prereq_test (AddPrereq order w) = Tested field.Word (is_word w)
+prereq_test (RemovePrereq w) = Tested field.Word (is_word w)
+
+-- the tests of a new line that goes to a place
+abbrev pub line_tests : NewLine → List FieldTest
+line_tests (NewAssign n f v) =
+    Tested field.Name (is_name n) ∷ Tested field.Value (is_value v) ∷ []
+line_tests (NewRule ts c ws) =
+    Tested field.Targets (are_targets ts) ∷ Tested field.Prereqs (are_words ws) ∷ []
+
+-- the tests of what says which recipe line is meant, before other tests
+abbrev pub recipe_tests : RecipeLine → List FieldTest → List FieldTest
+recipe_tests (ByNumber k) ts = ts
+recipe_tests (ByText o) ts = Tested field.Old (is_command o) ∷ ts
+
+-- the tests of what says which lines go
+abbrev removal_tests : Removal → List FieldTest
+removal_tests (OfAssign nth n) = Tested field.Name (is_name n) ∷ []
+removal_tests (OfRule nth t) = Tested field.Target (is_target t) ∷ []
+removal_tests (OfRecipe nth t w) = Tested field.Target (is_target t) ∷ recipe_tests w []
+
 -- the fields of an edit in their order
 abbrev pub field_tests : Edit → List FieldTest
-field_tests (SetValue nth n v) =
-    Tested field.Name (is_name n) ∷ Tested field.Value (is_value v) ∷ []
-field_tests (AppendValue nth n v) =
-    Tested field.Name (is_name n) ∷ Tested field.Value (is_value v && not (is_empty v)) ∷ []
-field_tests (AddWord nth n w) =
-    Tested field.Name (is_name n) ∷ Tested field.Word (is_value_word w) ∷ []
-field_tests (RemoveWord nth n w) =
-    Tested field.Name (is_name n) ∷ Tested field.Word (is_value_word w) ∷ []
-field_tests (ChangeValues n c) = Tested field.Name (is_name n) ∷ change_test c ∷ []
-field_tests (AddAssign p n f v) =
-    Tested field.Place (is_place p) ∷ Tested field.Name (is_name n)
-    ∷ Tested field.Value (is_value v) ∷ []
-field_tests (RemoveAssign nth n) = Tested field.Name (is_name n) ∷ []
-field_tests (AddRule p ts c ws) =
-    Tested field.Place (is_place p) ∷ Tested field.Targets (are_targets ts)
-    ∷ Tested field.Prereqs (are_words ws) ∷ []
-field_tests (RemoveRule nth t) = Tested field.Target (is_target t) ∷ []
-field_tests (AddPrereq order nth t w) =
-    Tested field.Target (is_target t) ∷ Tested field.Word (is_word w) ∷ []
-field_tests (RemovePrereq nth t w) =
-    Tested field.Target (is_target t) ∷ Tested field.Word (is_word w) ∷ []
-field_tests (AddRecipe nth t c) =
+field_tests (ChangeValue w n c) = Tested field.Name (is_name n) ∷ change_test c ∷ []
+field_tests (ChangePrereqs nth t c) = Tested field.Target (is_target t) ∷ prereq_test c ∷ []
+field_tests (AddLine p l) = Tested field.Place (is_place p) ∷ line_tests l
+field_tests (AddRecipe nth t p c) =
     Tested field.Target (is_target t) ∷ Tested field.Line (is_command c) ∷ []
-field_tests (SetRecipe nth t k c) =
-    Tested field.Target (is_target t) ∷ Tested field.Line (is_command c) ∷ []
-field_tests (RemoveRecipe nth t k) = Tested field.Target (is_target t) ∷ []
-field_tests (InsertRecipe nth t k c) =
-    Tested field.Target (is_target t) ∷ Tested field.Line (is_command c) ∷ []
-field_tests (SetRecipeByText nth t o c) =
-    Tested field.Target (is_target t) ∷ Tested field.Old (is_command o)
-    ∷ Tested field.Line (is_command c) ∷ []
-field_tests (RemoveRecipeByText nth t o) =
-    Tested field.Target (is_target t) ∷ Tested field.Old (is_command o) ∷ []
+field_tests (SetRecipe nth t w c) =
+    Tested field.Target (is_target t) ∷ recipe_tests w (Tested field.Line (is_command c) ∷ [])
+field_tests (RemoveLines r) = removal_tests r
 field_tests (RenameTarget o n) =
     Tested field.Old (is_target o) ∷ Tested field.New (is_target n) ∷ []
 
@@ -97,44 +96,28 @@ bad_argument e = first_failed (field_tests e)
 
 -- ---- Reserved: a variable's name is `.RECIPEPREFIX`, or a target is a word of directives
 
--- the variable that a place names
-abbrev pub place_names : Place → List (List ℕ)
-place_names (BeforeVar nth n) = n ∷ []
-place_names (AfterVar nth n) = n ∷ []
-place_names p = []
+-- the variable that an address names
+abbrev pub address_names : Option Address → List (List ℕ)
+address_names (Some (Variable nth n)) = n ∷ []
+address_names a = []
 
 -- the variables that an edit names, including that of its place
 abbrev pub names : Edit → List (List ℕ)
-names (SetValue nth n v) = n ∷ []
-names (AppendValue nth n v) = n ∷ []
-names (AddWord nth n w) = n ∷ []
-names (RemoveWord nth n w) = n ∷ []
-names (ChangeValues n c) = n ∷ []
-names (AddAssign p n f v) = n ∷ place_names p
-names (RemoveAssign nth n) = n ∷ []
-names (AddRule p ts c ws) = place_names p
-names e = []
+names (ChangeValue Every n c) = n ∷ []
+names (AddLine p (NewAssign n f v)) = n ∷ address_names (address (AddLine p (NewAssign n f v)))
+names e = address_names (address e)
 
--- the target that a place names
-abbrev pub place_targets : Place → List (List ℕ)
-place_targets (BeforeRule nth t) = t ∷ []
-place_targets p = []
+-- the target that an address names
+abbrev pub address_targets : Option Address → List (List ℕ)
+address_targets (Some (Rule nth t)) = t ∷ []
+address_targets a = []
 
 -- the targets that an edit names, including that of its place
 abbrev pub targets : Edit → List (List ℕ)
-targets (AddAssign p n f v) = place_targets p
-targets (AddRule p ts c ws) = words_in ts ++ place_targets p
-targets (RemoveRule nth t) = t ∷ []
-targets (AddPrereq order nth t w) = t ∷ []
-targets (RemovePrereq nth t w) = t ∷ []
-targets (AddRecipe nth t c) = t ∷ []
-targets (SetRecipe nth t k c) = t ∷ []
-targets (RemoveRecipe nth t k) = t ∷ []
-targets (InsertRecipe nth t k c) = t ∷ []
-targets (SetRecipeByText nth t o c) = t ∷ []
-targets (RemoveRecipeByText nth t o) = t ∷ []
+targets (AddLine p (NewRule ts c ws)) =
+    words_in ts ++ address_targets (address (AddLine p (NewRule ts c ws)))
 targets (RenameTarget o n) = o ∷ n ∷ []
-targets e = []
+targets e = address_targets (address e)
 
 abbrev pub reserved : Edit → Option Refusal
 reserved e =

@@ -1,6 +1,6 @@
 -- What an accepted edit does to the reading.
 -- Told in docs/EDITS.md, "Variables", "Rules", "Recipes" and "Targets".
-use Rattle.std.specs.Prelude.{ℕ, ◌+◌, ◌&&◌, ◌==◌, if◌then◌else◌, Bool, true, false, not, List, [], ◌∷◌, ◌++◌, map, take, drop, filter, length, None}
+use Rattle.std.specs.Prelude.{ℕ, ◌+◌, ◌&&◌, ◌==◌, if◌then◌else◌, Bool, true, false, not, List, [], ◌∷◌, ◌++◌, map, take, drop, filter, length, None, option_map}
 use Rattle.std.specs.Str.{bytes_eq}
 use Rattle.mk_lines.specs.Lists.{concat}
 use Rattle.mk_lines.specs.Cells.{Cell, joined_byte}
@@ -13,35 +13,24 @@ use Rattle.mk_class.specs.Assignments.{Assignment}
 use Rattle.mk_class.specs.Classes.{Class}
 use Rattle.mk_class.specs.Classes.Class.{Assign as AssignLine, Header as HeaderLine}
 use Rattle.mk_class.specs.ClassedLines.{ClassedLine, classed_lines}
-use Rattle.mk_class.specs.declared.assignment.Flavor.{Flavor}
 use Rattle.mk_class.specs.declared.rule.Separator.{Separator}
 use Rattle.mk_class.specs.declared.rule.Separator.TheVariants.{SingleColon, DoubleColon}
 use Rattle.mk_tree.specs.Documents.{text_of}
 use Rattle.mk_tree.specs.Items.{Item, Assign, TargetAssign, Header, Recipe, Sets, items, items_of_line, header_item}
 use Rattle.mk_tree.specs.LineTexts.{StandingLine}
-use Rattle.mk_edit_language.specs.Edits.{ValueChange, Set, Append, Add, Remove, Edit, SetValue, AppendValue, AddWord, RemoveWord, ChangeValues, AddAssign, RemoveAssign, AddRule, RemoveRule, AddPrereq, RemovePrereq, AddRecipe, SetRecipe, RemoveRecipe, InsertRecipe, SetRecipeByText, RemoveRecipeByText, RenameTarget}
+use Rattle.mk_edit_language.specs.Edits.{NewLine, NewAssign, NewRule, One, Every, ValueChange, Set, Append, Add, Remove, PrereqChange, AddPrereq, RemovePrereq, Edit, ChangeValue, ChangePrereqs, AddLine, AddRecipe, SetRecipe, RemoveLines, RenameTarget}
 use Rattle.mk_edit_language.specs.Addresses.{Variable, Rule, found}
-use Rattle.mk_edit_language.specs.Stretches.{Stretch, insertion, removal, recipe_found, text_number}
-use Rattle.mk_edit_language.specs.ValueSpans.{set_value_span}
-use Rattle.mk_edit_language.specs.ValueWords.{led_words, staying, from_first_word}
-use Rattle.mk_edit_language.specs.ValueChanges.{is_changed}
+use Rattle.mk_edit_language.specs.Stretches.{Stretch, this_line, place_found, recipe_place, removed, recipe_found}
+use Rattle.mk_edit_language.specs.ValueChanges.{set_value_span, led_words, staying, from_first_word, is_changed}
 use Rattle.mk_edit_language.specs.EditSpans.{where_found}
 use Rattle.mk_edit_language.specs.declared.edit.RuleSeparator.{RuleSeparator}
 use Rattle.mk_edit_language.specs.declared.edit.RuleSeparator.TheVariants.{Single, Double}
 
 -- ---- the items of the other lines stay
 
--- the items of a text, with these items in the place of those of one line
-abbrev pub with_items : List Item → StandingLine → List Item
+-- the items of a text, with these items in the place of those of a stretch
+abbrev pub with_items : List Item → Stretch → List Item
 with_items is s = items s.above ++ (is ++ items s.below)
-
--- the items of a text, with this item in the place of those of a stretch
-abbrev pub with_item : Item → Stretch → List Item
-with_item i s = items s.above ++ i ∷ items s.below
-
--- the items of a text without those of a stretch
-abbrev pub without_items : Stretch → List Item
-without_items s = items s.above ++ items s.below
 
 -- ---- values
 
@@ -55,7 +44,8 @@ value_item f at (AssignLine a p) = item_with_value a (f at a) ∷ []
 value_item f at k = []
 
 abbrev pub with_value : (ℕ → Assignment Cell → List ℕ) → StandingLine → List Item
-with_value f s = with_items (value_item f (length (text_of s.above)) s.line.class) s
+with_value f s =
+    with_items (value_item f (length (text_of s.above)) s.line.class) (this_line s)
 
 -- whether a line feed stands directly before a span, and the span reaches the end of the text
 abbrev pub leaves_fold_last : (text : List ℕ) → Replacement → Bool
@@ -81,7 +71,7 @@ value_without t w at a =
     if is_empty (staying w (led_words a.value)) then value_set t [] at a else
     unit_text joined_byte (from_first_word (staying w (led_words a.value)))
 
--- the value after a change of values: what the edit of this value alone makes of it
+-- the value after a change
 abbrev pub value_changed : (text : List ℕ) → ValueChange → (line_start : ℕ) → Assignment Cell
     → List ℕ
 value_changed t (Set v) at a = value_set t v at a
@@ -110,7 +100,7 @@ header_items f (HeaderLine h) = f (header_item h) ∷ []
 header_items f k = []
 
 abbrev pub with_header : (Item → Item) → StandingLine → List Item
-with_header f s = with_items (header_items f s.line.class) s
+with_header f s = with_items (header_items f s.line.class) (this_line s)
 
 -- a word put last in a list of prerequisites
 abbrev pub with_prerequisite : (order : Bool) → (word : List ℕ) → Item → Item
@@ -127,6 +117,11 @@ abbrev pub without_prerequisite : (word : List ℕ) → Item → Item
 without_prerequisite w (Header ts s p n o i) = Header ts s p (without_word w n) (without_word w o) i
 without_prerequisite w i = i
 
+-- a header after a change of its prerequisites
+abbrev pub with_prereqs : PrereqChange → Item → Item
+with_prereqs (AddPrereq order w) i = with_prerequisite order w i
+with_prereqs (RemovePrereq w) i = without_prerequisite w i
+
 -- words with the new word in the place of each old one
 abbrev pub rename_words : (old new : List ℕ) → List (List ℕ) → List (List ℕ)
 rename_words o n ws = map (λ w. if bytes_eq w o then n else w) ws
@@ -140,54 +135,32 @@ renamed_item o n i = i
 
 -- ---- new items
 
--- a new assignment
-abbrev pub new_assign : (name : List ℕ) → Flavor → (value : List ℕ) → Item
-new_assign n f v = Assign (Sets [] n f v)
-
 -- the separator of a new rule
 abbrev pub separator_of : RuleSeparator → Separator
 separator_of Single = SingleColon
 separator_of Double = DoubleColon
 
--- a new rule
-abbrev pub new_header : (targets : List ℕ) → RuleSeparator → (prereqs : List ℕ) → Item
-new_header ts c ws = Header (words_in ts) (separator_of c) [] (words_in ws) [] None
+-- a new line that goes to a place
+abbrev pub new_item : NewLine → Item
+new_item (NewAssign n f v) = Assign (Sets [] n f v)
+new_item (NewRule ts c ws) = Header (words_in ts) (separator_of c) [] (words_in ws) [] None
 
 -- ---- the change
 
 -- the reading after an edit that no cause refuses
 abbrev change_of : (text : List ℕ) → List ClassedLine → Edit → List Item
-change_of t ls (SetValue nth n v) =
-    where_found (with_value (value_set t v)) (found ls (Variable nth n))
-change_of t ls (AppendValue nth n v) =
-    where_found (with_value (λ at. value_appended v)) (found ls (Variable nth n))
-change_of t ls (AddWord nth n w) =
-    where_found (with_value (λ at. value_appended w)) (found ls (Variable nth n))
-change_of t ls (RemoveWord nth n w) =
-    where_found (with_value (value_without t w)) (found ls (Variable nth n))
-change_of t ls (ChangeValues n c) = with_values t n c 0 ls
-change_of t ls (AddAssign p n f v) =
-    where_found (with_item (new_assign n f v)) (insertion ls (AddAssign p n f v))
-change_of t ls (RemoveAssign nth n) = where_found without_items (removal ls (RemoveAssign nth n))
-change_of t ls (AddRule p ts c ws) =
-    where_found (with_item (new_header ts c ws)) (insertion ls (AddRule p ts c ws))
-change_of t ls (RemoveRule nth g) = where_found without_items (removal ls (RemoveRule nth g))
-change_of t ls (AddPrereq order nth g w) =
-    where_found (with_header (with_prerequisite order w)) (found ls (Rule nth g))
-change_of t ls (RemovePrereq nth g w) =
-    where_found (with_header (without_prerequisite w)) (found ls (Rule nth g))
-change_of t ls (AddRecipe nth g c) =
-    where_found (with_item (Recipe c)) (insertion ls (AddRecipe nth g c))
-change_of t ls (SetRecipe nth g k c) =
-    where_found (with_items (Recipe c ∷ [])) (recipe_found ls nth g k)
-change_of t ls (RemoveRecipe nth g k) =
-    where_found without_items (removal ls (RemoveRecipe nth g k))
-change_of t ls (InsertRecipe nth g k c) =
-    where_found (with_item (Recipe c)) (insertion ls (InsertRecipe nth g k c))
-change_of t ls (SetRecipeByText nth g o c) =
-    where_found (with_items (Recipe c ∷ [])) (recipe_found ls nth g (text_number ls nth g o))
-change_of t ls (RemoveRecipeByText nth g o) =
-    where_found without_items (removal ls (RemoveRecipeByText nth g o))
+change_of t ls (ChangeValue (One nth) n c) =
+    where_found (with_value (value_changed t c)) (found ls (Variable nth n))
+change_of t ls (ChangeValue Every n c) = with_values t n c 0 ls
+change_of t ls (ChangePrereqs nth g c) =
+    where_found (with_header (with_prereqs c)) (found ls (Rule nth g))
+change_of t ls (AddLine p l) =
+    where_found (with_items (new_item l ∷ [])) (place_found ls p)
+change_of t ls (AddRecipe nth g p c) =
+    where_found (with_items (Recipe c ∷ [])) (recipe_place ls nth g p)
+change_of t ls (SetRecipe nth g w c) =
+    where_found (with_items (Recipe c ∷ [])) (option_map this_line (recipe_found ls nth g w))
+change_of t ls (RemoveLines r) = where_found (with_items []) (removed ls r)
 change_of t ls (RenameTarget o n) = map (renamed_item o n) (items ls)
 
 abbrev pub change : (text : List ℕ) → Edit → List Item

@@ -3,8 +3,8 @@
 use Rattle.std.specs.Prelude.{ℕ, Bool, List, length, filter, Option, Some, None}
 use Rattle.std.specs.List.{list_any}
 use Rattle.mk_class.specs.ClassedLines.{ClassedLine, classed_lines}
-use Rattle.mk_edit_language.specs.Edits.{Edit, ChangeValues, AddAssign, RemoveAssign, AddRule, RemoveRule, AddRecipe, RemoveRecipe, InsertRecipe, RemoveRecipeByText, RenameTarget}
-use Rattle.mk_edit_language.specs.Stretches.{Stretch, removal}
+use Rattle.mk_edit_language.specs.Edits.{Every, OfRule, Edit, ChangeValue, AddLine, AddRecipe, RemoveLines, RenameTarget}
+use Rattle.mk_edit_language.specs.Stretches.{Stretch, removed}
 use Rattle.mk_edit_language.specs.ValueChanges.{is_changed}
 use Rattle.mk_edit_language.specs.WordPieces.{renamed_pieces, is_replaced}
 
@@ -14,12 +14,9 @@ is_renamed o n l = list_any is_replaced (renamed_pieces o n l.class)
 
 -- the greatest number of lines that an edit reads again
 abbrev pub cost : (text : List ℕ) → Edit → ℕ
-cost t (ChangeValues n c) = length (filter (is_changed n c) (classed_lines t))
+cost t (ChangeValue Every n c) = length (filter (is_changed n c) (classed_lines t))
 cost t (RenameTarget o n) = length (filter (is_renamed o n) (classed_lines t))
-cost t (RemoveAssign nth n) = 0
-cost t (RemoveRule nth g) = 0
-cost t (RemoveRecipe nth g k) = 0
-cost t (RemoveRecipeByText nth g o) = 0
+cost t (RemoveLines r) = 0
 cost t e = 1
 
 -- how many lines a stretch has
@@ -29,12 +26,8 @@ line_count (Some s) = length s.lines
 
 -- the number of lines that an edit replaces or takes out
 abbrev pub size : (text : List ℕ) → Edit → ℕ
-size t (AddAssign p n f v) = 0
-size t (AddRule p ts c ws) = 0
-size t (AddRecipe nth g c) = 0
-size t (InsertRecipe nth g k c) = 0
-size t (RemoveAssign nth n) = 1
-size t (RemoveRecipe nth g k) = 1
-size t (RemoveRecipeByText nth g o) = 1
-size t (RemoveRule nth g) = line_count (removal (classed_lines t) (RemoveRule nth g))
+size t (AddLine p l) = 0
+size t (AddRecipe nth g p c) = 0
+size t (RemoveLines (OfRule nth g)) = line_count (removed (classed_lines t) (OfRule nth g))
+size t (RemoveLines r) = 1
 size t e = cost t e

@@ -10,13 +10,11 @@ use Rattle.mk_class.specs.Classes.Class.{Header}
 use Rattle.mk_class.specs.ClassedLines.{ClassedLine}
 use Rattle.mk_tree.specs.Documents.{text_of}
 use Rattle.mk_tree.specs.LineTexts.{StandingLine}
-use Rattle.mk_edit_language.specs.Edits.{Edit, SetValue, AppendValue, AddWord, RemoveWord, ChangeValues, AddAssign, RemoveAssign, AddRule, RemoveRule, AddPrereq, RemovePrereq, AddRecipe, SetRecipe, RemoveRecipe, InsertRecipe, SetRecipeByText, RemoveRecipeByText, RenameTarget}
+use Rattle.mk_edit_language.specs.Edits.{One, Every, PrereqChange, AddPrereq, RemovePrereq, Edit, ChangeValue, ChangePrereqs, SetRecipe, RemoveLines, RenameTarget}
 use Rattle.mk_edit_language.specs.Addresses.{Variable, Rule, found}
-use Rattle.mk_edit_language.specs.Stretches.{Stretch, insertion, removal, recipe_found, text_number}
+use Rattle.mk_edit_language.specs.Stretches.{Stretch, insertion, removed, recipe_found}
 use Rattle.mk_edit_language.specs.NewLines.{new_line_span}
-use Rattle.mk_edit_language.specs.ValueSpans.{value_span, value_spans, set_value_span, append_value_span}
-use Rattle.mk_edit_language.specs.ValueWords.{remove_word_spans}
-use Rattle.mk_edit_language.specs.ValueChanges.{changed_line_spans}
+use Rattle.mk_edit_language.specs.ValueChanges.{value_spans, change_spans, changed_line_spans}
 use Rattle.mk_edit_language.specs.WordPieces.{add_pieces, remove_pieces, renamed_pieces}
 
 -- the span of whole lines with their line ends
@@ -30,6 +28,11 @@ abbrev pub header_spans : (Headers.Header Cell → List Piece) → (line_start :
     → List Replacement
 header_spans f at (Header h) = replacements at (f h)
 header_spans f at k = []
+
+-- the pieces of a header's line that a change of prerequisites makes
+abbrev pub prereq_pieces : PrereqChange → Headers.Header Cell → List Piece
+prereq_pieces (AddPrereq order w) h = add_pieces order w h
+prereq_pieces (RemovePrereq w) h = remove_pieces w h
 
 abbrev pub word_spans : (Headers.Header Cell → List Piece) → StandingLine → List Replacement
 word_spans f s = header_spans f (length (text_of s.above)) s.line.class
@@ -62,33 +65,12 @@ where_found f (Some x) = f x
 
 -- the spans of an edit that no cause refuses
 abbrev pub spans_of : (text : List ℕ) → List ClassedLine → Edit → List Replacement
-spans_of t ls (SetValue nth n v) =
-    where_found (value_span (set_value_span v)) (found ls (Variable nth n))
-spans_of t ls (AppendValue nth n v) =
-    where_found (value_span (append_value_span v)) (found ls (Variable nth n))
-spans_of t ls (AddWord nth n w) =
-    where_found (value_span (append_value_span w)) (found ls (Variable nth n))
-spans_of t ls (RemoveWord nth n w) =
-    where_found (value_spans (remove_word_spans w)) (found ls (Variable nth n))
-spans_of t ls (ChangeValues n c) = spans_in_lines (changed_line_spans n c) 0 ls
-spans_of t ls (AddAssign p n f v) =
-    where_found (new_line_span t (AddAssign p n f v)) (insertion ls (AddAssign p n f v))
-spans_of t ls (RemoveAssign nth n) = where_found removed_span (removal ls (RemoveAssign nth n))
-spans_of t ls (AddRule p ts c ws) =
-    where_found (new_line_span t (AddRule p ts c ws)) (insertion ls (AddRule p ts c ws))
-spans_of t ls (RemoveRule nth g) = where_found removed_span (removal ls (RemoveRule nth g))
-spans_of t ls (AddPrereq order nth g w) =
-    where_found (word_spans (add_pieces order w)) (found ls (Rule nth g))
-spans_of t ls (RemovePrereq nth g w) =
-    where_found (word_spans (remove_pieces w)) (found ls (Rule nth g))
-spans_of t ls (AddRecipe nth g c) =
-    where_found (new_line_span t (AddRecipe nth g c)) (insertion ls (AddRecipe nth g c))
-spans_of t ls (SetRecipe nth g k c) = where_found (recipe_span c) (recipe_found ls nth g k)
-spans_of t ls (RemoveRecipe nth g k) = where_found removed_span (removal ls (RemoveRecipe nth g k))
-spans_of t ls (InsertRecipe nth g k c) =
-    where_found (new_line_span t (InsertRecipe nth g k c)) (insertion ls (InsertRecipe nth g k c))
-spans_of t ls (SetRecipeByText nth g o c) =
-    where_found (recipe_span c) (recipe_found ls nth g (text_number ls nth g o))
-spans_of t ls (RemoveRecipeByText nth g o) =
-    where_found removed_span (removal ls (RemoveRecipeByText nth g o))
+spans_of t ls (ChangeValue (One nth) n c) =
+    where_found (value_spans (change_spans c)) (found ls (Variable nth n))
+spans_of t ls (ChangeValue Every n c) = spans_in_lines (changed_line_spans n c) 0 ls
+spans_of t ls (ChangePrereqs nth g c) =
+    where_found (word_spans (prereq_pieces c)) (found ls (Rule nth g))
+spans_of t ls (SetRecipe nth g w c) = where_found (recipe_span c) (recipe_found ls nth g w)
+spans_of t ls (RemoveLines r) = where_found removed_span (removed ls r)
 spans_of t ls (RenameTarget o n) = renamed_spans o n 0 ls
+spans_of t ls e = where_found (new_line_span t e) (insertion ls e)

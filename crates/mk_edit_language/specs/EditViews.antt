@@ -22,28 +22,38 @@ value_change_of (change.Append value) = edits.Append value.items
 value_change_of (change.Add word) = edits.Add word.items
 value_change_of (change.Remove word) = edits.Remove word.items
 
--- an edit; its texts are seen as bytes
+-- an edit by its form; its texts are seen as bytes
 abbrev pub edit_of : {A : _} → Edit A → edits.Edit
-edit_of (edit.SetValue nth name value) = edits.SetValue nth name.items value.items
-edit_of (edit.AppendValue nth name value) = edits.AppendValue nth name.items value.items
-edit_of (edit.AddWord nth name word) = edits.AddWord nth name.items word.items
-edit_of (edit.RemoveWord nth name word) = edits.RemoveWord nth name.items word.items
-edit_of (edit.ChangeValues name c) = edits.ChangeValues name.items (value_change_of c)
+edit_of (edit.SetValue nth name value) =
+    edits.ChangeValue (edits.One nth) name.items (edits.Set value.items)
+edit_of (edit.AppendValue nth name value) =
+    edits.ChangeValue (edits.One nth) name.items (edits.Append value.items)
+edit_of (edit.AddWord nth name word) =
+    edits.ChangeValue (edits.One nth) name.items (edits.Add word.items)
+edit_of (edit.RemoveWord nth name word) =
+    edits.ChangeValue (edits.One nth) name.items (edits.Remove word.items)
+edit_of (edit.ChangeValues name c) =
+    edits.ChangeValue edits.Every name.items (value_change_of c)
 edit_of (edit.AddAssign p name flavor value) =
-    edits.AddAssign (place_of p) name.items flavor value.items
-edit_of (edit.RemoveAssign nth name) = edits.RemoveAssign nth name.items
+    edits.AddLine (place_of p) (edits.NewAssign name.items flavor value.items)
+edit_of (edit.RemoveAssign nth name) = edits.RemoveLines (edits.OfAssign nth name.items)
 edit_of (edit.AddRule p targets separator prereqs) =
-    edits.AddRule (place_of p) targets.items separator prereqs.items
-edit_of (edit.RemoveRule nth target) = edits.RemoveRule nth target.items
-edit_of (edit.AddPrereq order nth target word) = edits.AddPrereq order nth target.items word.items
-edit_of (edit.RemovePrereq nth target word) = edits.RemovePrereq nth target.items word.items
-edit_of (edit.AddRecipe nth target line) = edits.AddRecipe nth target.items line.items
-edit_of (edit.SetRecipe nth target number line) = edits.SetRecipe nth target.items number line.items
-edit_of (edit.RemoveRecipe nth target number) = edits.RemoveRecipe nth target.items number
+    edits.AddLine (place_of p) (edits.NewRule targets.items separator prereqs.items)
+edit_of (edit.RemoveRule nth target) = edits.RemoveLines (edits.OfRule nth target.items)
+edit_of (edit.AddPrereq order nth target word) =
+    edits.ChangePrereqs nth target.items (edits.AddPrereq order word.items)
+edit_of (edit.RemovePrereq nth target word) =
+    edits.ChangePrereqs nth target.items (edits.RemovePrereq word.items)
+edit_of (edit.AddRecipe nth target line) =
+    edits.AddRecipe nth target.items edits.Last line.items
+edit_of (edit.SetRecipe nth target number line) =
+    edits.SetRecipe nth target.items (edits.ByNumber number) line.items
+edit_of (edit.RemoveRecipe nth target number) =
+    edits.RemoveLines (edits.OfRecipe nth target.items (edits.ByNumber number))
 edit_of (edit.InsertRecipe nth target number line) =
-    edits.InsertRecipe nth target.items number line.items
+    edits.AddRecipe nth target.items (edits.At number) line.items
 edit_of (edit.SetRecipeByText nth target old line) =
-    edits.SetRecipeByText nth target.items old.items line.items
+    edits.SetRecipe nth target.items (edits.ByText old.items) line.items
 edit_of (edit.RemoveRecipeByText nth target old) =
-    edits.RemoveRecipeByText nth target.items old.items
+    edits.RemoveLines (edits.OfRecipe nth target.items (edits.ByText old.items))
 edit_of (edit.RenameTarget from to) = edits.RenameTarget from.items to.items

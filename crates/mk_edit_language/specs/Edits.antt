@@ -1,4 +1,4 @@
--- The edits, and the places of new lines, as data.
+-- The edits by their forms, and the lines that they speak of, as data.
 -- Told in docs/EDITS.md, "The script" and "Addresses".
 use Rattle.std.specs.Prelude.{ℕ, Bool, List, Option}
 use Rattle.mk_class.specs.declared.assignment.Flavor.{Flavor}
@@ -13,33 +13,54 @@ pub data Place : Type 0 where
   AfterVar : (nth : Option ℕ) → (name : List ℕ) → Place
   BeforeRule : (nth : Option ℕ) → (target : List ℕ) → Place
 
--- What an edit does to each value of a name: it gives it another value, puts a text after it, puts a
--- word after it where the word is none of its words, or takes the word out where it is one.
+-- A new line that goes to a place. The targets of a rule are one text, which is cut into words, and
+-- so are its prerequisites.
+pub data NewLine : Type 0 where
+  NewAssign : (name : List ℕ) → (flavor : Flavor) → (value : List ℕ) → NewLine
+  NewRule : (targets : List ℕ) → (separator : RuleSeparator) → (prereqs : List ℕ) → NewLine
+
+-- which assignments of a name: the one of this number, from 1, or the only one; or each
+pub data Which : Type 0 where
+  One : (nth : Option ℕ) → Which
+  Every : Which
+
+-- What an edit does to a value: it puts another in its place, puts a text after it, puts a word
+-- after it that is none of its words, or takes one of its words out.
 pub data ValueChange : Type 0 where
   Set : (value : List ℕ) → ValueChange
   Append : (value : List ℕ) → ValueChange
   Add : (word : List ℕ) → ValueChange
   Remove : (word : List ℕ) → ValueChange
 
--- An edit. `nth` is the number of the line, from 1, among the lines of the same name or target;
--- `number` is the number of a recipe line, from 1, and `old` is its text. The targets of a new rule are one text, which is
--- cut into words, and so are its prerequisites.
+-- What an edit does to the prerequisites of a rule: it puts a word after the order-only or the normal
+-- ones, or takes a word out of both.
+pub data PrereqChange : Type 0 where
+  AddPrereq : (order : Bool) → (word : List ℕ) → PrereqChange
+  RemovePrereq : (word : List ℕ) → PrereqChange
+
+-- which recipe line of a rule: the one of this number, from 1, or the only one of this text
+pub data RecipeLine : Type 0 where
+  ByNumber : (number : ℕ) → RecipeLine
+  ByText : (old : List ℕ) → RecipeLine
+
+-- where a new recipe line of a rule goes: after the last one, or where it gets this number, from 1
+pub data RecipePlace : Type 0 where
+  Last : RecipePlace
+  At : (number : ℕ) → RecipePlace
+
+-- the lines that an edit takes out: that of an assignment, those of a rule and its recipe, or that of
+-- a recipe line
+pub data Removal : Type 0 where
+  OfAssign : (nth : Option ℕ) → (name : List ℕ) → Removal
+  OfRule : (nth : Option ℕ) → (target : List ℕ) → Removal
+  OfRecipe : (nth : Option ℕ) → (target : List ℕ) → (which : RecipeLine) → Removal
+
+-- An edit. `nth` is the number of the line, from 1, among the lines of the same name or target.
 pub data Edit : Type 0 where
-  SetValue : (nth : Option ℕ) → (name value : List ℕ) → Edit
-  AppendValue : (nth : Option ℕ) → (name value : List ℕ) → Edit
-  AddWord : (nth : Option ℕ) → (name word : List ℕ) → Edit
-  RemoveWord : (nth : Option ℕ) → (name word : List ℕ) → Edit
-  ChangeValues : (name : List ℕ) → (change : ValueChange) → Edit
-  AddAssign : (place : Place) → (name : List ℕ) → (flavor : Flavor) → (value : List ℕ) → Edit
-  RemoveAssign : (nth : Option ℕ) → (name : List ℕ) → Edit
-  AddRule : (place : Place) → (targets : List ℕ) → (separator : RuleSeparator) → (prereqs : List ℕ) → Edit
-  RemoveRule : (nth : Option ℕ) → (target : List ℕ) → Edit
-  AddPrereq : (order : Bool) → (nth : Option ℕ) → (target word : List ℕ) → Edit
-  RemovePrereq : (nth : Option ℕ) → (target word : List ℕ) → Edit
-  AddRecipe : (nth : Option ℕ) → (target line : List ℕ) → Edit
-  SetRecipe : (nth : Option ℕ) → (target : List ℕ) → (number : ℕ) → (line : List ℕ) → Edit
-  RemoveRecipe : (nth : Option ℕ) → (target : List ℕ) → (number : ℕ) → Edit
-  InsertRecipe : (nth : Option ℕ) → (target : List ℕ) → (number : ℕ) → (line : List ℕ) → Edit
-  SetRecipeByText : (nth : Option ℕ) → (target old line : List ℕ) → Edit
-  RemoveRecipeByText : (nth : Option ℕ) → (target old : List ℕ) → Edit
+  ChangeValue : (which : Which) → (name : List ℕ) → (change : ValueChange) → Edit
+  ChangePrereqs : (nth : Option ℕ) → (target : List ℕ) → (change : PrereqChange) → Edit
+  AddLine : (place : Place) → (line : NewLine) → Edit
+  AddRecipe : (nth : Option ℕ) → (target : List ℕ) → (place : RecipePlace) → (line : List ℕ) → Edit
+  SetRecipe : (nth : Option ℕ) → (target : List ℕ) → (which : RecipeLine) → (line : List ℕ) → Edit
+  RemoveLines : (lines : Removal) → Edit
   RenameTarget : (old new : List ℕ) → Edit

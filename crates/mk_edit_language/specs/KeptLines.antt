@@ -1,18 +1,62 @@
--- What an edit of one place leaves: the lines above and below the lines that its spans touch, with
--- their classes.
--- Told in docs/PROOFS.md, "An edit".
-use Rattle.std.specs.Prelude.{◌≡◌, ℕ, List, ◌++◌, length, ◌+◌, ◌≤◌, Option, Some, None}
-use Rattle.mk_lines.specs.PhysicalLines.{file_line_end}
-use Rattle.mk_lines.specs.Pieces.{Replacement}
-use Rattle.mk_class.specs.ClassedLines.{ClassedLine, classed_lines}
-use Rattle.mk_tree.specs.Documents.{text_of, most_conditionals, AreUnconditional}
-use Rattle.mk_tree.specs.NewLineEnds.{above_ended}
-use Rattle.mk_edit_language.specs.Edits.{Edit}
-use Rattle.mk_edit_language.specs.Stretches.{Stretch, insertion, touched_by, IsStretchOf}
-use Rattle.mk_edit_language.specs.Costs.{cost, size}
-use Rattle.mk_edit_language.specs.Refusals.{text_after}
+-- What an edit of one place leaves: the lines that stand in the place of those that it touches, and
+-- the lines above and below, with their classes.
+-- Told in docs/PROOFS.md, "An edit" and "Edits, as definitions (mk_edit_language)".
+use Rattle.std.specs.Prelude.{ℕ, List, [], ◌∷◌, ◌++◌, length, ◌+◌, ◌≤◌, ◌≡◌, Option, Some, None}
+use Rattle.mk_lines.specs.Pieces.{Replacement, replaced}
+use Rattle.mk_class.specs.ClassedLines.{ClassedLine, classed, classed_lines}
+use Rattle.mk_tree.specs.Documents.{text_of, context_of, most_conditionals, AreUnconditional}
+use Rattle.mk_edit_language.specs.Edits.{Edit, AddLine, AddRecipe, RemoveLines, Every, ChangeValue, RenameTarget}
+use Rattle.mk_edit_language.specs.Stretches.{Stretch, IsStretchOf, insertion, touched_by}
+use Rattle.mk_edit_language.specs.NewLines.{new_text, new_line_end}
+use Rattle.mk_edit_language.specs.Costs.{size, cost}
 use Rattle.mk_edit_language.specs.RisingSpans.{Rise}
-use Rattle.mk_edit_language.specs.EditedLines.{edited_lines}
+use Rattle.mk_lines.specs.PhysicalLines.{file_line_end}
+use Rattle.mk_tree.specs.NewLineEnds.{above_ended}
+use Rattle.mk_edit_language.specs.Refusals.{text_after}
+
+-- ---- the lines after an edit of one place
+
+-- the bytes of a new line put there, with the file's line end
+abbrev pub new_line_bytes : (text : List ℕ) → Edit → (touched : Stretch) → List ℕ
+new_line_bytes t e s = new_text (context_of s.above).prefix e ++ new_line_end t
+
+-- the touched lines with the spans in them replaced
+abbrev pub respanned_bytes : (touched : Stretch) → List Replacement → List ℕ
+respanned_bytes s rs = replaced (length (text_of s.above)) (text_of s.lines) rs
+
+-- The bytes of each line that stands there after the edit: no line if the edit takes lines out; the
+-- new line if it puts one in; and otherwise the touched line with the spans in it replaced.
+abbrev pub edited_bytes : (text : List ℕ) → Edit → (touched : Stretch) → List Replacement
+    → List (List ℕ)
+edited_bytes t (RemoveLines r) s rs = []
+edited_bytes t (AddLine p l) s rs = new_line_bytes t (AddLine p l) s ∷ []
+edited_bytes t (AddRecipe nth g p c) s rs = new_line_bytes t (AddRecipe nth g p c) s ∷ []
+edited_bytes t e s rs = respanned_bytes s rs ∷ []
+
+-- the edited lines, with the classes that they have below the lines above
+abbrev pub edited_lines : (text : List ℕ) → Edit → (touched : Stretch) → List Replacement
+    → List ClassedLine
+edited_lines t e s rs = classed (context_of s.above) (edited_bytes t e s rs)
+
+-- ---- the lines that it touches
+
+-- Replacements that stand within a stretch of lines of the text; it has at most as many lines as
+-- the edit's size says.
+pub record TouchFew (t : List ℕ) (e : Edit) (rs : List Replacement) : Type 0 where
+  pub touched : Stretch
+  pub stretch : IsStretchOf (classed_lines t) touched
+  pub within : Rise (length (text_of touched.above))
+      (length (text_of touched.above) + length (text_of touched.lines)) rs
+  pub few : length touched.lines ≤ size t e
+
+-- an edit of one place: any edit except a rename and a change of every value of a name, which may
+-- touch lines that stand apart
+abbrev pub IsOfOnePlace : Edit → Type 0
+IsOfOnePlace (ChangeValue Every n c) = ⊥
+IsOfOnePlace (RenameTarget o n) = ⊥
+IsOfOnePlace e = Unit {0}
+
+-- ---- the lines that it leaves
 
 -- The lines above after an edit. They are as before, except that a last line without a line end
 -- gets one if the edit puts a new line after it; its class stays.

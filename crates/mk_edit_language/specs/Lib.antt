@@ -8,10 +8,7 @@ pub mod Stretches
 -- Spans
 pub mod NewLines
 pub mod Lengths
-pub mod EditedLines
-pub mod ValueSpans
 pub mod WordPieces
-pub mod ValueWords
 pub mod ValueChanges
 pub mod EditSpans
 pub mod RisingSpans
@@ -27,12 +24,8 @@ pub mod RefusalTexts
 pub mod Changes
 pub mod Costs
 -- What an edit leaves
-pub mod TouchedLines
 pub mod KeptLines
 pub mod LinesInPlace
-pub mod RenamedLines
-pub mod ChangedLines
 pub mod RuleTaken
 -- Statements of laws
 pub mod EditLaws
-pub mod OutsideLaws

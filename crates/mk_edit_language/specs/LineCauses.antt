@@ -16,18 +16,16 @@ use Rattle.mk_class.specs.Texts.{word_texts}
 use Rattle.mk_class.specs.Arguments.{is_value}
 use Rattle.mk_class.specs.Assignments.{Assignment}
 use Rattle.mk_class.specs.Classes.{Class}
-use Rattle.mk_class.specs.Classes.Class.{Assign}
 use Rattle.mk_class.specs.ClassedLines.{ClassedLine}
 use Rattle.mk_class.specs.declared.context.RuleFlag.{RuleFlag}
 use Rattle.mk_class.specs.declared.context.RuleFlag.TheVariants.{Off, Rule}
-use Rattle.mk_edit_language.specs.Edits.{Place, Bottom, ValueChange, Set, Append, Add, Remove, Edit, AppendValue, AddWord, RemoveWord, ChangeValues, AddAssign, AddRule}
-use Rattle.mk_edit_language.specs.Addresses.{Variable, found}
+use Rattle.mk_edit_language.specs.Edits.{Place, Bottom, NewAssign, Which, One, Every, ValueChange, Set, Append, Add, Remove, Edit, ChangeValue, AddLine}
+use Rattle.mk_edit_language.specs.Addresses.{Variable}
 use Rattle.mk_edit_language.specs.Stretches.{Stretch, insertion, removal}
 use Rattle.mk_tree.specs.Documents.{context_of}
 use Rattle.mk_tree.specs.Leaning.{leans}
-use Rattle.mk_edit_language.specs.ValueWords.{assignment_passes}
-use Rattle.mk_edit_language.specs.ValueChanges.{is_changed}
-use Rattle.mk_edit_language.specs.RuleCauses.{class_found}
+use Rattle.mk_edit_language.specs.ValueChanges.{assignment_passes, is_changed}
+use Rattle.mk_edit_language.specs.RuleCauses.{class_meant}
 use Rattle.mk_edit_language.specs.Causes.{where_holds}
 use Rattle.mk_edit_language.specs.declared.refusal.Refusal.{Refusal}
 use Rattle.mk_edit_language.specs.declared.refusal.Refusal.TheVariants.{OpenValue, OpenLine, OpenDefine, Leans, TooLong}
@@ -36,9 +34,8 @@ use Rattle.mk_edit_language.specs.declared.refusal.Refusal.TheVariants.{OpenValu
 -- ---- follows a word that goes would be read together with the word before it
 
 -- whether an assignment is found and its value is not closed
-abbrev pub has_open_value : Option (Class Cell) → Bool
-has_open_value (Some (Assign a p)) = not (is_closed joined_byte (concat a.value))
-has_open_value k = false
+abbrev has_open_value : Option (Class Cell) → Bool
+has_open_value k = assignment_passes (λ a. not (is_closed joined_byte (concat a.value))) k
 
 -- whether the last cell of a value is a fold
 abbrev pub ends_in_fold : Assignment Cell → Bool
@@ -55,24 +52,20 @@ bares_end_among w (x ∷ y ∷ xs) =
 abbrev pub bares_end : (word : List ℕ) → Assignment Cell → Bool
 bares_end w a = bares_end_among w (word_texts joined_byte a.value)
 
--- whether a change of values would be refused for the value of a line of this class
-abbrev pub is_open_to : ValueChange → Class Cell → Bool
+-- whether a change would be refused for the value of an assignment that is found
+abbrev pub is_open_to : ValueChange → Option (Class Cell) → Bool
 is_open_to (Set v) k = false
-is_open_to (Append v) k = has_open_value (Some k)
-is_open_to (Add w) k = has_open_value (Some k) || assignment_passes ends_in_fold (Some k)
-is_open_to (Remove w) k = has_open_value (Some k) || assignment_passes (bares_end w) (Some k)
+is_open_to (Append v) k = has_open_value k
+is_open_to (Add w) k = has_open_value k || assignment_passes ends_in_fold k
+is_open_to (Remove w) k = has_open_value k || assignment_passes (bares_end w) k
+
+-- whether a change would be refused for a value of the name that is meant, and that it changes
+abbrev is_any_open : List ClassedLine → Which → (name : List ℕ) → ValueChange → Bool
+is_any_open ls (One nth) n c = is_open_to c (class_meant ls (Variable nth n))
+is_any_open ls Every n c = list_any (λ l. is_changed n c l && is_open_to c (Some l.class)) ls
 
 abbrev pub open_value : List ClassedLine → Edit → Option Refusal
-open_value ls (AppendValue nth n v) =
-    where_holds (has_open_value (class_found (found ls (Variable nth n)))) OpenValue
-open_value ls (AddWord nth n w) =
-    let k = class_found (found ls (Variable nth n)) in
-    where_holds (has_open_value k || assignment_passes ends_in_fold k) OpenValue
-open_value ls (RemoveWord nth n w) =
-    let k = class_found (found ls (Variable nth n)) in
-    where_holds (has_open_value k || assignment_passes (bares_end w) k) OpenValue
-open_value ls (ChangeValues n c) =
-    where_holds (list_any (λ l. is_changed n c l && is_open_to c l.class) ls) OpenValue
+open_value ls (ChangeValue w n c) = where_holds (is_any_open ls w n c) OpenValue
 open_value ls e = None
 
 -- ---- OpenLine: a new line would follow a last line that is open
@@ -92,15 +85,14 @@ open_define_at ls Bottom = where_holds (nat_lt 0 (context_of ls).defines) OpenDe
 open_define_at ls p = None
 
 abbrev pub open_define : List ClassedLine → Edit → Option Refusal
-open_define ls (AddAssign p n f v) = open_define_at ls p
-open_define ls (AddRule p ts c ws) = open_define_at ls p
+open_define ls (AddLine p l) = open_define_at ls p
 open_define ls e = None
 
 -- ---- Leans: the flag below the change differs, and the next line that counts begins with the prefix
 
 -- the flag below a new line
 abbrev pub flag_below_new : Edit → RuleFlag
-flag_below_new (AddAssign p n f v) = Off
+flag_below_new (AddLine p (NewAssign n f v)) = Off
 flag_below_new e = Rule
 
 -- whether the lines below lean on two flags: the flag with a new line above them, and the flag

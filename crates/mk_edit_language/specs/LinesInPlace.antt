@@ -1,18 +1,20 @@
 -- The lines of a text after an edit of lines that may stand apart, each in the place of one line.
 -- Told in docs/PROOFS.md, "An edit".
-use Rattle.std.specs.Prelude.{◌≡◌, ℕ, ◌+◌, ◌≤◌, if◌then◌else◌, Bool, true, false, List, [], ◌∷◌, ◌++◌, map, take, length}
+use Rattle.std.specs.Prelude.{◌≡◌, ℕ, ◌+◌, ◌≤◌, if◌then◌else◌, Bool, true, false, List, [], ◌∷◌, ◌++◌, map, take, length, drop}
 use Rattle.std.specs.Str.{bytes_eq}
 use Rattle.mk_lines.specs.LogicalLines.{logical_lines}
-use Rattle.mk_lines.specs.Pieces.{Replacement}
+use Rattle.mk_lines.specs.Pieces.{Replacement, replaced, old_bytes, new_bytes}
 use Rattle.mk_class.specs.Classes.{is_conditional}
 use Rattle.mk_class.specs.Contexts.{Context, start, context_after}
 use Rattle.mk_class.specs.ClassTable.{class_of}
 use Rattle.mk_class.specs.ClassedLines.{ClassedLine, classed_lines}
 use Rattle.mk_tree.specs.Documents.{context_of, most_conditionals}
-use Rattle.mk_edit_language.specs.Edits.{Edit}
-use Rattle.mk_edit_language.specs.Costs.{cost}
+use Rattle.mk_edit_language.specs.Edits.{Edit, Every, ValueChange, ChangeValue, RenameTarget}
+use Rattle.mk_edit_language.specs.Costs.{cost, is_renamed}
 use Rattle.mk_edit_language.specs.Refusals.{text_after}
 use Rattle.mk_edit_language.specs.RisingSpans.{Rise}
+use Rattle.mk_edit_language.specs.ValueChanges.{is_changed, changed_line_spans}
+use Rattle.mk_edit_language.specs.WordPieces.{renamed_pieces}
 
 -- ---- one line
 
@@ -75,3 +77,51 @@ pub record AreOthersKeptApart (e : Edit) (is_changed : ClassedLine → Bool)
   pub within : StandInLines is_changed 0 (classed_lines t) rs
   pub same_depth : most_conditionals 0 (classed_lines (text_after t e))
       ≡ most_conditionals 0 (classed_lines t)
+
+-- ---- after a change of every value of a name
+
+-- the bytes of a line after the change: the line with the spans in it replaced
+abbrev pub changed_bytes : (name : List ℕ) → ValueChange → ClassedLine → List ℕ
+changed_bytes n c l = replaced 0 l.bytes (changed_line_spans n c 0 l.class)
+
+-- a line after the change, in the place of a line that stands in this context
+pub record IsLineChanged (n : List ℕ) (c : ValueChange) (context : Context)
+    (before after : ClassedLine)
+    : Type 0 where
+  pub new_line : after.bytes ≡ changed_bytes n c before
+  pub in_place : IsInPlace (is_changed n c) context before after
+
+-- what the change leaves, and what it makes of the other lines
+abbrev pub AreOthersKeptByChangeValues : (name : List ℕ) → ValueChange → (text : List ℕ)
+    → List Replacement → Type 0
+AreOthersKeptByChangeValues n c t rs =
+    AreOthersKeptApart (ChangeValue Every n c) (is_changed n c) (changed_bytes n c) (IsLineChanged n c) t rs
+
+-- ---- after a rename
+
+-- the bytes of a line after a rename: the line's pieces, with the new word in the place of each old
+-- one, and what stands after the pieces
+abbrev pub renamed_bytes : (old new : List ℕ) → ClassedLine → List ℕ
+renamed_bytes o n l =
+    let pieces = renamed_pieces o n l.class in
+    new_bytes pieces ++ drop (length (old_bytes pieces)) l.bytes
+
+-- A line after a rename, in the place of a line that stands in this context. The line before is its
+-- pieces and a rest; the line after is these pieces with each old word replaced, and the same rest.
+-- The line is changed if it has a word to rename.
+pub record IsLineRenamed (o n : List ℕ) (context : Context) (before after : ClassedLine)
+    : Type 0 where
+  pub rest : List ℕ
+  pub old_line : before.bytes ≡ old_bytes (renamed_pieces o n before.class) ++ rest
+  pub new_line : after.bytes ≡ new_bytes (renamed_pieces o n before.class) ++ rest
+  pub in_place : IsInPlace (is_renamed o n) context before after
+
+-- lines after a rename, each in the place of one line; the first line stands in this context
+abbrev pub AreLinesRenamedInPlace : (old new : List ℕ) → Context → (before after : List ClassedLine)
+    → Type 0
+AreLinesRenamedInPlace o n c ls ms = AreInPlace (IsLineRenamed o n) c ls ms
+
+-- what a rename leaves, and what it makes of the other lines
+abbrev pub AreOthersKeptByRenameTarget : (old new text : List ℕ) → List Replacement → Type 0
+AreOthersKeptByRenameTarget o n t rs =
+    AreOthersKeptApart (RenameTarget o n) (is_renamed o n) (renamed_bytes o n) (IsLineRenamed o n) t rs

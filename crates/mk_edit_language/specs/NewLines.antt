@@ -9,7 +9,7 @@ use Rattle.mk_class.specs.declared.assignment.Flavor.{Flavor}
 use Rattle.mk_class.specs.OperatorTexts.{operator_text}
 use Rattle.mk_tree.specs.Documents.{text_of, context_of}
 use Rattle.mk_tree.specs.NewLineEnds.{missing_line_end}
-use Rattle.mk_edit_language.specs.Edits.{Edit, AddAssign, AddRule, AddRecipe, InsertRecipe}
+use Rattle.mk_edit_language.specs.Edits.{NewLine, NewAssign, NewRule, Edit, AddLine, AddRecipe}
 use Rattle.mk_edit_language.specs.Stretches.{Stretch}
 use Rattle.mk_edit_language.specs.declared.edit.RuleSeparator.{RuleSeparator}
 use Rattle.mk_edit_language.specs.declared.edit.RuleSeparator.TheVariants.{Single, Double}
@@ -31,12 +31,15 @@ rule_separator_text Double = 58 ∷ 58 ∷ []
 abbrev pub rule_text : (targets : List ℕ) → RuleSeparator → (prereqs : List ℕ) → List ℕ
 rule_text ts c ws = spaced_words (words_in ts) ++ (rule_separator_text c ++ each_after_space (words_in ws))
 
+-- a line that goes to a place
+abbrev line_text : NewLine → List ℕ
+line_text (NewAssign n f v) = assign_text n f v
+line_text (NewRule ts c ws) = rule_text ts c ws
+
 -- the new line of an edit, if this recipe prefix is in force
 abbrev pub new_text : (prefix : ℕ) → Edit → List ℕ
-new_text p (AddAssign place n f v) = assign_text n f v
-new_text p (AddRule place ts c ws) = rule_text ts c ws
-new_text p (AddRecipe nth t c) = p ∷ c
-new_text p (InsertRecipe nth t k c) = p ∷ c
+new_text p (AddLine place l) = line_text l
+new_text p (AddRecipe nth t place c) = p ∷ c
 new_text p e = []
 
 -- ---- the span of a new line

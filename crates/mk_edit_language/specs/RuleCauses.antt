@@ -1,7 +1,7 @@
 -- The causes that rules decide, and the words of rules and of values: Absent, Already, Taken, SharedRule and Straddles; and
 -- Ambiguous, of a recipe line by its text.
 -- Told in docs/EDITS.md, "Refusals".
-use Rattle.std.specs.Prelude.{ℕ, Bool, true, false, not, ◌||◌, nat_lt, List, [], ◌∷◌, length, Option, Some, None, is_some}
+use Rattle.std.specs.Prelude.{ℕ, Bool, true, false, not, ◌||◌, nat_lt, List, [], ◌∷◌, filter, length, Option, Some, None, is_some}
 use Rattle.std.specs.List.{list_any}
 use Rattle.mk_lines.specs.Cells.{Cell, joined_byte}
 use Rattle.mk_class.specs.Texts.{is_one_of, word_texts}
@@ -11,11 +11,10 @@ use Rattle.mk_class.specs.Classes.Class.{Header}
 use Rattle.mk_class.specs.ClassedLines.{ClassedLine}
 use Rattle.mk_tree.specs.RecipeLines.{recipe_run}
 use Rattle.mk_tree.specs.LineTexts.{StandingLine}
-use Rattle.mk_edit_language.specs.Edits.{Edit, Add, Remove, AddWord, RemoveWord, ChangeValues, AddPrereq, RemovePrereq, RemoveRule, AddRecipe, SetRecipe, RemoveRecipe, InsertRecipe, SetRecipeByText, RemoveRecipeByText, RenameTarget}
-use Rattle.mk_edit_language.specs.Addresses.{Variable, Rule, found, targets_of, is_a_target}
-use Rattle.mk_edit_language.specs.Stretches.{recipe_found, recipes_of_text, recipe_gap}
-use Rattle.mk_edit_language.specs.ValueWords.{assignment_passes, has_value_word}
-use Rattle.mk_edit_language.specs.ValueChanges.{is_changed}
+use Rattle.mk_edit_language.specs.Edits.{Which, One, Every, ValueChange, Add, Remove, PrereqChange, AddPrereq, RemovePrereq, RecipeLine, ByNumber, ByText, At, OfRule, OfRecipe, Edit, ChangeValue, ChangePrereqs, AddRecipe, SetRecipe, RemoveLines, RenameTarget}
+use Rattle.mk_edit_language.specs.Addresses.{Address, Variable, Rule, found, targets_of, is_a_target}
+use Rattle.mk_edit_language.specs.Stretches.{has_text, recipe_found, recipes_found, recipe_place}
+use Rattle.mk_edit_language.specs.ValueChanges.{has_effect, is_changed}
 use Rattle.mk_edit_language.specs.Causes.{where_holds}
 use Rattle.mk_edit_language.specs.declared.refusal.Refusal.{Refusal}
 use Rattle.mk_edit_language.specs.declared.refusal.Refusal.TheVariants.{Ambiguous, Absent, Already, Taken, SharedRule, Straddles}
@@ -25,18 +24,23 @@ abbrev pub class_found : Option StandingLine → Option (Class Cell)
 class_found None = None
 class_found (Some s) = Some s.line.class
 
--- the class of the header of a rule
-abbrev rule_class_found : List ClassedLine → (nth : Option ℕ) → (target : List ℕ)
-    → Option (Class Cell)
-rule_class_found ls nth t = class_found (found ls (Rule nth t))
+-- the class of the line that an address means
+abbrev pub class_meant : List ClassedLine → Address → Option (Class Cell)
+class_meant ls a = class_found (found ls a)
 
 -- whether a header is found and passes the test
 abbrev pub header_passes : (Headers.Header Cell → Bool) → Option (Class Cell) → Bool
 header_passes p (Some (Header h)) = p h
 header_passes p k = false
 
--- ---- Absent: the word is no word of the value, or of any value of the name, or no prerequisite; there is no recipe line of this number or of this text,
--- ---- or no place of this number for a new one
+-- ---- Absent: the word is no word of the value, or of any value of the name, or no prerequisite;
+-- ---- there is no recipe line of this number or of this text, or no place of this number for a new
+-- ---- one
+
+-- whether the change does something to a value of the name that is meant
+abbrev is_any_changed : List ClassedLine → Which → (name : List ℕ) → ValueChange → Bool
+is_any_changed ls (One nth) n c = has_effect c (class_meant ls (Variable nth n))
+is_any_changed ls Every n c = list_any (is_changed n c) ls
 
 -- whether a word is among the normal prerequisites of a header, and among the order-only ones
 abbrev pub is_normal : List ℕ → Headers.Header Cell → Bool
@@ -45,40 +49,50 @@ is_normal w h = is_one_of w (word_texts joined_byte h.normal)
 abbrev pub is_order_only : List ℕ → Headers.Header Cell → Bool
 is_order_only w h = is_one_of w (word_texts joined_byte h.order_only)
 
+-- whether the word of a change is among the prerequisites of a header to which it is added, or among
+-- those from which it is taken
+abbrev pub has_prereq : PrereqChange → Headers.Header Cell → Bool
+has_prereq (AddPrereq true w) h = is_order_only w h
+has_prereq (AddPrereq false w) h = is_normal w h
+has_prereq (RemovePrereq w) h = is_normal w h || is_order_only w h
+
+-- the recipe lines of a rule that have this text
+abbrev pub recipes_of_text : List ClassedLine → (nth : Option ℕ) → (target old : List ℕ)
+    → List StandingLine
+recipes_of_text ls nth t o = filter (has_text o) (recipes_found (found ls (Rule nth t)))
+
 -- Of the recipe lines that have a text: Absent if there is none, and Ambiguous if there are several.
 abbrev pub not_one : List StandingLine → Option Refusal
 not_one [] = Some Absent
 not_one (s ∷ []) = None
 not_one (s ∷ r ∷ ss) = Some (Ambiguous (length (s ∷ r ∷ ss)))
 
+-- why a recipe line of a rule is not found
+abbrev pub no_recipe : List ClassedLine → (nth : Option ℕ) → (target : List ℕ) → RecipeLine
+    → Option Refusal
+no_recipe ls nth t (ByNumber k) =
+    where_holds (not (is_some (recipe_found ls nth t (ByNumber k)))) Absent
+no_recipe ls nth t (ByText o) = not_one (recipes_of_text ls nth t o)
+
 abbrev pub absent : List ClassedLine → Edit → Option Refusal
-absent ls (RemoveWord nth n w) =
-    where_holds
-    (not (assignment_passes (has_value_word w) (class_found (found ls (Variable nth n)))))
+absent ls (ChangeValue w n (Remove x)) =
+    where_holds (not (is_any_changed ls w n (Remove x))) Absent
+absent ls (ChangePrereqs nth t (RemovePrereq w)) =
+    where_holds (not (header_passes (has_prereq (RemovePrereq w)) (class_meant ls (Rule nth t))))
     Absent
-absent ls (ChangeValues n (Remove w)) =
-    where_holds (not (list_any (is_changed n (Remove w)) ls)) Absent
-absent ls (RemovePrereq nth t w) =
-    where_holds
-    (not (header_passes (λ h. is_normal w h || is_order_only w h) (rule_class_found ls nth t)))
-    Absent
-absent ls (SetRecipe nth t k c) = where_holds (not (is_some (recipe_found ls nth t k))) Absent
-absent ls (RemoveRecipe nth t k) = where_holds (not (is_some (recipe_found ls nth t k))) Absent
-absent ls (InsertRecipe nth t k c) = where_holds (not (is_some (recipe_gap ls nth t k))) Absent
-absent ls (SetRecipeByText nth t o c) = not_one (recipes_of_text ls nth t o)
-absent ls (RemoveRecipeByText nth t o) = not_one (recipes_of_text ls nth t o)
+absent ls (AddRecipe nth t (At k) c) =
+    where_holds (not (is_some (recipe_place ls nth t (At k)))) Absent
+absent ls (SetRecipe nth t w c) = no_recipe ls nth t w
+absent ls (RemoveLines (OfRecipe nth t w)) = no_recipe ls nth t w
 absent ls e = None
 
 -- ---- Already: the word is in that list of prerequisites, in the value, or in each value of the name
 
 abbrev pub already : List ClassedLine → Edit → Option Refusal
-already ls (AddWord nth n w) =
-    where_holds (assignment_passes (has_value_word w) (class_found (found ls (Variable nth n)))) Already
-already ls (ChangeValues n (Add w)) = where_holds (not (list_any (is_changed n (Add w)) ls)) Already
-already ls (AddPrereq true nth t w) =
-    where_holds (header_passes (is_order_only w) (rule_class_found ls nth t)) Already
-already ls (AddPrereq false nth t w) =
-    where_holds (header_passes (is_normal w) (rule_class_found ls nth t)) Already
+already ls (ChangeValue w n (Add x)) = where_holds (not (is_any_changed ls w n (Add x))) Already
+already ls (ChangePrereqs nth t (AddPrereq order w)) =
+    where_holds (header_passes (has_prereq (AddPrereq order w)) (class_meant ls (Rule nth t)))
+    Already
 already ls e = None
 
 -- ---- Taken: the new name is a target
@@ -99,7 +113,8 @@ abbrev pub shared_by : List (List ℕ) → Option Refusal
 shared_by ts = where_holds (nat_lt 1 (length ts)) (SharedRule (length ts))
 
 abbrev pub shared_rule : List ClassedLine → Edit → Option Refusal
-shared_rule ls (RemoveRule nth t) = shared_by (targets_found (rule_class_found ls nth t))
+shared_rule ls (RemoveLines (OfRule nth t)) =
+    shared_by (targets_found (class_meant ls (Rule nth t)))
 shared_rule ls e = None
 
 -- ---- Straddles: the line of a conditional stands between a header and its last recipe line
@@ -110,8 +125,8 @@ has_conditional None = false
 has_conditional (Some h) = list_any (λ l. is_conditional l.class) (recipe_run h.below)
 
 abbrev pub straddles : List ClassedLine → Edit → Option Refusal
-straddles ls (RemoveRule nth t) = where_holds (has_conditional (found ls (Rule nth t))) Straddles
-straddles ls (AddRecipe nth t c) = where_holds (has_conditional (found ls (Rule nth t))) Straddles
-straddles ls (InsertRecipe nth t k c) =
+straddles ls (RemoveLines (OfRule nth t)) =
+    where_holds (has_conditional (found ls (Rule nth t))) Straddles
+straddles ls (AddRecipe nth t p c) =
     where_holds (has_conditional (found ls (Rule nth t))) Straddles
 straddles ls e = None

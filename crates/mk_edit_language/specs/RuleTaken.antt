@@ -16,7 +16,7 @@ use Rattle.mk_tree.specs.RecipeLines.{ends_rule}
 use Rattle.mk_tree.specs.Items.{Item, Recipe, items, header_item}
 use Rattle.mk_tree.specs.Readings.{reading}
 use Rattle.mk_tree.specs.LineTexts.{StandingLine}
-use Rattle.mk_edit_language.specs.Edits.{RemoveRule}
+use Rattle.mk_edit_language.specs.Edits.{OfRule, RemoveLines}
 use Rattle.mk_edit_language.specs.Addresses.{Rule, found}
 use Rattle.mk_edit_language.specs.Refusals.{spans, text_after}
 
@@ -67,19 +67,19 @@ pub record TakesTheRuleAlone (nth : Option ℕ) (target text : List ℕ) : Type 
   pub is_header : rule.line.class ≡ HeaderLine header
   pub only_target : word_texts joined_byte header.targets ≡ target ∷ []
   pub lines_before : classed_lines text ≡ rule.above ++ (rule.line ∷ (recipe ++ rest))
-  pub lines_after : classed_lines (text_after text (RemoveRule nth target)) ≡ rule.above ++ rest
+  pub lines_after : classed_lines (text_after text (RemoveLines (OfRule nth target))) ≡ rule.above ++ rest
   pub of_recipe : Each (λ l. is_of_recipe l.class) recipe
   pub last : ends_in_recipe recipe ≡ true
   pub no_more : recipe_goes_on rest ≡ false
   pub taken : items (rule.line ∷ recipe) ≡ header_item header ∷ map Recipe (commands recipe)
   pub reading_before : reading text
       ≡ items rule.above ++ (header_item header ∷ (map Recipe (commands recipe) ++ items rest))
-  pub reading_after : reading (text_after text (RemoveRule nth target))
+  pub reading_after : reading (text_after text (RemoveLines (OfRule nth target)))
       ≡ items rule.above ++ items rest
   pub next_item : first_passes is_recipe_item (items rest) ≡ false
 
 -- an accepted removal of a rule takes out its line and its recipe, and nothing else
 abbrev pub RemoveRuleTakesTheRuleAlone : Type 0
 RemoveRuleTakesTheRuleAlone = (nth : Option ℕ) (target text : List ℕ)
-    (replacements : List Replacement) → spans text (RemoveRule nth target) ≡ Ok replacements
+    (replacements : List Replacement) → spans text (RemoveLines (OfRule nth target)) ≡ Ok replacements
     → TakesTheRuleAlone nth target text

@@ -28,5 +28,5 @@ field_refusal (Some f) = Some (BadArgument f)
 
 -- an edit that takes an assignment out
 abbrev pub IsRemoveAssign : edits.Edit → Type 0
-IsRemoveAssign (edits.RemoveAssign nth n) = Unit {0}
+IsRemoveAssign (edits.RemoveLines (edits.OfAssign nth n)) = Unit {0}
 IsRemoveAssign e = ⊥

@@ -6,7 +6,7 @@ use Rattle.mk_lines.specs.Cells.{Cell}
 use Rattle.mk_lines.specs.Pieces.{Piece, Keep, Replace}
 use Rattle.mk_class.specs.ListTests.{is_empty}
 use Rattle.mk_class.specs.Assignments.{Assignment, before_value}
-use Rattle.mk_edit_language.specs.ValueWords.{led_words, staying, remove_word_pieces}
+use Rattle.mk_edit_language.specs.ValueChanges.{led_words, staying, remove_word_pieces}
 
 -- the value and what stands after it; `rest` are the cells after the blanks and folds that follow
 -- the value. If no word stays, these blanks and folds go too.

@@ -5,7 +5,7 @@ use Rattle.std.specs.Prelude.{◌≡◌, ◌||◌, ◌+◌, ℕ, nat_lt, Bool, f
 use Rattle.mk_class.specs.Contexts.{start, context_after_located}
 use Rattle.mk_tree.specs.LocatedLines.{LocatedLine}
 use Rattle.mk_edit_language.specs.Addresses.{Address, Variable}
-use Rattle.mk_edit_language.specs.Edits.{Edit, ChangeValues, RenameTarget}
+use Rattle.mk_edit_language.specs.Edits.{Every, Edit, ChangeValue, RenameTarget}
 use Rattle.mk_edit_parts.specs.LocatedParts.{is_target_located, is_unread_located}
 use Rattle.mk_edit_parts.specs.RenamedRanges.{renamed_ranges}
 use Rattle.mk_edit_parts.specs.Seeking.{IsLineKnown, may_mean}
@@ -86,7 +86,7 @@ concerns_name n l = concerns (Some (Variable None n)) l
 -- windows of some lines that serve an edit: a rename, a change of all values of a name, or any other
 -- edit, which looks at none
 abbrev AreKnown : Edit → List LocatedLine → List Window → Type 0
-AreKnown (ChangeValues n c) ls ws = AreWindows (concerns_name n) first_place ls ws
+AreKnown (ChangeValue Every n c) ls ws = AreWindows (concerns_name n) first_place ls ws
 AreKnown (RenameTarget o n) ls ws = AreWindows (concerns_rename o n) first_place ls ws
 AreKnown e ls ws = ⊤
 

@@ -5,14 +5,15 @@ ghost use Rattle.mk_class.specs.Arguments.{is_command, is_name, is_target, is_va
 ghost use Rattle.mk_class.specs.Keywords.{is_reserved_word};
 ghost use Rattle.mk_class.specs.ListTests.{is_empty};
 ghost use Rattle.mk_class.specs.RecipePrefix.{is_prefix_name};
-ghost use Rattle.mk_edit_language.specs.ArgumentCauses.{Tested, are_targets, are_words, bad_argument, change_test, first_failed, is_place, is_value_word, names, place_names, place_targets, targets};
+ghost use Rattle.mk_edit_language.specs.ArgumentCauses.{Tested, address_names, address_targets, are_targets, are_words, bad_argument, change_test, first_failed, is_place, is_value_word, names, targets};
 ghost use Rattle.mk_edit_language.specs.declared.refusal.Field.TheVariants.{Line, Old, Prereqs, Target, Targets};
 ghost use Rattle.mk_lines.specs.Units.{units};
 ghost use Rattle.mk_lines.specs.Words.{is_gap, words_in};
 ghost use Rattle.mk_edit_language.specs.EditViews.{edit_of, place_of, value_change_of};
 ghost use Rattle.mk_edit_language.specs.declared.refusal.Field.TheVariants as field;
-ghost use Rattle.mk_edit_parts.specs.AddressViews.{field_refusal};
+ghost use Rattle.mk_edit_parts.specs.AddressViews.{address_seen, field_refusal};
 
+use crate::address::{Address, address_of};
 use crate::text::is_prefix_name;
 use mk_class::{is_command, is_name, is_reserved_word, is_target, is_value, is_word};
 use mk_edit_language::{Edit, Field, Place, ValueChange};
@@ -240,38 +241,28 @@ pub fn is_reserved<A: Allocator>(edit: &Edit<A>) -> bool
         || list_any is_reserved_word (targets (edit_of edit.now))) }
 {
     match edit {
-        Edit::SetValue { name, .. }
-        | Edit::AppendValue { name, .. }
-        | Edit::AddWord { name, .. }
-        | Edit::RemoveWord { name, .. }
-        | Edit::ChangeValues { name, .. }
-        | Edit::RemoveAssign { name, .. } => is_prefix_name(name),
-        Edit::AddAssign { place, name, .. } => is_prefix_name(name) || is_reserved_place(place),
-        Edit::AddRule { place, targets, .. } => has_reserved_word(targets)
-            || is_reserved_place(place),
-        Edit::RemoveRule { target, .. }
-        | Edit::AddPrereq { target, .. }
-        | Edit::RemovePrereq { target, .. }
-        | Edit::AddRecipe { target, .. }
-        | Edit::SetRecipe { target, .. }
-        | Edit::RemoveRecipe { target, .. }
-        | Edit::InsertRecipe { target, .. }
-        | Edit::SetRecipeByText { target, .. }
-        | Edit::RemoveRecipeByText { target, .. } => is_reserved_word(target),
+        Edit::ChangeValues { name, .. } => is_prefix_name(name),
+        Edit::AddAssign { name, .. } => {
+            is_prefix_name(name) || is_reserved_address(address_of(edit))
+        }
+        Edit::AddRule { targets, .. } => {
+            has_reserved_word(targets) || is_reserved_address(address_of(edit))
+        }
         Edit::RenameTarget { from, to } => is_reserved_word(from) || is_reserved_word(to),
+        _ => is_reserved_address(address_of(edit)),
     }
 }
 
-// Whether a place names the recipe prefix, or a word of directives.
-fn is_reserved_place<A: Allocator>(place: &Place<A>) -> bool
+// Whether an address names the recipe prefix, or a word of directives.
+fn is_reserved_address(address: Option<Address>) -> bool
     ensures { result
-        ≡ (list_any is_prefix_name (place_names (place_of place.now))
-        || list_any is_reserved_word (place_targets (place_of place.now))) }
+        ≡ (list_any is_prefix_name (address_names (address_seen address.entry))
+        || list_any is_reserved_word (address_targets (address_seen address.entry))) }
 {
-    match place {
-        Place::Bottom => false,
-        Place::BeforeVar { name, .. } | Place::AfterVar { name, .. } => is_prefix_name(name),
-        Place::BeforeRule { target, .. } => is_reserved_word(target),
+    match address {
+        None => false,
+        Some(Address::Variable(_, name)) => is_prefix_name(name),
+        Some(Address::Rule(_, target)) => is_reserved_word(target),
     }
 }
 

@@ -6,7 +6,7 @@ ghost use Rattle.mk_tree.specs.Documents.{IsFaithful};
 ghost use Rattle.mk_tree.specs.LocatedLines.{located_text};
 ghost use Rattle.mk_edit_language.specs.Addresses.{nth_meant};
 ghost use Rattle.mk_edit_language.specs.Refusals.{spans};
-ghost use Rattle.mk_edit_language.specs.TouchedLines.{IsOfOnePlace};
+ghost use Rattle.mk_edit_language.specs.KeptLines.{IsOfOnePlace};
 ghost use Rattle.mk_edit_language.specs.EditViews.{edit_of};
 ghost use Rattle.mk_edit_parts.specs.AddressViews.{address_seen, address_view};
 ghost use Rattle.mk_edit_parts.specs.Found.{IsAddressed, IsNotPicked, IsPicked};

@@ -99,7 +99,7 @@ pub trait MakeEdit<A: Allocator + Copy>: Sized {
 
 impl<A: Allocator + Copy> MakeEdit<A> for Edit<A> {
     fn set(alloc: A, name: &[u8], value: &[u8]) -> Result<Edit<A>, AllocError>
-        ensures { IfOk result (λ e. edit_of e ≡ edits.SetValue None name.now value.now) }
+        ensures { IfOk result (λ e. edit_of e ≡ edits.ChangeValue (edits.One None) name.now (edits.Set value.now)) }
     {
         let name = Vec::from_slice(alloc, name)?;
         let value = Vec::from_slice(alloc, value)?;
@@ -111,7 +111,7 @@ impl<A: Allocator + Copy> MakeEdit<A> for Edit<A> {
     }
 
     fn append(alloc: A, name: &[u8], value: &[u8]) -> Result<Edit<A>, AllocError>
-        ensures { IfOk result (λ e. edit_of e ≡ edits.AppendValue None name.now value.now) }
+        ensures { IfOk result (λ e. edit_of e ≡ edits.ChangeValue (edits.One None) name.now (edits.Append value.now)) }
     {
         let name = Vec::from_slice(alloc, name)?;
         let value = Vec::from_slice(alloc, value)?;
@@ -123,7 +123,7 @@ impl<A: Allocator + Copy> MakeEdit<A> for Edit<A> {
     }
 
     fn add_word(alloc: A, name: &[u8], word: &[u8]) -> Result<Edit<A>, AllocError>
-        ensures { IfOk result (λ e. edit_of e ≡ edits.AddWord None name.now word.now) }
+        ensures { IfOk result (λ e. edit_of e ≡ edits.ChangeValue (edits.One None) name.now (edits.Add word.now)) }
     {
         let name = Vec::from_slice(alloc, name)?;
         let word = Vec::from_slice(alloc, word)?;
@@ -135,7 +135,7 @@ impl<A: Allocator + Copy> MakeEdit<A> for Edit<A> {
     }
 
     fn drop_word(alloc: A, name: &[u8], word: &[u8]) -> Result<Edit<A>, AllocError>
-        ensures { IfOk result (λ e. edit_of e ≡ edits.RemoveWord None name.now word.now) }
+        ensures { IfOk result (λ e. edit_of e ≡ edits.ChangeValue (edits.One None) name.now (edits.Remove word.now)) }
     {
         let name = Vec::from_slice(alloc, name)?;
         let word = Vec::from_slice(alloc, word)?;
@@ -147,7 +147,7 @@ impl<A: Allocator + Copy> MakeEdit<A> for Edit<A> {
     }
 
     fn all_set(alloc: A, name: &[u8], value: &[u8]) -> Result<Edit<A>, AllocError>
-        ensures { IfOk result (λ e. edit_of e ≡ edits.ChangeValues name.now (edits.Set value.now)) }
+        ensures { IfOk result (λ e. edit_of e ≡ edits.ChangeValue edits.Every name.now (edits.Set value.now)) }
     {
         let name = Vec::from_slice(alloc, name)?;
         let value = Vec::from_slice(alloc, value)?;
@@ -159,7 +159,7 @@ impl<A: Allocator + Copy> MakeEdit<A> for Edit<A> {
 
     fn all_append(alloc: A, name: &[u8], value: &[u8]) -> Result<Edit<A>, AllocError>
         ensures { IfOk result (λ e. edit_of e
-            ≡ edits.ChangeValues name.now (edits.Append value.now)) }
+            ≡ edits.ChangeValue edits.Every name.now (edits.Append value.now)) }
     {
         let name = Vec::from_slice(alloc, name)?;
         let value = Vec::from_slice(alloc, value)?;
@@ -170,7 +170,7 @@ impl<A: Allocator + Copy> MakeEdit<A> for Edit<A> {
     }
 
     fn all_add_word(alloc: A, name: &[u8], word: &[u8]) -> Result<Edit<A>, AllocError>
-        ensures { IfOk result (λ e. edit_of e ≡ edits.ChangeValues name.now (edits.Add word.now)) }
+        ensures { IfOk result (λ e. edit_of e ≡ edits.ChangeValue edits.Every name.now (edits.Add word.now)) }
     {
         let name = Vec::from_slice(alloc, name)?;
         let word = Vec::from_slice(alloc, word)?;
@@ -182,7 +182,7 @@ impl<A: Allocator + Copy> MakeEdit<A> for Edit<A> {
 
     fn all_drop_word(alloc: A, name: &[u8], word: &[u8]) -> Result<Edit<A>, AllocError>
         ensures { IfOk result (λ e. edit_of e
-            ≡ edits.ChangeValues name.now (edits.Remove word.now)) }
+            ≡ edits.ChangeValue edits.Every name.now (edits.Remove word.now)) }
     {
         let name = Vec::from_slice(alloc, name)?;
         let word = Vec::from_slice(alloc, word)?;
@@ -193,21 +193,21 @@ impl<A: Allocator + Copy> MakeEdit<A> for Edit<A> {
     }
 
     fn unset(alloc: A, name: &[u8]) -> Result<Edit<A>, AllocError>
-        ensures { IfOk result (λ e. edit_of e ≡ edits.RemoveAssign None name.now) }
+        ensures { IfOk result (λ e. edit_of e ≡ edits.RemoveLines (edits.OfAssign None name.now)) }
     {
         let name = Vec::from_slice(alloc, name)?;
         Ok(Edit::RemoveAssign { nth: None, name })
     }
 
     fn unrule(alloc: A, target: &[u8]) -> Result<Edit<A>, AllocError>
-        ensures { IfOk result (λ e. edit_of e ≡ edits.RemoveRule None target.now) }
+        ensures { IfOk result (λ e. edit_of e ≡ edits.RemoveLines (edits.OfRule None target.now)) }
     {
         let target = Vec::from_slice(alloc, target)?;
         Ok(Edit::RemoveRule { nth: None, target })
     }
 
     fn depend(alloc: A, target: &[u8], word: &[u8]) -> Result<Edit<A>, AllocError>
-        ensures { IfOk result (λ e. edit_of e ≡ edits.AddPrereq false None target.now word.now) }
+        ensures { IfOk result (λ e. edit_of e ≡ edits.ChangePrereqs None target.now (edits.AddPrereq false word.now)) }
     {
         let target = Vec::from_slice(alloc, target)?;
         let word = Vec::from_slice(alloc, word)?;
@@ -220,7 +220,7 @@ impl<A: Allocator + Copy> MakeEdit<A> for Edit<A> {
     }
 
     fn depend_order(alloc: A, target: &[u8], word: &[u8]) -> Result<Edit<A>, AllocError>
-        ensures { IfOk result (λ e. edit_of e ≡ edits.AddPrereq true None target.now word.now) }
+        ensures { IfOk result (λ e. edit_of e ≡ edits.ChangePrereqs None target.now (edits.AddPrereq true word.now)) }
     {
         let target = Vec::from_slice(alloc, target)?;
         let word = Vec::from_slice(alloc, word)?;
@@ -233,7 +233,7 @@ impl<A: Allocator + Copy> MakeEdit<A> for Edit<A> {
     }
 
     fn undepend(alloc: A, target: &[u8], word: &[u8]) -> Result<Edit<A>, AllocError>
-        ensures { IfOk result (λ e. edit_of e ≡ edits.RemovePrereq None target.now word.now) }
+        ensures { IfOk result (λ e. edit_of e ≡ edits.ChangePrereqs None target.now (edits.RemovePrereq word.now)) }
     {
         let target = Vec::from_slice(alloc, target)?;
         let word = Vec::from_slice(alloc, word)?;
@@ -245,7 +245,7 @@ impl<A: Allocator + Copy> MakeEdit<A> for Edit<A> {
     }
 
     fn recipe(alloc: A, target: &[u8], line: &[u8]) -> Result<Edit<A>, AllocError>
-        ensures { IfOk result (λ e. edit_of e ≡ edits.AddRecipe None target.now line.now) }
+        ensures { IfOk result (λ e. edit_of e ≡ edits.AddRecipe None target.now edits.Last line.now) }
     {
         let target = Vec::from_slice(alloc, target)?;
         let line = Vec::from_slice(alloc, line)?;
@@ -263,7 +263,7 @@ impl<A: Allocator + Copy> MakeEdit<A> for Edit<A> {
         line: &[u8],
     ) -> Result<Edit<A>, AllocError>
         ensures { IfOk result (λ e. edit_of e
-            ≡ edits.InsertRecipe None target.now number line.now) }
+            ≡ edits.AddRecipe None target.now (edits.At number) line.now) }
     {
         let target = Vec::from_slice(alloc, target)?;
         let line = Vec::from_slice(alloc, line)?;
@@ -276,7 +276,7 @@ impl<A: Allocator + Copy> MakeEdit<A> for Edit<A> {
     }
 
     fn recipe_set(alloc: A, target: &[u8], number: u32, line: &[u8]) -> Result<Edit<A>, AllocError>
-        ensures { IfOk result (λ e. edit_of e ≡ edits.SetRecipe None target.now number line.now) }
+        ensures { IfOk result (λ e. edit_of e ≡ edits.SetRecipe None target.now (edits.ByNumber number) line.now) }
     {
         let target = Vec::from_slice(alloc, target)?;
         let line = Vec::from_slice(alloc, line)?;
@@ -289,7 +289,7 @@ impl<A: Allocator + Copy> MakeEdit<A> for Edit<A> {
     }
 
     fn recipe_del(alloc: A, target: &[u8], number: u32) -> Result<Edit<A>, AllocError>
-        ensures { IfOk result (λ e. edit_of e ≡ edits.RemoveRecipe None target.now number) }
+        ensures { IfOk result (λ e. edit_of e ≡ edits.RemoveLines (edits.OfRecipe None target.now (edits.ByNumber number))) }
     {
         let target = Vec::from_slice(alloc, target)?;
         Ok(Edit::RemoveRecipe {
@@ -306,7 +306,7 @@ impl<A: Allocator + Copy> MakeEdit<A> for Edit<A> {
         line: &[u8],
     ) -> Result<Edit<A>, AllocError>
         ensures { IfOk result (λ e. edit_of e
-            ≡ edits.SetRecipeByText None target.now old.now line.now) }
+            ≡ edits.SetRecipe None target.now (edits.ByText old.now) line.now) }
     {
         let target = Vec::from_slice(alloc, target)?;
         let old = Vec::from_slice(alloc, old)?;
@@ -320,7 +320,7 @@ impl<A: Allocator + Copy> MakeEdit<A> for Edit<A> {
     }
 
     fn recipe_remove(alloc: A, target: &[u8], old: &[u8]) -> Result<Edit<A>, AllocError>
-        ensures { IfOk result (λ e. edit_of e ≡ edits.RemoveRecipeByText None target.now old.now) }
+        ensures { IfOk result (λ e. edit_of e ≡ edits.RemoveLines (edits.OfRecipe None target.now (edits.ByText old.now))) }
     {
         let target = Vec::from_slice(alloc, target)?;
         let old = Vec::from_slice(alloc, old)?;

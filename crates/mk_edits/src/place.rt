@@ -83,7 +83,7 @@ impl<A: Allocator + Copy> MakePlace<A> for Place<A> {
         value: &[u8],
     ) -> Result<Edit<A>, AllocError>
         ensures { IfOk result (λ e. edit_of e
-            ≡ edits.AddAssign (place_of self) name.now flavor value.now) }
+            ≡ edits.AddLine (place_of self) (edits.NewAssign name.now flavor value.now)) }
     {
         let name = Vec::from_slice(alloc, name)?;
         let value = Vec::from_slice(alloc, value)?;
@@ -103,7 +103,7 @@ impl<A: Allocator + Copy> MakePlace<A> for Place<A> {
         prereqs: &[u8],
     ) -> Result<Edit<A>, AllocError>
         ensures { IfOk result (λ e. edit_of e
-            ≡ edits.AddRule (place_of self) targets.now separator prereqs.now) }
+            ≡ edits.AddLine (place_of self) (edits.NewRule targets.now separator prereqs.now)) }
     {
         let targets = Vec::from_slice(alloc, targets)?;
         let prereqs = Vec::from_slice(alloc, prereqs)?;

@@ -9,7 +9,7 @@ ghost use Rattle.mk_edit_parts.specs.AddressViews.{address_seen};
 ghost use Rattle.mk_edit_parts.specs.Seeking.{IsKnownOf, IsLineKnown, IsSought};
 ghost use Rattle.mk_edit_parts.specs.Windows.{AreWindows, IsKnown, concerns_name, concerns_rename, first_place};
 ghost use Rattle.mk_edit_language.specs.Edits as edits;
-ghost use Rattle.mk_edit_language.specs.Edits.{ChangeValues, RenameTarget};
+ghost use Rattle.mk_edit_language.specs.Edits.{ChangeValue, Every, RenameTarget};
 ghost use Rattle.mk_patch.specs.Moves.{FitMoves, after_moves};
 ghost use Rattle.mk_index.specs.Effects.{IsBehind, IsKnownFor};
 
@@ -357,7 +357,7 @@ fn windows_known<A: Allocator>(windows: Option<Vec<Window, A>>) -> Known<A>
         → IsKnown (RenameTarget old new) lines result }
     ensures values { (name : List ℕ) (change : edits.ValueChange) (lines : List LocatedLine)
         → IfSome windows (λ w. AreWindows (concerns_name name) first_place lines w.items)
-        → IsKnown (ChangeValues name change) lines result }
+        → IsKnown (ChangeValue Every name change) lines result }
 {
     match windows {
         Some(windows) => Known::Windows(windows),

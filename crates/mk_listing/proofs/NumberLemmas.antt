@@ -18,6 +18,7 @@ use Rattle.mk_tree.specs.LocatedLines.{LocatedLine, located_line, located_lines}
 use Rattle.mk_tree.specs.RecipeLines.{recipe_lines, rule_lines, stays_in_rule}
 use Rattle.mk_tree.specs.Views.{AssignmentView, RuleView, assignment_of, recipe_of, rule_of}
 use Rattle.mk_tree.specs.ViewLaws.{SeesAssignment, SeesRule, AssignmentsAreSeen, RulesAreSeen}
+use Rattle.mk_edit_language.specs.Edits.{ByNumber}
 use Rattle.mk_edit_language.specs.Addresses.{Rule, assigns, found, is_rule_for}
 use Rattle.mk_edit_language.specs.Spots.{nth_of, spots, spot_if, under}
 use Rattle.mk_edit_language.specs.Stretches.{below_header, recipe_spot}
@@ -280,7 +281,7 @@ recipes-numbered law text target n k rule listed first second =
       (
         below_header h x.0,
         (
-          ap (option_and_then (recipe_spot k)) m.1.1.0 ∙ nth-of-map (below_header h) k spots_below x.0 x.1.0,
+          ap (option_and_then (recipe_spot (ByNumber k))) m.1.1.0 ∙ nth-of-map (below_header h) k spots_below x.0 x.1.0,
           omega (arith, above, index, length-append h.above (h.line ∷ x.0.above)),
         ),
       ),

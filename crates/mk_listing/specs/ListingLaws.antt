@@ -4,6 +4,7 @@ use Rattle.std.specs.Prelude.{◌≡◌, ℕ, List, length, Some}
 use Rattle.mk_class.specs.ClassedLines.{classed_lines}
 use Rattle.mk_tree.specs.Documents.{document_lines}
 use Rattle.mk_tree.specs.LineTexts.{StandingLine}
+use Rattle.mk_edit_language.specs.Edits.{ByNumber}
 use Rattle.mk_edit_language.specs.Addresses.{Variable, Rule, found}
 use Rattle.mk_edit_language.specs.Spots.{nth_of}
 use Rattle.mk_edit_language.specs.Stretches.{recipe_found}
@@ -38,5 +39,5 @@ RecipeLinesHaveTheirNumbers = (text target : List ℕ) (n k : ℕ) (rule : RuleS
     → nth_of k (recipes_ahead 1 rule.below) ≡ Some listed
     → (listed.number ≡ k)
     × ((line : StandingLine)
-    × ((recipe_found (classed_lines text) (Some n) target k ≡ Some line)
+    × ((recipe_found (classed_lines text) (Some n) target (ByNumber k) ≡ Some line)
     × (length line.above ≡ listed.position.index)))

@@ -4,7 +4,7 @@ use Rattle.std.specs.Prelude.{Ok, Err}
 use Rattle.mk_class.specs.Arguments.{is_name, is_value}
 use Rattle.mk_class.specs.ClassedLines.{classed_lines}
 use Rattle.mk_tree.specs.LineTexts.{StandingLine}
-use Rattle.mk_edit_language.specs.Edits.{Edit, SetValue, RemoveAssign, RemoveRule}
+use Rattle.mk_edit_language.specs.Edits.{One, Set, OfAssign, OfRule, Edit, ChangeValue, RemoveLines}
 use Rattle.mk_edit_language.specs.EditSpans.{spans_of}
 use Rattle.mk_edit_language.specs.Addresses.{Variable, Rule, found}
 use Rattle.mk_edit_language.specs.ArgumentCauses.{Tested, bad_argument, first_failed, reserved}
@@ -38,7 +38,7 @@ five-passed None None None None (Some x) cs h = absurd (cc)
 five-passed None None None None None cs h = refl
 
 -- a value that `set` may give refuses nothing, as the empty one does
-same-fields : (nth : Option ℕ) (n v : List ℕ) → is_value v ≡ true → bad_argument (SetValue nth n v) ≡ bad_argument (SetValue nth n [])
+same-fields : (nth : Option ℕ) (n v : List ℕ) → is_value v ≡ true → bad_argument (ChangeValue (One nth) n (Set v)) ≡ bad_argument (ChangeValue (One nth) n (Set []))
 same-fields nth n v h = ap (λ b. first_failed (Tested field.Name (is_name n) ∷ Tested field.Value b ∷ [])) h
 
 -- a refusal of a lookup is that of a cause
@@ -54,8 +54,8 @@ found-by (Some x) s w h = absurd (cc)
 pub refused-as_set : IsRefusedAsSet
 refused-as_set t nth n v r i h =
     let ls = classed_lines t in
-    let e = SetValue nth n v in
-    let first : first_cause (first_causes ls (SetValue nth n [])) ≡ Some r = refused-by _ (found ls (Variable nth n)) r h in
+    let e = ChangeValue (One nth) n (Set v) in
+    let first : first_cause (first_causes ls (ChangeValue (One nth) n (Set []))) ≡ Some r = refused-by _ (found ls (Variable nth n)) r h in
     let same : first_cause (first_causes ls e) ≡ Some r =
     ap (λ z. first_cause (z ∷ reserved e ∷ unread_prefix ls ∷ no_such ls e ∷ ambiguous ls e ∷ [])) (same-fields nth n v i) ∙ first in
     let all : first_cause (causes t ls e) ≡ Some r = five-first (bad_argument e) (reserved e) (unread_prefix ls) (no_such ls e) (ambiguous ls e) _ r same in
@@ -68,8 +68,8 @@ only-long (Some r) = refl
 pub found-where_set : IsFoundWhereSet
 found-where_set t nth n v w i h =
     let ls = classed_lines t in
-    let e = SetValue nth n v in
-    let none : first_cause (first_causes ls (SetValue nth n [])) ≡ None = found-by _ (found ls (Variable nth n)) w h in
+    let e = ChangeValue (One nth) n (Set v) in
+    let none : first_cause (first_causes ls (ChangeValue (One nth) n (Set []))) ≡ None = found-by _ (found ls (Variable nth n)) w h in
     let same : first_cause (first_causes ls e) ≡ None =
     ap (λ z. first_cause (z ∷ reserved e ∷ unread_prefix ls ∷ no_such ls e ∷ ambiguous ls e ∷ [])) (same-fields nth n v i) ∙ none in
     let long = too_long t (spans_of t ls e) in
@@ -90,7 +90,7 @@ first-refused t e s r h =
     ap (λ z. unless_refused z (spans_of t ls e)) all
 
 pub refused-as_unset : IsRefusedAsUnset
-refused-as_unset t nth n r h = first-refused t (RemoveAssign nth n) (found (classed_lines t) (Variable nth n)) r h
+refused-as_unset t nth n r h = first-refused t (RemoveLines (OfAssign nth n)) (found (classed_lines t) (Variable nth n)) r h
 
 pub refused-as_unrule : IsRefusedAsUnrule
-refused-as_unrule t nth g r h = first-refused t (RemoveRule nth g) (found (classed_lines t) (Rule nth g)) r h
+refused-as_unrule t nth g r h = first-refused t (RemoveLines (OfRule nth g)) (found (classed_lines t) (Rule nth g)) r h

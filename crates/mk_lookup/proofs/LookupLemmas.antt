@@ -12,7 +12,7 @@ use Rattle.mk_class.specs.LocatedClasses.{located_class}
 use Rattle.mk_class.specs.RecipePrefix.{is_prefix_name}
 use Rattle.mk_tree.specs.Documents.{IsFaithful}
 use Rattle.mk_tree.specs.LocatedLines.{LocatedLine, located_line, located_text}
-use Rattle.mk_edit_language.specs.Edits.{SetValue}
+use Rattle.mk_edit_language.specs.Edits.{One, Set, ChangeValue}
 use Rattle.mk_edit_language.specs.Addresses.{Variable, found}
 use Rattle.mk_edit_language.specs.AddressCauses.{unread_prefix, no_such, ambiguous}
 use Rattle.mk_edit_language.specs.ArgumentCauses.{Tested, bad_argument, first_failed, reserved}
@@ -71,14 +71,14 @@ value-found seen ls nth n f l h F k =
 -- ---- the causes
 
 -- a lookup answers the value of the line that is found, if no cause holds
-lookup-found : (t : List ℕ) (nth : Option ℕ) (n : List ℕ) → first_cause (first_causes (classed_lines t) (SetValue nth n [])) ≡ None
+lookup-found : (t : List ℕ) (nth : Option ℕ) (n : List ℕ) → first_cause (first_causes (classed_lines t) (ChangeValue (One nth) n (Set []))) ≡ None
     → looked_up t nth n ≡ Ok (value_at (found (classed_lines t) (Variable nth n)))
 lookup-found t nth n h = ap (λ z. value_unless z (found (classed_lines t) (Variable nth n))) h
 
-name-passed : (nth : Option ℕ) (n : List ℕ) → is_name n ≡ true → bad_argument (SetValue nth n []) ≡ None
+name-passed : (nth : Option ℕ) (n : List ℕ) → is_name n ≡ true → bad_argument (ChangeValue (One nth) n (Set [])) ≡ None
 name-passed nth n h = ap (λ z. first_failed (Tested field.Name z ∷ Tested field.Value (is_value []) ∷ [])) h
 
-name-free : (nth : Option ℕ) (n : List ℕ) → is_prefix_name n ≡ false → reserved (SetValue nth n []) ≡ None
+name-free : (nth : Option ℕ) (n : List ℕ) → is_prefix_name n ≡ false → reserved (ChangeValue (One nth) n (Set [])) ≡ None
 name-free nth n h = ap (λ z. where_holds ((z || false) || false) Reserved) h
 
 -- the name passes both of its tests
@@ -87,10 +87,10 @@ pub record IsNamed (n : List ℕ) : Type 0 where
   pub free : is_prefix_name n ≡ false
 
 causes-of_line : (t : List ℕ) (nth : Option ℕ) (n : List ℕ) (r : Option Refusal) → IsNamed n
-    → first_cause (unread_prefix (classed_lines t) ∷ no_such (classed_lines t) (SetValue nth n []) ∷ ambiguous (classed_lines t) (SetValue nth n []) ∷ []) ≡ r
-    → first_cause (first_causes (classed_lines t) (SetValue nth n [])) ≡ r
+    → first_cause (unread_prefix (classed_lines t) ∷ no_such (classed_lines t) (ChangeValue (One nth) n (Set [])) ∷ ambiguous (classed_lines t) (ChangeValue (One nth) n (Set [])) ∷ []) ≡ r
+    → first_cause (first_causes (classed_lines t) (ChangeValue (One nth) n (Set []))) ≡ r
 causes-of_line t nth n r N h =
-    let e = SetValue nth n [] in
+    let e = ChangeValue (One nth) n (Set []) in
     passed (bad_argument e) _ r (name-passed nth n N.name) (passed (reserved e) _ r (name-free nth n N.free) h)
 
 -- the value of a line that is the one that is meant
@@ -100,7 +100,7 @@ pub value-looked_up : AssignmentsAreSeen → (ls : List LocatedLine) (nth : Opti
 value-looked_up seen ls nth n f l h N u P k =
     let t = located_text ls in
     let cs = classed_lines t in
-    let e = SetValue nth n [] in
+    let e = ChangeValue (One nth) n (Set []) in
     let none : first_cause (first_causes cs e) ≡ None =
     causes-of_line t nth n None N (passed (unread_prefix cs) _ None u (passed (no_such cs e) _ None P.is_there (passed (ambiguous cs e) [] None P.is_one refl))) in
     lookup-found t nth n none ∙ ap (λ v. Ok v) (value-found seen ls nth n f l h P.meant k)

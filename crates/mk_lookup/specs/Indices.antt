@@ -4,7 +4,7 @@
 use Rattle.std.specs.Prelude.{ℕ, List, length, Option, Some, None, Result, Ok, Err}
 use Rattle.mk_class.specs.ClassedLines.{classed_lines}
 use Rattle.mk_tree.specs.LineTexts.{StandingLine}
-use Rattle.mk_edit_language.specs.Edits.{RemoveAssign, RemoveRule}
+use Rattle.mk_edit_language.specs.Edits.{OfAssign, OfRule, RemoveLines}
 use Rattle.mk_edit_language.specs.Addresses.{Variable, Rule, found}
 use Rattle.mk_edit_language.specs.Refusals.{first_cause}
 use Rattle.mk_edit_language.specs.declared.refusal.Refusal.{Refusal}
@@ -25,11 +25,11 @@ index_unless None s = Ok (index_of s)
 abbrev pub assignment_index : (text : List ℕ) → (nth : Option ℕ) → (name : List ℕ) → Result ℕ Refusal
 assignment_index t nth n =
     let ls = classed_lines t in
-    index_unless (first_cause (first_causes ls (RemoveAssign nth n))) (found ls (Variable nth n))
+    index_unless (first_cause (first_causes ls (RemoveLines (OfAssign nth n)))) (found ls (Variable nth n))
 
 -- The index of the line of the rule that an edit of this target and this number takes. `unrule` stands here for these
 -- edits: it has no field but its target.
 abbrev pub rule_index : (text : List ℕ) → (nth : Option ℕ) → (target : List ℕ) → Result ℕ Refusal
 rule_index t nth g =
     let ls = classed_lines t in
-    index_unless (first_cause (first_causes ls (RemoveRule nth g))) (found ls (Rule nth g))
+    index_unless (first_cause (first_causes ls (RemoveLines (OfRule nth g)))) (found ls (Rule nth g))

@@ -8,7 +8,7 @@ use Rattle.mk_class.specs.Classes.{Class}
 use Rattle.mk_class.specs.Classes.Class.{Assign}
 use Rattle.mk_class.specs.ClassedLines.{ClassedLine, classed_lines}
 use Rattle.mk_tree.specs.LineTexts.{StandingLine}
-use Rattle.mk_edit_language.specs.Edits.{Edit, SetValue}
+use Rattle.mk_edit_language.specs.Edits.{One, Set, Edit, ChangeValue}
 use Rattle.mk_edit_language.specs.Addresses.{Variable, found}
 use Rattle.mk_edit_language.specs.ArgumentCauses.{bad_argument, reserved}
 use Rattle.mk_edit_language.specs.AddressCauses.{unread_prefix, no_such, ambiguous}
@@ -38,4 +38,4 @@ value_unless None s = Ok (value_at s)
 abbrev pub looked_up : (text : List ℕ) → (nth : Option ℕ) → (name : List ℕ) → Result (List ℕ) Refusal
 looked_up t nth n =
     let ls = classed_lines t in
-    value_unless (first_cause (first_causes ls (SetValue nth n []))) (found ls (Variable nth n))
+    value_unless (first_cause (first_causes ls (ChangeValue (One nth) n (Set [])))) (found ls (Variable nth n))

@@ -1,9 +1,9 @@
 -- How the command of a line is read: its first field, and what follows it.
 -- Told in docs/ARCHITECTURE.md, "From a script to a text".
-use Rattle.std.specs.Prelude.{ℕ, true, false, if◌then◌else◌, List, Option, Some, None, option_map, codes}
+use Rattle.std.specs.Prelude.{ℕ, Bool, true, false, if◌then◌else◌, List, Option, Some, None, option_map, codes}
 use Rattle.std.specs.Str.{bytes_eq}
 use Rattle.mk_class.specs.declared.assignment.Flavor.{Flavor}
-use Rattle.mk_edit_language.specs.Edits.{Place, Bottom, BeforeVar, AfterVar, BeforeRule, Edit, SetValue, AppendValue, AddWord, RemoveWord, AddAssign, RemoveAssign, AddRule, RemoveRule, AddPrereq, RemovePrereq, AddRecipe, SetRecipe, RemoveRecipe, InsertRecipe, SetRecipeByText, RemoveRecipeByText, RenameTarget, ChangeValues, ValueChange, Set, Append, Add, Remove}
+use Rattle.mk_edit_language.specs.Edits.{Place, Bottom, BeforeVar, AfterVar, BeforeRule, NewAssign, NewRule, Which, One, Every, ValueChange, Set, Append, Add, Remove, AddPrereq, RemovePrereq, ByNumber, ByText, Last, At, OfAssign, OfRule, OfRecipe, Edit, ChangeValue, ChangePrereqs, AddLine, AddRecipe, SetRecipe, RemoveLines, RenameTarget}
 use Rattle.mk_edit_language.specs.declared.edit.RuleSeparator.{RuleSeparator}
 use Rattle.mk_history.specs.Machine.{Command, Apply}
 use Rattle.mk_script.specs.Lines.{Saying, Plain, Try, Or}
@@ -58,7 +58,7 @@ of_three make rest = option_map (λ p. make p.0 p.1 p.2) (three_fields rest)
 
 abbrev pub add_assign_of : Place → Option Flavor → (name value : List ℕ) → Option Edit
 add_assign_of place None name value = None
-add_assign_of place (Some flavor) name value = Some (AddAssign place name flavor value)
+add_assign_of place (Some flavor) name value = Some (AddLine place (NewAssign name flavor value))
 
 abbrev pub add_assign_at : Place → Option (List ℕ × List ℕ × List ℕ) → Option Edit
 add_assign_at place None = None
@@ -70,7 +70,8 @@ add_assign_after (Some p) = add_assign_at p.0 (three_fields p.1)
 
 abbrev pub add_rule_of : Place → Option RuleSeparator → (targets prereqs : List ℕ) → Option Edit
 add_rule_of place None targets prereqs = None
-add_rule_of place (Some separator) targets prereqs = Some (AddRule place targets separator prereqs)
+add_rule_of place (Some separator) targets prereqs =
+    Some (AddLine place (NewRule targets separator prereqs))
 
 abbrev pub add_rule_at : Place → Option (List ℕ × List ℕ × List ℕ) → Option Edit
 add_rule_at place None = None
@@ -93,7 +94,7 @@ numbered_line_after make (Some p) = numbered_line_of make p.0 (number p.1) p.2
 
 abbrev pub remove_recipe_of : (nth : Option ℕ) → (target : List ℕ) → Option ℕ → Option Edit
 remove_recipe_of nth target None = None
-remove_recipe_of nth target (Some k) = Some (RemoveRecipe nth target k)
+remove_recipe_of nth target (Some k) = Some (RemoveLines (OfRecipe nth target (ByNumber k)))
 
 abbrev pub remove_recipe_after : (nth : Option ℕ) → Option (List ℕ × List ℕ) → Option Edit
 remove_recipe_after nth None = None
@@ -104,27 +105,66 @@ abbrev pub rename_target_of : (nth : Option ℕ) → (rest : List ℕ) → Optio
 rename_target_of None rest = of_two RenameTarget rest
 rename_target_of (Some n) rest = None
 
+-- the change that a word says, with the text after the name
+abbrev pub change_with : ChangeWord → (text : List ℕ) → ValueChange
+change_with change.Set text = Set text
+change_with change.Append text = Append text
+change_with change.Add text = Add text
+change_with change.Drop text = Remove text
+
+-- an edit of the value of one assignment of a name, or of each
+abbrev pub value_edit : Which → ChangeWord → (name text : List ℕ) → Edit
+value_edit which word name text = ChangeValue which name (change_with word text)
+
+-- the edits of a rule or of a recipe line
+abbrev pub add_prereq : (order : Bool) → (nth : Option ℕ) → (target word : List ℕ) → Edit
+add_prereq order nth target word = ChangePrereqs nth target (AddPrereq order word)
+
+abbrev pub remove_prereq : (nth : Option ℕ) → (target word : List ℕ) → Edit
+remove_prereq nth target word = ChangePrereqs nth target (RemovePrereq word)
+
+abbrev pub add_recipe : (nth : Option ℕ) → (target line : List ℕ) → Edit
+add_recipe nth target line = AddRecipe nth target Last line
+
+abbrev pub insert_recipe : (nth : Option ℕ) → (target : List ℕ) → ℕ → (line : List ℕ) → Edit
+insert_recipe nth target k line = AddRecipe nth target (At k) line
+
+abbrev pub set_recipe : (nth : Option ℕ) → (target : List ℕ) → ℕ → (line : List ℕ) → Edit
+set_recipe nth target k line = SetRecipe nth target (ByNumber k) line
+
+abbrev pub replace_recipe : (nth : Option ℕ) → (target old line : List ℕ) → Edit
+replace_recipe nth target old line = SetRecipe nth target (ByText old) line
+
+abbrev pub remove_recipe : (nth : Option ℕ) → (target old : List ℕ) → Edit
+remove_recipe nth target old = RemoveLines (OfRecipe nth target (ByText old))
+
+abbrev pub remove_assign : (nth : Option ℕ) → (name : List ℕ) → Edit
+remove_assign nth name = RemoveLines (OfAssign nth name)
+
+abbrev pub remove_rule : (nth : Option ℕ) → (target : List ℕ) → Edit
+remove_rule nth target = RemoveLines (OfRule nth target)
+
 abbrev pub edit_by_word : (nth : Option ℕ) → Option EditWord → (rest : List ℕ) → Option Edit
 edit_by_word nth None rest = None
-edit_by_word nth (Some word.Set) rest = of_two (SetValue nth) rest
-edit_by_word nth (Some word.Append) rest = of_two (AppendValue nth) rest
-edit_by_word nth (Some word.Add) rest = of_two (AddWord nth) rest
-edit_by_word nth (Some word.Drop) rest = of_two (RemoveWord nth) rest
-edit_by_word nth (Some word.Unset) rest = of_one (RemoveAssign nth) rest
+edit_by_word nth (Some word.Set) rest = of_two (value_edit (One nth) change.Set) rest
+edit_by_word nth (Some word.Append) rest = of_two (value_edit (One nth) change.Append) rest
+edit_by_word nth (Some word.Add) rest = of_two (value_edit (One nth) change.Add) rest
+edit_by_word nth (Some word.Drop) rest = of_two (value_edit (One nth) change.Drop) rest
+edit_by_word nth (Some word.Unset) rest = of_one (remove_assign nth) rest
 edit_by_word nth (Some word.Assign) rest = add_assign_after (place_at_front nth rest)
 edit_by_word nth (Some word.Rule) rest = add_rule_after (place_at_front nth rest)
-edit_by_word nth (Some word.Unrule) rest = of_one (RemoveRule nth) rest
-edit_by_word nth (Some word.Depend) rest = of_two (AddPrereq false nth) rest
-edit_by_word nth (Some word.DependOrder) rest = of_two (AddPrereq true nth) rest
-edit_by_word nth (Some word.Undepend) rest = of_two (RemovePrereq nth) rest
-edit_by_word nth (Some word.Recipe) rest = of_two (AddRecipe nth) rest
+edit_by_word nth (Some word.Unrule) rest = of_one (remove_rule nth) rest
+edit_by_word nth (Some word.Depend) rest = of_two (add_prereq false nth) rest
+edit_by_word nth (Some word.DependOrder) rest = of_two (add_prereq true nth) rest
+edit_by_word nth (Some word.Undepend) rest = of_two (remove_prereq nth) rest
+edit_by_word nth (Some word.Recipe) rest = of_two (add_recipe nth) rest
 edit_by_word nth (Some word.RecipeSet) rest =
-    numbered_line_after (SetRecipe nth) (three_fields rest)
+    numbered_line_after (set_recipe nth) (three_fields rest)
 edit_by_word nth (Some word.RecipeDel) rest = remove_recipe_after nth (two_fields rest)
 edit_by_word nth (Some word.RecipeInsert) rest =
-    numbered_line_after (InsertRecipe nth) (three_fields rest)
-edit_by_word nth (Some word.RecipeReplace) rest = of_three (SetRecipeByText nth) rest
-edit_by_word nth (Some word.RecipeRemove) rest = of_two (RemoveRecipeByText nth) rest
+    numbered_line_after (insert_recipe nth) (three_fields rest)
+edit_by_word nth (Some word.RecipeReplace) rest = of_three (replace_recipe nth) rest
+edit_by_word nth (Some word.RecipeRemove) rest = of_two (remove_recipe nth) rest
 edit_by_word nth (Some word.Rename) rest = rename_target_of nth rest
 
 -- an edit, from its first field and what follows that field
@@ -133,16 +173,9 @@ edit nth first rest = edit_by_word nth (named edit_words first) rest
 
 -- ---- edits of every assignment of a name
 
--- the change that a word says, with the text after the name
-abbrev pub change_with : ChangeWord → (text : List ℕ) → ValueChange
-change_with change.Set text = Set text
-change_with change.Append text = Append text
-change_with change.Add text = Add text
-change_with change.Drop text = Remove text
-
 abbrev pub change_by_word : Option ChangeWord → (rest : List ℕ) → Option Edit
 change_by_word None rest = None
-change_by_word (Some word) rest = of_two (λ name text. ChangeValues name (change_with word text)) rest
+change_by_word (Some word) rest = of_two (value_edit Every word) rest
 
 -- an edit, from what follows `all`
 abbrev pub edit_after_all : Option (List ℕ × List ℕ) → Option Edit

@@ -1,7 +1,7 @@
 -- Laws of lines and of scripts. Each law is the contract of a public function.
 -- Told in docs/PROOFS.md, "Scripts (mk_script)".
 use Rattle.std.specs.Prelude.{◌≡◌, ◌⊎◌, ◌↔◌, ℕ, ◌≤◌, List, [], ◌∷◌, ◌++◌, map, Option, Some, None, codes}
-use Rattle.mk_edit_language.specs.Edits.{Edit, SetValue, AppendValue, AddWord, RemoveWord, AddAssign, RemoveAssign, AddRule, RemoveRule, AddPrereq, RemovePrereq, AddRecipe, SetRecipe, RemoveRecipe, InsertRecipe, SetRecipeByText, RemoveRecipeByText, RenameTarget, ChangeValues}
+use Rattle.mk_edit_language.specs.Edits.{One, Every, ByNumber, ByText, Last, At, OfAssign, OfRule, OfRecipe, Edit, ChangeValue, ChangePrereqs, AddLine, AddRecipe, SetRecipe, RemoveLines, RenameTarget}
 use Rattle.mk_history.specs.Machine.{Command, Apply}
 use Rattle.mk_script.specs.Fields.{quoted, HasFields}
 use Rattle.mk_script.specs.CommandTable.{nth_of_place, IsCommand}
@@ -40,25 +40,22 @@ CanBeWritten (Some n) = n ≤ 4294967295
 
 -- an edit whose numbers a script can write
 abbrev pub HasNumbersOfScripts : Edit → Type 0
-HasNumbersOfScripts (SetValue nth name value) = CanBeWritten nth
-HasNumbersOfScripts (AppendValue nth name value) = CanBeWritten nth
-HasNumbersOfScripts (AddWord nth name word) = CanBeWritten nth
-HasNumbersOfScripts (RemoveWord nth name word) = CanBeWritten nth
-HasNumbersOfScripts (AddAssign place name flavor value) = CanBeWritten (nth_of_place place)
-HasNumbersOfScripts (RemoveAssign nth name) = CanBeWritten nth
-HasNumbersOfScripts (AddRule place targets separator prereqs) = CanBeWritten (nth_of_place place)
-HasNumbersOfScripts (RemoveRule nth target) = CanBeWritten nth
-HasNumbersOfScripts (AddPrereq order nth target word) = CanBeWritten nth
-HasNumbersOfScripts (RemovePrereq nth target word) = CanBeWritten nth
-HasNumbersOfScripts (AddRecipe nth target line) = CanBeWritten nth
-HasNumbersOfScripts (SetRecipe nth target number line) = CanBeWritten nth × (number ≤ 4294967295)
-HasNumbersOfScripts (RemoveRecipe nth target number) = CanBeWritten nth × (number ≤ 4294967295)
-HasNumbersOfScripts (InsertRecipe nth target number line) =
+HasNumbersOfScripts (ChangeValue (One nth) name change) = CanBeWritten nth
+HasNumbersOfScripts (ChangeValue Every name change) = Unit {0}
+HasNumbersOfScripts (ChangePrereqs nth target change) = CanBeWritten nth
+HasNumbersOfScripts (AddLine place line) = CanBeWritten (nth_of_place place)
+HasNumbersOfScripts (AddRecipe nth target Last line) = CanBeWritten nth
+HasNumbersOfScripts (AddRecipe nth target (At number) line) =
     CanBeWritten nth × (number ≤ 4294967295)
-HasNumbersOfScripts (SetRecipeByText nth target old line) = CanBeWritten nth
-HasNumbersOfScripts (RemoveRecipeByText nth target old) = CanBeWritten nth
+HasNumbersOfScripts (SetRecipe nth target (ByNumber number) line) =
+    CanBeWritten nth × (number ≤ 4294967295)
+HasNumbersOfScripts (SetRecipe nth target (ByText old) line) = CanBeWritten nth
+HasNumbersOfScripts (RemoveLines (OfAssign nth name)) = CanBeWritten nth
+HasNumbersOfScripts (RemoveLines (OfRule nth target)) = CanBeWritten nth
+HasNumbersOfScripts (RemoveLines (OfRecipe nth target (ByNumber number))) =
+    CanBeWritten nth × (number ≤ 4294967295)
+HasNumbersOfScripts (RemoveLines (OfRecipe nth target (ByText old))) = CanBeWritten nth
 HasNumbersOfScripts (RenameTarget old new) = Unit {0}
-HasNumbersOfScripts (ChangeValues name change) = Unit {0}
 
 -- a command whose numbers a script can write
 abbrev pub HasNumbers : Command Edit → Type 0
@@ -76,7 +73,7 @@ EachSayingHasALine = (saying : Saying) → HasLine saying → (line : List ℕ) 
 
 -- the edits of every assignment of a name
 abbrev pub IsOfEveryLine : Command Edit → Type 0
-IsOfEveryLine (Apply (ChangeValues name change)) = Unit {0}
+IsOfEveryLine (Apply (ChangeValue Every name change)) = Unit {0}
 IsOfEveryLine command = ⊥
 
 -- the first of some fields is this word

@@ -6,9 +6,10 @@ ghost use Rattle.std.specs.Prelude.{◌≡◌, IfOk, true, false};
 ghost use Rattle.mk_edit_language.specs.Edits as edits;
 ghost use Rattle.mk_edit_language.specs.EditViews.{edit_of, place_of, value_change_of};
 ghost use Rattle.mk_script.specs.SeenFields.{field_text};
-ghost use Rattle.mk_script.specs.CommandReading.{add_assign_after, change_by_word, change_with, edit, of_one, of_three, of_two, place_at_front, numbered_line_after, remove_recipe_after, rename_target_of, add_rule_after};
+ghost use Rattle.mk_script.specs.CommandReading.{add_assign_after, add_prereq, add_recipe, add_rule_after, change_by_word, change_with, edit, insert_recipe, numbered_line_after, of_one, of_three, of_two, place_at_front, remove_assign, remove_prereq, remove_recipe, remove_recipe_after, remove_rule, rename_target_of, replace_recipe, set_recipe, value_edit};
 ghost use Rattle.mk_script.specs.FieldReading.{three_fields, two_fields};
 ghost use Rattle.mk_script.specs.WordReading.{named, value_words};
+ghost use Rattle.mk_script.specs.declared.word.ChangeWord.TheVariants as change;
 ghost use Rattle.mk_script.specs.ReaderAnswers.{IsFound, IsRead, place_and_rest, written_place};
 
 use crate::fault::{LineFault, NotThere};
@@ -123,7 +124,7 @@ fn read_set<A: Allocator + Copy>(
     nth: Option<u32>,
     rest: &[u8],
 ) -> Result<Edit<A>, LineFault>
-    ensures { IsRead edit_of (of_two (edits.SetValue nth) rest.now) result }
+    ensures { IsRead edit_of (of_two (value_edit (edits.One nth) change.Set) rest.now) result }
 {
     let (name, value) = two_fields(rest)?;
     let name = name.to_vec(alloc)?;
@@ -137,7 +138,7 @@ fn read_append<A: Allocator + Copy>(
     nth: Option<u32>,
     rest: &[u8],
 ) -> Result<Edit<A>, LineFault>
-    ensures { IsRead edit_of (of_two (edits.AppendValue nth) rest.now) result }
+    ensures { IsRead edit_of (of_two (value_edit (edits.One nth) change.Append) rest.now) result }
 {
     let (name, value) = two_fields(rest)?;
     let name = name.to_vec(alloc)?;
@@ -151,7 +152,7 @@ fn read_add<A: Allocator + Copy>(
     nth: Option<u32>,
     rest: &[u8],
 ) -> Result<Edit<A>, LineFault>
-    ensures { IsRead edit_of (of_two (edits.AddWord nth) rest.now) result }
+    ensures { IsRead edit_of (of_two (value_edit (edits.One nth) change.Add) rest.now) result }
 {
     let (name, word) = two_fields(rest)?;
     let name = name.to_vec(alloc)?;
@@ -165,7 +166,7 @@ fn read_drop<A: Allocator + Copy>(
     nth: Option<u32>,
     rest: &[u8],
 ) -> Result<Edit<A>, LineFault>
-    ensures { IsRead edit_of (of_two (edits.RemoveWord nth) rest.now) result }
+    ensures { IsRead edit_of (of_two (value_edit (edits.One nth) change.Drop) rest.now) result }
 {
     let (name, word) = two_fields(rest)?;
     let name = name.to_vec(alloc)?;
@@ -179,7 +180,7 @@ fn read_unset<A: Allocator + Copy>(
     nth: Option<u32>,
     rest: &[u8],
 ) -> Result<Edit<A>, LineFault>
-    ensures { IsRead edit_of (of_one (edits.RemoveAssign nth) rest.now) result }
+    ensures { IsRead edit_of (of_one (remove_assign nth) rest.now) result }
 {
     let name = one_field(rest)?.to_vec(alloc)?;
     Ok(Edit::RemoveAssign { nth, name })
@@ -239,7 +240,7 @@ fn read_unrule<A: Allocator + Copy>(
     nth: Option<u32>,
     rest: &[u8],
 ) -> Result<Edit<A>, LineFault>
-    ensures { IsRead edit_of (of_one (edits.RemoveRule nth) rest.now) result }
+    ensures { IsRead edit_of (of_one (remove_rule nth) rest.now) result }
 {
     let target = one_field(rest)?.to_vec(alloc)?;
     Ok(Edit::RemoveRule { nth, target })
@@ -252,7 +253,7 @@ fn read_depend<A: Allocator + Copy>(
     nth: Option<u32>,
     rest: &[u8],
 ) -> Result<Edit<A>, LineFault>
-    ensures { IsRead edit_of (of_two (edits.AddPrereq order nth) rest.now) result }
+    ensures { IsRead edit_of (of_two (add_prereq order nth) rest.now) result }
 {
     let (target, word) = two_fields(rest)?;
     let target = target.to_vec(alloc)?;
@@ -271,7 +272,7 @@ fn read_undepend<A: Allocator + Copy>(
     nth: Option<u32>,
     rest: &[u8],
 ) -> Result<Edit<A>, LineFault>
-    ensures { IsRead edit_of (of_two (edits.RemovePrereq nth) rest.now) result }
+    ensures { IsRead edit_of (of_two (remove_prereq nth) rest.now) result }
 {
     let (target, word) = two_fields(rest)?;
     let target = target.to_vec(alloc)?;
@@ -285,7 +286,7 @@ fn read_recipe<A: Allocator + Copy>(
     nth: Option<u32>,
     rest: &[u8],
 ) -> Result<Edit<A>, LineFault>
-    ensures { IsRead edit_of (of_two (edits.AddRecipe nth) rest.now) result }
+    ensures { IsRead edit_of (of_two (add_recipe nth) rest.now) result }
 {
     let (target, line) = two_fields(rest)?;
     let target = target.to_vec(alloc)?;
@@ -299,7 +300,7 @@ fn read_recipe_set<A: Allocator + Copy>(
     nth: Option<u32>,
     rest: &[u8],
 ) -> Result<Edit<A>, LineFault>
-    ensures { IsRead edit_of (numbered_line_after (edits.SetRecipe nth) (three_fields rest.now)) result }
+    ensures { IsRead edit_of (numbered_line_after (set_recipe nth) (three_fields rest.now)) result }
 {
     let (target, number, line) = three_fields(rest)?;
     let number = number_of(number)?;
@@ -338,7 +339,7 @@ fn read_recipe_insert<A: Allocator + Copy>(
     rest: &[u8],
 ) -> Result<Edit<A>, LineFault>
     ensures { IsRead edit_of
-        (numbered_line_after (edits.InsertRecipe nth) (three_fields rest.now)) result }
+        (numbered_line_after (insert_recipe nth) (three_fields rest.now)) result }
 {
     let (target, number, line) = three_fields(rest)?;
     let number = number_of(number)?;
@@ -358,7 +359,7 @@ fn read_recipe_replace<A: Allocator + Copy>(
     nth: Option<u32>,
     rest: &[u8],
 ) -> Result<Edit<A>, LineFault>
-    ensures { IsRead edit_of (of_three (edits.SetRecipeByText nth) rest.now) result }
+    ensures { IsRead edit_of (of_three (replace_recipe nth) rest.now) result }
 {
     let (target, old, line) = three_fields(rest)?;
     let target = target.to_vec(alloc)?;
@@ -378,7 +379,7 @@ fn read_recipe_remove<A: Allocator + Copy>(
     nth: Option<u32>,
     rest: &[u8],
 ) -> Result<Edit<A>, LineFault>
-    ensures { IsRead edit_of (of_two (edits.RemoveRecipeByText nth) rest.now) result }
+    ensures { IsRead edit_of (of_two (remove_recipe nth) rest.now) result }
 {
     let (target, old) = two_fields(rest)?;
     let target = target.to_vec(alloc)?;

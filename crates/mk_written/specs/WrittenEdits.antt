@@ -5,7 +5,7 @@ use Rattle.std.specs.List.{list_any}
 use Rattle.mk_lines.specs.Bytes.{is_blank_byte}
 use Rattle.mk_lines.specs.Spacing.{spaced_words}
 use Rattle.mk_class.specs.OperatorTexts.{operator_text}
-use Rattle.mk_edit_language.specs.Edits.{Edit, SetValue, AppendValue, AddWord, RemoveWord, AddAssign, RemoveAssign, AddRule, RemoveRule, AddPrereq, RemovePrereq, AddRecipe, SetRecipe, RemoveRecipe, InsertRecipe, SetRecipeByText, RemoveRecipeByText, RenameTarget, ChangeValues}
+use Rattle.mk_edit_language.specs.Edits.{NewAssign, NewRule, One, Every, AddPrereq, RemovePrereq, ByNumber, ByText, Last, At, OfAssign, OfRule, OfRecipe, Edit, ChangeValue, ChangePrereqs, AddLine, AddRecipe, SetRecipe, RemoveLines, RenameTarget}
 use Rattle.mk_edit_language.specs.NewLines.{rule_separator_text}
 use Rattle.mk_history.specs.Machine.{Apply}
 use Rattle.mk_script.specs.CommandTable.{place_words, nth_of_place, depend_word, change_words}
@@ -21,34 +21,32 @@ after_nth (Some n) words = codes "nth" ∷ decimal n ∷ words
 
 -- the fields of an edit's command
 abbrev pub fields_of : Edit → List (List ℕ)
-fields_of (SetValue nth name value) = after_nth nth (codes "set" ∷ name ∷ value ∷ [])
-fields_of (AppendValue nth name value) = after_nth nth (codes "append" ∷ name ∷ value ∷ [])
-fields_of (AddWord nth name word) = after_nth nth (codes "add" ∷ name ∷ word ∷ [])
-fields_of (RemoveWord nth name word) = after_nth nth (codes "drop" ∷ name ∷ word ∷ [])
-fields_of (AddAssign place name flavor value) =
+fields_of (ChangeValue (One nth) name change) = after_nth nth (change_words name change)
+fields_of (ChangeValue Every name change) = codes "all" ∷ change_words name change
+fields_of (AddLine place (NewAssign name flavor value)) =
     after_nth (nth_of_place place)
     (codes "assign" ∷ (place_words place ++ name ∷ operator_text flavor ∷ value ∷ []))
-fields_of (RemoveAssign nth name) = after_nth nth (codes "unset" ∷ name ∷ [])
-fields_of (AddRule place targets separator prereqs) =
+fields_of (RemoveLines (OfAssign nth name)) = after_nth nth (codes "unset" ∷ name ∷ [])
+fields_of (AddLine place (NewRule targets separator prereqs)) =
     after_nth (nth_of_place place)
     (codes "rule" ∷ (place_words place ++ targets ∷ rule_separator_text separator ∷ prereqs ∷ []))
-fields_of (RemoveRule nth target) = after_nth nth (codes "unrule" ∷ target ∷ [])
-fields_of (AddPrereq order nth target word) =
+fields_of (RemoveLines (OfRule nth target)) = after_nth nth (codes "unrule" ∷ target ∷ [])
+fields_of (ChangePrereqs nth target (AddPrereq order word)) =
     after_nth nth (depend_word order ∷ target ∷ word ∷ [])
-fields_of (RemovePrereq nth target word) = after_nth nth (codes "undepend" ∷ target ∷ word ∷ [])
-fields_of (AddRecipe nth target line) = after_nth nth (codes "recipe" ∷ target ∷ line ∷ [])
-fields_of (SetRecipe nth target number line) =
-    after_nth nth (codes "recipe-set" ∷ target ∷ decimal number ∷ line ∷ [])
-fields_of (RemoveRecipe nth target number) =
-    after_nth nth (codes "recipe-del" ∷ target ∷ decimal number ∷ [])
-fields_of (InsertRecipe nth target number line) =
+fields_of (ChangePrereqs nth target (RemovePrereq word)) =
+    after_nth nth (codes "undepend" ∷ target ∷ word ∷ [])
+fields_of (AddRecipe nth target Last line) = after_nth nth (codes "recipe" ∷ target ∷ line ∷ [])
+fields_of (AddRecipe nth target (At number) line) =
     after_nth nth (codes "recipe-insert" ∷ target ∷ decimal number ∷ line ∷ [])
-fields_of (SetRecipeByText nth target old line) =
+fields_of (SetRecipe nth target (ByNumber number) line) =
+    after_nth nth (codes "recipe-set" ∷ target ∷ decimal number ∷ line ∷ [])
+fields_of (SetRecipe nth target (ByText old) line) =
     after_nth nth (codes "recipe-replace" ∷ target ∷ old ∷ line ∷ [])
-fields_of (RemoveRecipeByText nth target old) =
+fields_of (RemoveLines (OfRecipe nth target (ByNumber number))) =
+    after_nth nth (codes "recipe-del" ∷ target ∷ decimal number ∷ [])
+fields_of (RemoveLines (OfRecipe nth target (ByText old))) =
     after_nth nth (codes "recipe-remove" ∷ target ∷ old ∷ [])
 fields_of (RenameTarget old new) = codes "rename" ∷ old ∷ new ∷ []
-fields_of (ChangeValues name change) = codes "all" ∷ change_words name change
 
 -- ---- how they are written
 

@@ -2,7 +2,7 @@
 -- Told in docs/EDITS.md, "The script".
 use Rattle.std.specs.Prelude.{◌≡◌, ℕ, Bool, true, false, List, [], ◌∷◌, ◌++◌, Option, Result, Err, IfOk, Vec, codes}
 use Rattle.std.specs.Borrow.{Bor}
-use Rattle.mk_edit_language.specs.Edits.{Edit, AddRule, RemoveRule, AddPrereq, RemovePrereq, AddRecipe, SetRecipe, RemoveRecipe, InsertRecipe, SetRecipeByText, RemoveRecipeByText, RenameTarget}
+use Rattle.mk_edit_language.specs.Edits.{NewRule, OfRule, OfRecipe, Edit, ChangePrereqs, AddLine, AddRecipe, SetRecipe, RemoveLines, RenameTarget}
 use Rattle.mk_script.specs.CommandTable.{IsAfterNth}
 use Rattle.mk_written.specs.WrittenEdits.{SaysOnly, after_nth, fields_of, has_line_feed, line_with}
 use Rattle.mk_written.specs.declared.line.LineError.{LineError}
@@ -15,20 +15,16 @@ fields_in (field ∷ fields) = field.now ∷ fields_in fields
 
 -- whether an edit is one of rules; of recipes
 abbrev pub is_of_rule : Edit → Bool
-is_of_rule (AddRule p ts c ws) = true
-is_of_rule (RemoveRule nth t) = true
-is_of_rule (AddPrereq o nth t w) = true
-is_of_rule (RemovePrereq nth t w) = true
+is_of_rule (AddLine p (NewRule ts c ws)) = true
+is_of_rule (RemoveLines (OfRule nth t)) = true
+is_of_rule (ChangePrereqs nth t c) = true
 is_of_rule (RenameTarget old new) = true
 is_of_rule e = false
 
 abbrev pub is_of_recipe : Edit → Bool
-is_of_recipe (AddRecipe nth t l) = true
-is_of_recipe (SetRecipe nth t k l) = true
-is_of_recipe (RemoveRecipe nth t k) = true
-is_of_recipe (InsertRecipe nth t k l) = true
-is_of_recipe (SetRecipeByText nth t o l) = true
-is_of_recipe (RemoveRecipeByText nth t o) = true
+is_of_recipe (AddRecipe nth t p l) = true
+is_of_recipe (SetRecipe nth t w l) = true
+is_of_recipe (RemoveLines (OfRecipe nth t w)) = true
 is_of_recipe e = false
 
 -- A line has the words of a command, after `nth` and a number if there is one, and no line feed

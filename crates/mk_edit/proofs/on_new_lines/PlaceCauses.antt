@@ -16,7 +16,7 @@ use Rattle.mk_tree.specs.NewLineEnds.{missing_line_end, lacks_line_end}
 use Rattle.mk_tree.specs.LocatedLines.{LocatedLine, located_text, size_of, last_line}
 use Rattle.mk_tree.proofs.on_changes.Sizes.{size_of-text}
 use Rattle.mk_edit_language.specs.Causes.{where_holds}
-use Rattle.mk_edit_language.specs.Edits.{Place, Bottom, BeforeVar, AfterVar, BeforeRule, Edit, AddAssign, AddRule, AddRecipe, InsertRecipe}
+use Rattle.mk_edit_language.specs.Edits.{Place, Bottom, BeforeVar, AfterVar, BeforeRule, Edit, AddLine, AddRecipe}
 use Rattle.mk_edit_language.specs.LineCauses.{follows_open_line, open_line, open_define, open_define_at, flag_below_new, new_line_leans, removal_leans, leaning, too_long}
 use Rattle.mk_edit_language.specs.NewLines.{new_text, new_line_span}
 use Rattle.mk_edit_language.specs.EditSpans.{spans_of, where_found}
@@ -64,19 +64,15 @@ place-defines ls p f N b =
 
 pub open_define-at : (ls : List LocatedLine) (e : Edit) (f : Found) (b : Bool) → IsOfNewLine e → IsInsertedAt ls (insertion (classed_lines (located_text ls)) e) f
     → b ≡ (is_at_bottom e && nat_lt 0 f.context.defines) → open_define (classed_lines (located_text ls)) e ≡ where_holds b OpenDefine
-open_define-at ls (AddAssign p n g v) f b u N k = define-at (classed_lines (located_text ls)) p f.context.defines (place-defines ls p f N) ∙ ap (λ z. where_holds z OpenDefine) (sym k)
-open_define-at ls (AddRule p ts c ws) f b u N k = define-at (classed_lines (located_text ls)) p f.context.defines (place-defines ls p f N) ∙ ap (λ z. where_holds z OpenDefine) (sym k)
-open_define-at ls (AddRecipe nth g c) f b u N k = ap (λ z. where_holds z OpenDefine) (sym k)
-open_define-at ls (InsertRecipe nth g n c) f b u N k = ap (λ z. where_holds z OpenDefine) (sym k)
+open_define-at ls (AddLine p l) f b u N k = define-at (classed_lines (located_text ls)) p f.context.defines (place-defines ls p f N) ∙ ap (λ z. where_holds z OpenDefine) (sym k)
+open_define-at ls (AddRecipe nth g p c) f b u N k = ap (λ z. where_holds z OpenDefine) (sym k)
 open_define-at ls e f b u N k = absurd u
 
 -- ---- Leans
 
 none-removed : (ls : List ClassedLine) (e : Edit) → IsOfNewLine e → removal ls e ≡ None
-none-removed ls (AddAssign p n f v) u = refl
-none-removed ls (AddRule p ts c ws) u = refl
-none-removed ls (AddRecipe nth g c) u = refl
-none-removed ls (InsertRecipe nth g n c) u = refl
+none-removed ls (AddLine p l) u = refl
+none-removed ls (AddRecipe nth g p c) u = refl
 none-removed ls e u = absurd u
 
 pub leaning-at : (ls : List LocatedLine) (e : Edit) (f : Found) (b : Bool) → IsFaithful ls → IsOfNewLine e → IsInsertedAt ls (insertion (classed_lines (located_text ls)) e) f
@@ -96,10 +92,8 @@ leaning-at ls e f b h u N k =
 -- ---- TooLong
 
 new-spans : (t : List ℕ) (ls : List ClassedLine) (e : Edit) → IsOfNewLine e → spans_of t ls e ≡ where_found (new_line_span t e) (insertion ls e)
-new-spans t ls (AddAssign p n f v) u = refl
-new-spans t ls (AddRule p ts c ws) u = refl
-new-spans t ls (AddRecipe nth g c) u = refl
-new-spans t ls (InsertRecipe nth g n c) u = refl
+new-spans t ls (AddLine p l) u = refl
+new-spans t ls (AddRecipe nth g p c) u = refl
 new-spans t ls e u = absurd u
 
 put-length : (at : ℕ) (t new : List ℕ) → length (replaced 0 t (record { start = at; end = at; new = new } ∷ [])) ≡ length t + length new

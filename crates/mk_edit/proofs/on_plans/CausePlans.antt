@@ -3,7 +3,7 @@ use Rattle.std.proofs.Common.{◌≡◌, refl, sym, ap, ◌∙◌, arith, ℕ, �
 use Rattle.std.specs.Prelude.{nat_lt}
 use Rattle.std.proofs.lemmas.Bool.{lt-ltb, le-ltb, ltb-true, ltb-false}
 use Rattle.mk_lines.specs.Limits.{max_text}
-use Rattle.mk_lines.specs.Pieces.{replaced}
+use Rattle.mk_lines.specs.Pieces.{Replacement, replaced}
 use Rattle.mk_class.specs.ClassedLines.{ClassedLine, classed_lines}
 use Rattle.mk_tree.specs.LocatedLines.{LocatedLine, located_text}
 use Rattle.mk_edit_language.specs.Edits.{Edit}
@@ -60,19 +60,27 @@ removal-leaning ls e s b i h k =
 -- ---- TooLong, by how many bytes the spans put in and take out
 
 -- a test with as much added on both sides
-pub same_test : (a b c d : ℕ) → b + c ≡ d → nat_lt a b ≡ nat_lt (a + c) d
+same_test : (a b c d : ℕ) → b + c ≡ d → nat_lt a b ≡ nat_lt (a + c) d
 same_test a b c d h = go (nat_lt a b) refl
   where
     go : (q : Bool) → nat_lt a b ≡ q → nat_lt a b ≡ nat_lt (a + c) d
     go true k = let l : a < b = ltb-true a b k in k ∙ sym (lt-ltb (a + c) d (omega (arith, l, h)))
     go false k = let l : b ≤ a = ltb-false a b k in k ∙ sym (le-ltb (a + c) d (omega (arith, l, h)))
 
-pub long-said : (t : List ℕ) (e : Edit) (taken put : ℕ) → bytes_taken (spans_of t (classed_lines t) e) ≡ taken → bytes_put (spans_of t (classed_lines t) e) ≡ put
-    → too_long t (spans_of t (classed_lines t) e) ≡ where_holds (nat_lt (max_text + taken) (length t + put)) TooLong
-long-said t e taken put h k =
+-- the bytes that spans put in, with these, are those and the bytes that the spans take out
+abbrev pub AreBalanced : (spared put : ℕ) → List Replacement → Type 0
+AreBalanced s p rs = bytes_put rs + s ≡ p + bytes_taken rs
+
+pub long-by : (t : List ℕ) (e : Edit) (spared put : ℕ) → AreBalanced spared put (spans_of t (classed_lines t) e)
+    → too_long t (spans_of t (classed_lines t) e) ≡ where_holds (nat_lt (max_text + spared) (length t + put)) TooLong
+long-by t e spared put h =
     let rs = spans_of t (classed_lines t) e in
     let n = length-replaced 0 (length t) t rs (spans-rise t e) (omega arith) in
-    ap (λ b. where_holds b TooLong) (same_test max_text (length (replaced 0 t rs)) taken (length t + put) (omega (arith, n, h, k)))
+    ap (λ b. where_holds b TooLong) (same_test max_text (length (replaced 0 t rs)) spared (length t + put) (omega (arith, n, h)))
+
+pub long-said : (t : List ℕ) (e : Edit) (taken put : ℕ) → bytes_taken (spans_of t (classed_lines t) e) ≡ taken → bytes_put (spans_of t (classed_lines t) e) ≡ put
+    → too_long t (spans_of t (classed_lines t) e) ≡ where_holds (nat_lt (max_text + taken) (length t + put)) TooLong
+long-said t e taken put h k = long-by t e taken put (omega (arith, h, k))
 
 -- an edit that puts no bytes in makes no text too long
 pub never-long : (t : List ℕ) (e : Edit) → bytes_put (spans_of t (classed_lines t) e) ≡ 0 → length t ≤ max_text → too_long t (spans_of t (classed_lines t) e) ≡ None

@@ -9,8 +9,7 @@ use Rattle.mk_tree.specs.LocatedLines.{LocatedLine, located_line, located_lines,
 use Rattle.mk_edit_language.specs.Edits.{Edit}
 use Rattle.mk_edit_language.specs.Stretches.{Stretch, this_line, touched_by}
 use Rattle.mk_edit_language.specs.Costs.{cost, size}
-use Rattle.mk_edit_language.specs.EditedLines.{edited_bytes}
-use Rattle.mk_edit_language.specs.KeptLines.{above_after}
+use Rattle.mk_edit_language.specs.KeptLines.{edited_bytes, above_after}
 use Rattle.mk_edit_language.specs.Refusals.{spans, text_after}
 use Rattle.mk_edit_language.proofs.on_edits.EditedLineLemmas.{edited, put-there, taken-out}
 use Rattle.mk_patch.specs.Moves.{Exchange, TakeOut, IsPlain}

@@ -21,8 +21,7 @@ use Rattle.mk_tree.proofs.on_changes.EndedLast.{end-put, ended-already, located-
 use Rattle.mk_edit_language.specs.Edits.{Edit}
 use Rattle.mk_edit_language.specs.Stretches.{Stretch, between, insertion}
 use Rattle.mk_edit_language.specs.Costs.{cost, size}
-use Rattle.mk_edit_language.specs.EditedLines.{new_line_bytes}
-use Rattle.mk_edit_language.specs.KeptLines.{above_after}
+use Rattle.mk_edit_language.specs.KeptLines.{new_line_bytes, above_after}
 use Rattle.mk_edit_language.specs.LineCauses.{follows_open_line}
 use Rattle.mk_edit_language.specs.Refusals.{spans, text_after}
 use Rattle.mk_edit_language.proofs.on_edits.Accepted.{accepted, where_holds-none}

@@ -10,10 +10,10 @@ use Rattle.mk_tree.specs.Documents.{IsFaithful, document_lines, context_of}
 use Rattle.mk_tree.specs.LineTexts.{line_in}
 use Rattle.mk_tree.specs.LocatedLines.{LocatedLine, located_line, located_lines, located_text, size_of}
 use Rattle.mk_tree.proofs.on_documents.DocumentLemmas.{faithful-own}
-use Rattle.mk_edit_language.specs.Edits.{Edit, SetValue, AppendValue, AddWord, RemoveWord, AddAssign, AddRule, AddPrereq, RemovePrereq, AddRecipe, SetRecipe, InsertRecipe, SetRecipeByText}
+use Rattle.mk_edit_language.specs.Edits.{One, Every, Edit, ChangeValue, ChangePrereqs, AddLine, AddRecipe, SetRecipe, RemoveLines, RenameTarget}
 use Rattle.mk_edit_language.specs.Stretches.{Stretch, between, insertion, touched_by}
 use Rattle.mk_edit_language.specs.Costs.{cost, size}
-use Rattle.mk_edit_language.specs.EditedLines.{edited_bytes, new_line_bytes}
+use Rattle.mk_edit_language.specs.KeptLines.{edited_bytes, new_line_bytes}
 use Rattle.mk_edit_language.specs.Refusals.{causes, first_cause, spans, text_after}
 use Rattle.mk_edit_language.proofs.on_edits.EditLemmas.{edits-read}
 use Rattle.mk_edit_language.proofs.on_edits.LengthLemmas.{size-fits}
@@ -74,18 +74,14 @@ none-between (Some x) s h few = absurd (touched-some (Some x) s h few)
 
 -- one that touches some lines puts no line between them
 pub touched-none_put : (ls : List ClassedLine) (e : Edit) (s : Stretch) → touched_by ls e ≡ Some s → 0 < length s.lines → insertion ls e ≡ None
-touched-none_put ls (AddAssign p n f v) s h few = none-between (insertion ls (AddAssign p n f v)) s h few
-touched-none_put ls (AddRule p ts c ws) s h few = none-between (insertion ls (AddRule p ts c ws)) s h few
-touched-none_put ls (AddRecipe nth g c) s h few = none-between (insertion ls (AddRecipe nth g c)) s h few
-touched-none_put ls (InsertRecipe nth g k c) s h few = none-between (insertion ls (InsertRecipe nth g k c)) s h few
+touched-none_put ls (AddLine p l) s h few = none-between (insertion ls (AddLine p l)) s h few
+touched-none_put ls (AddRecipe nth g p c) s h few = none-between (insertion ls (AddRecipe nth g p c)) s h few
 touched-none_put ls e s h few = refl
 
 -- an edit that leaves no line puts no line in
 pub removed-none_put : (t : List ℕ) (e : Edit) (rs : List Replacement) (s : Stretch) → edited_bytes t e s rs ≡ [] → insertion (classed_lines t) e ≡ None
-removed-none_put t (AddAssign p n f v) rs s h = absurd (cc)
-removed-none_put t (AddRule p ts c ws) rs s h = absurd (cc)
-removed-none_put t (AddRecipe nth g c) rs s h = absurd (cc)
-removed-none_put t (InsertRecipe nth g k c) rs s h = absurd (cc)
+removed-none_put t (AddLine p l) rs s h = absurd (cc)
+removed-none_put t (AddRecipe nth g p c) rs s h = absurd (cc)
 removed-none_put t e rs s h = refl
 
 -- an edit that leaves one line where it touches one line reads that line again, and replaces one line
@@ -94,19 +90,14 @@ pub record ChangesOne (t : List ℕ) (e : Edit) : Type 0 where
   pub size_is : size t e ≡ 1
 
 pub changes-one : (t : List ℕ) (e : Edit) (rs : List Replacement) (s : Stretch) (m : List ℕ) → touched_by (classed_lines t) e ≡ Some s → 0 < length s.lines → edited_bytes t e s rs ≡ m ∷ [] → ChangesOne t e
-changes-one t (SetValue nth n v) rs s m h few k = record { cost_is = refl; size_is = refl }
-changes-one t (AppendValue nth n v) rs s m h few k = record { cost_is = refl; size_is = refl }
-changes-one t (AddWord nth n w) rs s m h few k = record { cost_is = refl; size_is = refl }
-changes-one t (RemoveWord nth n w) rs s m h few k = record { cost_is = refl; size_is = refl }
-changes-one t (AddPrereq order nth g w) rs s m h few k = record { cost_is = refl; size_is = refl }
-changes-one t (RemovePrereq nth g w) rs s m h few k = record { cost_is = refl; size_is = refl }
-changes-one t (SetRecipe nth g n c) rs s m h few k = record { cost_is = refl; size_is = refl }
-changes-one t (SetRecipeByText nth g o c) rs s m h few k = record { cost_is = refl; size_is = refl }
-changes-one t (AddAssign p n f v) rs s m h few k = absurd (touched-some (insertion (classed_lines t) (AddAssign p n f v)) s h few)
-changes-one t (AddRule p ts c ws) rs s m h few k = absurd (touched-some (insertion (classed_lines t) (AddRule p ts c ws)) s h few)
-changes-one t (AddRecipe nth g c) rs s m h few k = absurd (touched-some (insertion (classed_lines t) (AddRecipe nth g c)) s h few)
-changes-one t (InsertRecipe nth g n c) rs s m h few k = absurd (touched-some (insertion (classed_lines t) (InsertRecipe nth g n c)) s h few)
-changes-one t e rs s m h few k = absurd (cc)
+changes-one t (ChangeValue (One nth) n c) rs s m h few k = record { cost_is = refl; size_is = refl }
+changes-one t (ChangeValue Every n c) rs s m h few k = absurd (cc)
+changes-one t (ChangePrereqs nth g c) rs s m h few k = record { cost_is = refl; size_is = refl }
+changes-one t (SetRecipe nth g w c) rs s m h few k = record { cost_is = refl; size_is = refl }
+changes-one t (AddLine p l) rs s m h few k = absurd (touched-some (insertion (classed_lines t) (AddLine p l)) s h few)
+changes-one t (AddRecipe nth g p c) rs s m h few k = absurd (touched-some (insertion (classed_lines t) (AddRecipe nth g p c)) s h few)
+changes-one t (RemoveLines r) rs s m h few k = absurd (cc)
+changes-one t (RenameTarget o n) rs s m h few k = absurd (cc)
 
 -- what is known of an edit that puts a line in
 pub record PutsIn (t : List ℕ) (e : Edit) (rs : List Replacement) (s : Stretch) : Type 0 where
@@ -116,10 +107,8 @@ pub record PutsIn (t : List ℕ) (e : Edit) (rs : List Replacement) (s : Stretch
   pub none : size t e ≡ 0
 
 pub puts-in : (t : List ℕ) (e : Edit) (rs : List Replacement) (s : Stretch) → insertion (classed_lines t) e ≡ Some s → PutsIn t e rs s
-puts-in t (AddAssign p n f v) rs s h = record { place = ap (option_map between) h; bytes = refl; one = refl; none = refl }
-puts-in t (AddRule p ts c ws) rs s h = record { place = ap (option_map between) h; bytes = refl; one = refl; none = refl }
-puts-in t (AddRecipe nth g c) rs s h = record { place = ap (option_map between) h; bytes = refl; one = refl; none = refl }
-puts-in t (InsertRecipe nth g k c) rs s h = record { place = ap (option_map between) h; bytes = refl; one = refl; none = refl }
+puts-in t (AddLine p l) rs s h = record { place = ap (option_map between) h; bytes = refl; one = refl; none = refl }
+puts-in t (AddRecipe nth g p c) rs s h = record { place = ap (option_map between) h; bytes = refl; one = refl; none = refl }
 puts-in t e rs s h = absurd (cc)
 
 -- ---- the answers of planning

@@ -4,25 +4,39 @@ use Rattle.std.specs.Prelude.{Ok, Err, nat_lt, slice_get}
 use Rattle.std.proofs.lemmas.List.{append-nil}
 use Rattle.std.proofs.lemmas.Bool.{lt-ltb, le-ltb}
 use Rattle.mk_lines.specs.Limits.{max_text}
+use Rattle.mk_lines.specs.Pieces.{Replacement}
 use Rattle.mk_lines.specs.declared.split.Span.{Span}
 use Rattle.mk_class.specs.ClassedLines.{classed_lines}
 use Rattle.mk_tree.specs.Documents.{IsFaithful, text_of}
 use Rattle.mk_tree.specs.LocatedLines.{LocatedLine, located_text, size_of}
+use Rattle.mk_tree.specs.LineTexts.{StandingLine}
 use Rattle.mk_tree.proofs.on_changes.Sizes.{size_of-text}
 use Rattle.mk_edit_language.specs.Edits.{Edit}
-use Rattle.mk_edit_language.specs.Stretches.{this_line}
+use Rattle.mk_edit_language.specs.Stretches.{this_line, touched_by}
 use Rattle.mk_edit_language.specs.Causes.{where_holds}
-use Rattle.mk_edit_language.specs.EditedLines.{respanned_bytes}
+use Rattle.mk_edit_language.specs.KeptLines.{edited_bytes, respanned_bytes}
 use Rattle.mk_edit_language.specs.LineCauses.{too_long}
 use Rattle.mk_edit_language.specs.Lengths.{bytes_taken, bytes_put}
 use Rattle.mk_edit_language.specs.EditSpans.{spans_of}
-use Rattle.mk_edit_language.specs.Refusals.{first_cause, spans}
+use Rattle.mk_edit_language.specs.Refusals.{causes, first_cause, spans}
 use Rattle.mk_edit_language.specs.declared.refusal.Refusal.TheVariants.{TooLong}
 use Rattle.mk_edit_language.proofs.on_edits.EditedLineLemmas.{respanned-one}
 use Rattle.mk_edit_parts.proofs.CauseLemmas.{refused, unrefused}
-pub use Rattle.mk_edit.specs.RangeEdits.{IsRangeEdit}
 use Rattle.mk_edit.proofs.on_plans.CausePlans.{long-said}
 use Rattle.mk_edit.proofs.on_plans.LinePlans.{IsReplaced, line-replaced}
+
+-- An edit that puts a text in the place of a range of the bytes of the line at a place. No cause
+-- holds, except perhaps that the result is too long.
+pub record IsRangeEdit (e : Edit) (ls : List LocatedLine) (at : ℕ) (l : LocatedLine) (r : Span) (new : List ℕ) : Type 0 where
+  pub spot : StandingLine
+  pub place_is : length spot.above ≡ at
+  pub touched_is : touched_by (classed_lines (located_text ls)) e ≡ Some (this_line spot)
+  pub left_is : (rs : List Replacement) → edited_bytes (located_text ls) e (this_line spot) rs ≡ respanned_bytes (this_line spot) rs ∷ []
+  pub bytes_are : spot.line.bytes ≡ l.bytes
+  pub rises : r.start ≤ r.end
+  pub within : r.end ≤ length l.bytes
+  pub spans_are : spans_of (located_text ls) (classed_lines (located_text ls)) e ≡ record { start = length (text_of spot.above) + r.start; end = length (text_of spot.above) + r.end; new = new } ∷ []
+  pub causes_are : first_cause (causes (located_text ls) (classed_lines (located_text ls)) e) ≡ first_cause (too_long (located_text ls) (spans_of (located_text ls) (classed_lines (located_text ls)) e) ∷ [])
 
 -- a line is no longer than its document
 pub line-short : (ls : List LocatedLine) (at : ℕ) (l : LocatedLine) → Some l ≡ slice_get ls at → length l.bytes ≤ size_of ls

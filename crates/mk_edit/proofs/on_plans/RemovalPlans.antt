@@ -11,7 +11,7 @@ use Rattle.mk_tree.specs.Documents.{IsFaithful, context_of}
 use Rattle.mk_tree.specs.Leaning.{is_same_flag, leans}
 use Rattle.mk_tree.specs.LocatedLines.{LocatedLine, located_lines, located_text, size_of}
 use Rattle.mk_tree.proofs.on_changes.Sizes.{size_of-text}
-use Rattle.mk_edit_language.specs.Edits.{Edit, RemoveAssign}
+use Rattle.mk_edit_language.specs.Edits.{OfAssign, Edit, RemoveLines}
 use Rattle.mk_edit_language.specs.EditSpans.{spans_of, removed_span, where_found}
 use Rattle.mk_edit_language.specs.Stretches.{Stretch, this_line, insertion, removal, touched_by}
 use Rattle.mk_edit_language.specs.Addresses.{Address, Variable}
@@ -19,7 +19,7 @@ use Rattle.mk_edit_language.specs.Causes.{where_holds}
 use Rattle.mk_edit_language.specs.Costs.{cost, size}
 use Rattle.mk_edit_language.specs.LineCauses.{leaning, removal_leans, too_long}
 use Rattle.mk_edit_language.specs.Lengths.{bytes_put}
-use Rattle.mk_edit_language.specs.EditedLines.{edited_bytes}
+use Rattle.mk_edit_language.specs.KeptLines.{edited_bytes}
 use Rattle.mk_edit_language.specs.Refusals.{first_cause, spans}
 use Rattle.mk_edit_language.specs.declared.refusal.Refusal.TheVariants.{Leans}
 use Rattle.mk_edit_language.proofs.on_edits.EditPlaces.{found-spot}
@@ -132,10 +132,10 @@ pub record IsRemoveAssignAt (e : Edit) (ls : List LocatedLine) (f : Found) : Typ
   pub takes : TakesOut e ls f.at 1
 
 pub remove_assign-at : (e : Edit) (ls : List LocatedLine) (f : Found) → IsRemoveAssign e → IsFaithful ls → IsAddressed e ls f → IsRemoveAssignAt e ls f
-remove_assign-at (RemoveAssign nth n) ls f u g A =
+remove_assign-at (RemoveLines (OfAssign nth n)) ls f u g A =
     let t = located_text ls in
     let cs = classed_lines t in
-    let e = RemoveAssign nth n in
+    let e = RemoveLines (OfAssign nth n) in
     let F : IsFoundAt cs (Variable nth n) f = A.meant in
     let s = F.spot in
     let w : cs ≡ s.above ++ s.line ∷ s.below = found-spot cs (Variable nth n) s F.found_is in

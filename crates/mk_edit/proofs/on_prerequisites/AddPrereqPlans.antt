@@ -20,21 +20,21 @@ use Rattle.mk_tree.specs.LocatedLines.{LocatedLine, located_text, size_of, text_
 use Rattle.mk_tree.proofs.on_changes.Sizes.{size_of-text}
 use Rattle.mk_tree.specs.LineTexts.{StandingLine}
 use Rattle.mk_edit_language.specs.Addresses.{Rule}
-use Rattle.mk_edit_language.specs.Edits.{Edit, AddPrereq}
+use Rattle.mk_edit_language.specs.Edits.{AddPrereq, Edit, ChangePrereqs}
 use Rattle.mk_edit_language.specs.Lengths.{bytes_put, bytes_taken}
 use Rattle.mk_edit_language.specs.Stretches.{this_line}
 use Rattle.mk_edit_language.specs.EditSpans.{spans_of, word_spans, where_found}
 use Rattle.mk_edit_language.specs.Causes.{where_holds}
 use Rattle.mk_edit_language.specs.LineCauses.{too_long}
 use Rattle.mk_edit_language.specs.Refusals.{spans}
-use Rattle.mk_edit_language.specs.RuleCauses.{already, class_found, header_passes, is_normal, is_order_only}
+use Rattle.mk_edit_language.specs.RuleCauses.{already, class_found, has_prereq, header_passes}
 use Rattle.mk_edit_language.specs.WordPieces.{header_pieces, kept, put_last, prerequisite_text, add_pieces}
 use Rattle.mk_edit_language.specs.declared.refusal.Refusal.TheVariants.{Already, TooLong}
 use Rattle.mk_edit_language.proofs.on_prerequisites.HeaderEdits.{header_pieces-whole, kept-old, word_spans-header}
 use Rattle.mk_edit_language.proofs.on_prerequisites.AddPrereqLemmas.{put_last-old}
 use Rattle.mk_edit_parts.specs.Found.{IsAddressed, IsPlaceOf}
 use Rattle.mk_edit_parts.specs.NewPrerequisites.{after_new, before_new, new_word_text, offset_of_new}
-use Rattle.mk_edit.specs.PrerequisiteEdits.{IsAddPrereq, is_in_list}
+use Rattle.mk_edit.specs.PrerequisiteEdits.{IsChangeOfPrereqs}
 use Rattle.mk_edit_parts.specs.SeenHeaders.{IsHeaderSeen, IsHeaderAt, IsRuleLine}
 use Rattle.mk_edit_parts.specs.WordCuts.{raw_between}
 use Rattle.mk_edit_parts.specs.declared.seek.Found.{Found}
@@ -111,24 +111,22 @@ pub record IsAddPrereqOf (order : Bool) (w : List ℕ) (e : Edit) (ls : List Loc
   pub place : IsPlaceOf ls f
   pub rule : (l : LocatedLine) → Some l ≡ slice_get ls f.at → IsRuleLine l
   pub seen : (l : LocatedLine) (at : header.Header) → Some l ≡ slice_get ls f.at → IsHeaderAt l at → IsHeaderSeen l at parts
-  pub listed : true ≡ is_in_list order w parts → spans (located_text ls) e ≡ Err Already
-  pub long : (l : LocatedLine) (at : header.Header) → false ≡ is_in_list order w parts → Some l ≡ slice_get ls f.at → IsHeaderAt l at → max_text < size_of ls + length (line_text_new order w l at) → spans (located_text ls) e ≡ Err TooLong
-  pub accepted : (l : LocatedLine) (at : header.Header) → false ≡ is_in_list order w parts → Some l ≡ slice_get ls f.at → IsHeaderAt l at → size_of ls + length (line_text_new order w l at) ≤ max_text
+  pub listed : true ≡ has_prereq (AddPrereq order w) parts → spans (located_text ls) e ≡ Err Already
+  pub long : (l : LocatedLine) (at : header.Header) → false ≡ has_prereq (AddPrereq order w) parts → Some l ≡ slice_get ls f.at → IsHeaderAt l at → max_text < size_of ls + length (line_text_new order w l at) → spans (located_text ls) e ≡ Err TooLong
+  pub accepted : (l : LocatedLine) (at : header.Header) → false ≡ has_prereq (AddPrereq order w) parts → Some l ≡ slice_get ls f.at → IsHeaderAt l at → size_of ls + length (line_text_new order w l at) ≤ max_text
       → spans (located_text ls) e ≡ Ok (spans_of (located_text ls) (classed_lines (located_text ls)) e)
-  pub replaced : (l : LocatedLine) (at : header.Header) (m : List ℕ) → false ≡ is_in_list order w parts → Some l ≡ slice_get ls f.at → IsHeaderAt l at → size_of ls + length (line_text_new order w l at) ≤ max_text
+  pub replaced : (l : LocatedLine) (at : header.Header) (m : List ℕ) → false ≡ has_prereq (AddPrereq order w) parts → Some l ≡ slice_get ls f.at → IsHeaderAt l at → size_of ls + length (line_text_new order w l at) ≤ max_text
       → m ≡ new_bytes (add_pieces order w parts) ++ line_end_bytes (line_end l.bytes) → IsReplaced e ls f.at m
 
 -- whether the word is in its list decides the cause
-already-asked : (order : Bool) (nth : Option ℕ) (g w : List ℕ) (ls : List LocatedLine) (f : Found) (b : Bool) → (R : IsRuleAt ls nth g f) → b ≡ is_in_list order w R.header
-    → already (classed_lines (located_text ls)) (AddPrereq order nth g w) ≡ where_holds b Already
-already-asked true nth g w ls f b R q =
-    ap (λ (o : Option StandingLine). where_holds (header_passes (is_order_only w) (class_found o)) Already) R.found_is
-    ∙ (ap (λ (k : Class Cell). where_holds (header_passes (is_order_only w) (Some k)) Already) R.class_is ∙ ap (λ b. where_holds b Already) (sym q))
-already-asked false nth g w ls f b R q =
-    ap (λ (o : Option StandingLine). where_holds (header_passes (is_normal w) (class_found o)) Already) R.found_is
-    ∙ (ap (λ (k : Class Cell). where_holds (header_passes (is_normal w) (Some k)) Already) R.class_is ∙ ap (λ b. where_holds b Already) (sym q))
+already-asked : (order : Bool) (nth : Option ℕ) (g w : List ℕ) (ls : List LocatedLine) (f : Found) (b : Bool) → (R : IsRuleAt ls nth g f) → b ≡ has_prereq (AddPrereq order w) R.header
+    → already (classed_lines (located_text ls)) (ChangePrereqs nth g (AddPrereq order w)) ≡ where_holds b Already
+already-asked order nth g w ls f b R q =
+    let test = has_prereq (AddPrereq order w) in
+    ap (λ (o : Option StandingLine). where_holds (header_passes test (class_found o)) Already) R.found_is
+    ∙ (ap (λ (k : Class Cell). where_holds (header_passes test (Some k)) Already) R.class_is ∙ ap (λ b. where_holds b Already) (sym q))
 
-add_prereq : (order : Bool) (nth : Option ℕ) (g w : List ℕ) (ls : List LocatedLine) (f : Found) → IsFaithful ls → IsAddressed (AddPrereq order nth g w) ls f → IsAddPrereqOf order w (AddPrereq order nth g w) ls f
+add_prereq : (order : Bool) (nth : Option ℕ) (g w : List ℕ) (ls : List LocatedLine) (f : Found) → IsFaithful ls → IsAddressed (ChangePrereqs nth g (AddPrereq order w)) ls f → IsAddPrereqOf order w (ChangePrereqs nth g (AddPrereq order w)) ls f
 add_prereq order nth g w ls f h A = record {
   parts = x;
   within = R.line.within;
@@ -151,7 +149,7 @@ add_prereq order nth g w ls f h A = record {
     lines = classed_lines t
 
     e : Edit
-    e = AddPrereq order nth g w
+    e = ChangePrereqs nth g (AddPrereq order w)
 
     rs : List Replacement
     rs = spans_of t lines e
@@ -175,7 +173,7 @@ add_prereq order nth g w ls f h A = record {
     decided : too_long t rs ≡ where_holds (nat_lt (max_text + bytes_taken rs) (length t + bytes_put rs)) TooLong
     decided = long-said t e (bytes_taken rs) (bytes_put rs) refl refl
 
-    taken : (l : LocatedLine) (at : header.Header) → false ≡ is_in_list order w x → Some l ≡ slice_get ls f.at → IsHeaderAt l at → size_of ls + length (line_text_new order w l at) ≤ max_text → spans t e ≡ Ok rs
+    taken : (l : LocatedLine) (at : header.Header) → false ≡ has_prereq (AddPrereq order w) x → Some l ≡ slice_get ls f.at → IsHeaderAt l at → size_of ls + length (line_text_new order w l at) ≤ max_text → spans t e ≡ Ok rs
     taken l at q k p z =
         own-accepted e ls f A
         (passed (already lines e) _ None (already-asked order nth g w ls f false R q)
@@ -191,5 +189,5 @@ add_prereq order nth g w ls f h A = record {
       whole = sym (ap (λ (z : LocatedLine). z.bytes) (rule-line ls nth g f l R k)) ∙ pieces-whole l at x (add_pieces order w x) (header-seen ls nth g f l at R k p) (add-old order w x);
     }
 
-pub add_prereq-of : (order : Bool) (w : List ℕ) (e : Edit) (ls : List LocatedLine) (f : Found) → IsFaithful ls → IsAddPrereq order w e → IsAddressed e ls f → IsAddPrereqOf order w e ls f
+pub add_prereq-of : (order : Bool) (w : List ℕ) (e : Edit) (ls : List LocatedLine) (f : Found) → IsFaithful ls → IsChangeOfPrereqs (AddPrereq order w) e → IsAddressed e ls f → IsAddPrereqOf order w e ls f
 add_prereq-of order w e ls f h K A = subst (λ z. IsAddPrereqOf order w z ls f) (sym K.is) (add_prereq order K.nth K.target w ls f h (subst (λ z. IsAddressed z ls f) K.is A))

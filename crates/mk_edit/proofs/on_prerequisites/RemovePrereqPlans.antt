@@ -1,5 +1,5 @@
 -- A prerequisite less: its causes by what the code asks, and its plan.
-use Rattle.std.proofs.Common.{◌≡◌, refl, sym, ap, ◌∙◌, subst, arith, ℕ, ◌<◌, ◌≤◌, ◌||◌, not, List, [], ◌∷◌, ◌++◌, Bool, true, false, if◌then◌else◌, length, Option, Some, None, option_map}
+use Rattle.std.proofs.Common.{◌≡◌, refl, sym, ap, ◌∙◌, subst, arith, ℕ, ◌<◌, ◌≤◌, not, List, [], ◌∷◌, ◌++◌, Bool, true, false, if◌then◌else◌, length, Option, Some, None, option_map}
 use Rattle.std.specs.Prelude.{Ok, Err, slice_get}
 use Rattle.mk_lines.specs.Limits.{max_text}
 use Rattle.mk_lines.specs.PhysicalLines.{line_end, line_end_bytes}
@@ -17,20 +17,20 @@ use Rattle.mk_tree.specs.LocatedLines.{LocatedLine, located_text, size_of}
 use Rattle.mk_tree.proofs.on_changes.Sizes.{size_of-text}
 use Rattle.mk_tree.specs.LineTexts.{StandingLine}
 use Rattle.mk_edit_language.specs.Addresses.{Rule}
-use Rattle.mk_edit_language.specs.Edits.{Edit, RemovePrereq}
+use Rattle.mk_edit_language.specs.Edits.{RemovePrereq, Edit, ChangePrereqs}
 use Rattle.mk_edit_language.specs.Lengths.{bytes_put}
 use Rattle.mk_edit_language.specs.Stretches.{this_line}
 use Rattle.mk_edit_language.specs.EditSpans.{spans_of, word_spans, where_found}
 use Rattle.mk_edit_language.specs.Causes.{where_holds}
 use Rattle.mk_edit_language.specs.LineCauses.{too_long}
 use Rattle.mk_edit_language.specs.Refusals.{spans}
-use Rattle.mk_edit_language.specs.RuleCauses.{absent, class_found, header_passes, is_normal, is_order_only}
+use Rattle.mk_edit_language.specs.RuleCauses.{absent, class_found, has_prereq, header_passes}
 use Rattle.mk_edit_language.specs.WordPieces.{kept, is_word_of, removed_tokens, removed_words, remove_pieces}
 use Rattle.mk_edit_language.specs.declared.refusal.Refusal.TheVariants.{Absent}
 use Rattle.mk_edit_language.proofs.on_prerequisites.HeaderEdits.{header_pieces-whole, kept-old, word_spans-header}
 use Rattle.mk_edit_language.proofs.on_prerequisites.RemovePrereqLemmas.{removed-old}
 use Rattle.mk_edit_parts.specs.Found.{IsAddressed, IsPlaceOf}
-use Rattle.mk_edit.specs.PrerequisiteEdits.{IsRemovePrereq}
+use Rattle.mk_edit.specs.PrerequisiteEdits.{IsChangeOfPrereqs}
 use Rattle.mk_edit_parts.specs.SeenHeaders.{IsHeaderSeen, IsHeaderAt, IsRuleLine}
 use Rattle.mk_edit_parts.specs.declared.seek.Found.{Found}
 use Rattle.mk_edit_parts.proofs.CauseLemmas.{passed, holds}
@@ -66,12 +66,12 @@ pub record IsRemovePrereqOf (w : List ℕ) (e : Edit) (ls : List LocatedLine) (f
   pub place : IsPlaceOf ls f
   pub rule : (l : LocatedLine) → Some l ≡ slice_get ls f.at → IsRuleLine l
   pub seen : (l : LocatedLine) (at : header.Header) → Some l ≡ slice_get ls f.at → IsHeaderAt l at → IsHeaderSeen l at parts
-  pub missing : false ≡ (is_normal w parts || is_order_only w parts) → spans (located_text ls) e ≡ Err Absent
-  pub accepted : size_of ls ≤ max_text → true ≡ (is_normal w parts || is_order_only w parts) → spans (located_text ls) e ≡ Ok (spans_of (located_text ls) (classed_lines (located_text ls)) e)
-  pub replaced : (l : LocatedLine) (at : header.Header) (m : List ℕ) → size_of ls ≤ max_text → true ≡ (is_normal w parts || is_order_only w parts) → Some l ≡ slice_get ls f.at → IsHeaderAt l at
+  pub missing : false ≡ has_prereq (RemovePrereq w) parts → spans (located_text ls) e ≡ Err Absent
+  pub accepted : size_of ls ≤ max_text → true ≡ has_prereq (RemovePrereq w) parts → spans (located_text ls) e ≡ Ok (spans_of (located_text ls) (classed_lines (located_text ls)) e)
+  pub replaced : (l : LocatedLine) (at : header.Header) (m : List ℕ) → size_of ls ≤ max_text → true ≡ has_prereq (RemovePrereq w) parts → Some l ≡ slice_get ls f.at → IsHeaderAt l at
       → m ≡ new_bytes (remove_pieces w parts) ++ line_end_bytes (line_end l.bytes) → IsReplaced e ls f.at m
 
-remove_prereq : (nth : Option ℕ) (g w : List ℕ) (ls : List LocatedLine) (f : Found) → IsFaithful ls → IsAddressed (RemovePrereq nth g w) ls f → IsRemovePrereqOf w (RemovePrereq nth g w) ls f
+remove_prereq : (nth : Option ℕ) (g w : List ℕ) (ls : List LocatedLine) (f : Found) → IsFaithful ls → IsAddressed (ChangePrereqs nth g (RemovePrereq w)) ls f → IsRemovePrereqOf w (ChangePrereqs nth g (RemovePrereq w)) ls f
 remove_prereq nth g w ls f h A = record {
   parts = x;
   within = R.line.within;
@@ -90,7 +90,7 @@ remove_prereq nth g w ls f h A = record {
     lines = classed_lines t
 
     e : Edit
-    e = RemovePrereq nth g w
+    e = ChangePrereqs nth g (RemovePrereq w)
 
     R : IsRuleAt ls nth g f
     R = rule-at ls nth g f h A.is_there A.is_one A.meant
@@ -102,9 +102,9 @@ remove_prereq nth g w ls f h A = record {
     x = R.header
 
     test : Headers.Header Cell → Bool
-    test y = is_normal w y || is_order_only w y
+    test = has_prereq (RemovePrereq w)
 
-    asked : (b : Bool) → b ≡ (is_normal w x || is_order_only w x) → absent lines e ≡ where_holds (not b) Absent
+    asked : (b : Bool) → b ≡ has_prereq (RemovePrereq w) x → absent lines e ≡ where_holds (not b) Absent
     asked b q =
         ap (λ (o : Option StandingLine). where_holds (not (header_passes test (class_found o))) Absent) R.found_is
         ∙ (ap (λ (k : Class Cell). where_holds (not (header_passes test (Some k))) Absent) R.class_is ∙ ap (λ b. where_holds (not b) Absent) (sym q))
@@ -115,7 +115,7 @@ remove_prereq nth g w ls f h A = record {
     short : size_of ls ≤ max_text → too_long t (spans_of t lines e) ≡ None
     short z = never-long t e (ap bytes_put spans_are ∙ nothing-put (length (text_of s.above)) (remove_pieces w x) (remove-nothing w x)) (omega (arith, size_of-text ls, z))
 
-    taken : size_of ls ≤ max_text → true ≡ (is_normal w x || is_order_only w x) → spans t e ≡ Ok (spans_of t lines e)
+    taken : size_of ls ≤ max_text → true ≡ has_prereq (RemovePrereq w) x → spans t e ≡ Ok (spans_of t lines e)
     taken z q = own-accepted e ls f A (passed (absent lines e) _ None (asked true q) (passed (too_long t (spans_of t lines e)) [] None (short z) refl))
 
     old : old_cells (remove_pieces w x) ≡ concat (header_units x)
@@ -131,5 +131,5 @@ remove_prereq nth g w ls f h A = record {
       whole = sym (ap (λ (z : LocatedLine). z.bytes) (rule-line ls nth g f l R k)) ∙ pieces-whole l at x (remove_pieces w x) (header-seen ls nth g f l at R k p) old;
     }
 
-pub remove_prereq-of : (w : List ℕ) (e : Edit) (ls : List LocatedLine) (f : Found) → IsFaithful ls → IsRemovePrereq w e → IsAddressed e ls f → IsRemovePrereqOf w e ls f
+pub remove_prereq-of : (w : List ℕ) (e : Edit) (ls : List LocatedLine) (f : Found) → IsFaithful ls → IsChangeOfPrereqs (RemovePrereq w) e → IsAddressed e ls f → IsRemovePrereqOf w e ls f
 remove_prereq-of w e ls f h K A = subst (λ z. IsRemovePrereqOf w z ls f) (sym K.is) (remove_prereq K.nth K.target w ls f h (subst (λ z. IsAddressed z ls f) K.is A))

@@ -18,7 +18,7 @@ use Rattle.mk_edit_language.specs.Edits.{Edit}
 use Rattle.mk_edit_language.specs.Lengths.{bytes_taken, bytes_put}
 use Rattle.mk_edit_language.specs.Stretches.{this_line, touched_by}
 use Rattle.mk_edit_language.specs.EditSpans.{spans_of}
-use Rattle.mk_edit_language.specs.EditedLines.{respanned_bytes, edited_bytes}
+use Rattle.mk_edit_language.specs.KeptLines.{respanned_bytes, edited_bytes}
 use Rattle.mk_edit_language.specs.Refusals.{spans}
 use Rattle.mk_edit_language.proofs.on_edits.EditedLineLemmas.{respanned-pieces}
 use Rattle.mk_edit_parts.specs.SeenHeaders.{IsHeaderSeen}

@@ -18,7 +18,7 @@ use Rattle.mk_tree.specs.LocatedLines.{LocatedLine, located_line, located_text, 
 use Rattle.mk_tree.specs.RecipeLines.{recipe_run}
 use Rattle.mk_tree.proofs.on_changes.Sizes.{size_of-text}
 use Rattle.mk_tree.specs.LineTexts.{StandingLine}
-use Rattle.mk_edit_language.specs.Edits.{Edit, RemoveRule}
+use Rattle.mk_edit_language.specs.Edits.{OfRule, Edit, RemoveLines}
 use Rattle.mk_edit_language.specs.Addresses.{Rule, targets_of, found}
 use Rattle.mk_edit_language.specs.Stretches.{whole_rule}
 use Rattle.mk_edit_language.specs.EditSpans.{removed_span, spans_of, where_found}
@@ -51,7 +51,7 @@ header-targets c l x h k =
 -- ---- causes
 
 shared-is : (ls : List LocatedLine) (nth : Option ℕ) (g : List ℕ) (f : Found) (l : LocatedLine) (n : ℕ) → IsRuleAt ls nth g f → Some l ≡ slice_get ls f.at → n ≡ length (header_targets_located l)
-    → shared_rule (classed_lines (located_text ls)) (RemoveRule nth g) ≡ where_holds (nat_lt 1 n) (SharedRule n)
+    → shared_rule (classed_lines (located_text ls)) (RemoveLines (OfRule nth g)) ≡ where_holds (nat_lt 1 n) (SharedRule n)
 shared-is ls nth g f l n R h k =
     let s = R.spot in
     let q : Some l ≡ Some (located_line s.line) = h ∙ R.line.line_is in
@@ -67,9 +67,9 @@ straddles-is ls nth g f b R h =
 
 -- the rest of the text is no longer than the text
 within-limit : (ls : List LocatedLine) (nth : Option ℕ) (g : List ℕ) (f : Found) → IsRuleAt ls nth g f → size_of ls ≤ max_text
-    → too_long (located_text ls) (spans_of (located_text ls) (classed_lines (located_text ls)) (RemoveRule nth g)) ≡ None
+    → too_long (located_text ls) (spans_of (located_text ls) (classed_lines (located_text ls)) (RemoveLines (OfRule nth g))) ≡ None
 within-limit ls nth g f R z =
-    never-long (located_text ls) (RemoveRule nth g) (ap (λ (o : Option StandingLine). bytes_put (where_found removed_span (option_map whole_rule o))) R.found_is) (omega (arith, size_of-text ls, z))
+    never-long (located_text ls) (RemoveLines (OfRule nth g)) (ap (λ (o : Option StandingLine). bytes_put (where_found removed_span (option_map whole_rule o))) R.found_is) (omega (arith, size_of-text ls, z))
 
 -- ---- the whole
 
@@ -87,7 +87,7 @@ pub record IsRemoveRuleOf (e : Edit) (ls : List LocatedLine) (f : Found) : Type 
       → false ≡ list_any (λ l. is_conditional l.class) (recipe_run (lines_from ls (f.at + 1))) → end ≡ f.at + 1 + length (recipe_run (lines_from ls (f.at + 1)))
       → IsTakenOut e ls f.at (end - f.at)
 
-remove_rule : (nth : Option ℕ) (g : List ℕ) (ls : List LocatedLine) (f : Found) → IsFaithful ls → IsAddressed (RemoveRule nth g) ls f → IsRemoveRuleOf (RemoveRule nth g) ls f
+remove_rule : (nth : Option ℕ) (g : List ℕ) (ls : List LocatedLine) (f : Found) → IsFaithful ls → IsAddressed (RemoveLines (OfRule nth g)) ls f → IsRemoveRuleOf (RemoveLines (OfRule nth g)) ls f
 remove_rule nth g ls f h A = record {
   within = R.line.within;
   end_within = rule-within ls nth g f h R;
@@ -110,7 +110,7 @@ remove_rule nth g ls f h A = record {
     lines = classed_lines t
 
     e : Edit
-    e = RemoveRule nth g
+    e = RemoveLines (OfRule nth g)
 
     R : IsRuleAt ls nth g f
     R = rule-at ls nth g f h A.is_there A.is_one A.meant
@@ -122,5 +122,5 @@ remove_rule nth g ls f h A = record {
     one l n i k m = shared-is ls nth g f l n R i k ∙ ap (λ b. where_holds b (SharedRule n)) (le-ltb 1 n m)
 
 pub remove_rule-of : (e : Edit) (ls : List LocatedLine) (f : Found) → IsFaithful ls → IsRemoveRule e → IsAddressed e ls f → IsRemoveRuleOf e ls f
-remove_rule-of (RemoveRule nth g) ls f h k A = remove_rule nth g ls f h A
+remove_rule-of (RemoveLines (OfRule nth g)) ls f h k A = remove_rule nth g ls f h A
 remove_rule-of e ls f h k A = absurd k

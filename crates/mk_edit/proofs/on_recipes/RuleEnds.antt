@@ -16,7 +16,7 @@ use Rattle.mk_tree.specs.LocatedLines.{LocatedLine, located_text}
 use Rattle.mk_tree.specs.RecipeLines.{ends_rule, recipe_run, after_recipe}
 use Rattle.mk_tree.proofs.on_changes.RecipeRunLemmas.{recipe_run-after, recipe_run-stays, rule-context}
 use Rattle.mk_tree.proofs.on_documents.LinesInText.{AreClassed, AreClassed-class, AreClassed-tail, line-in_text, run-in_text}
-use Rattle.mk_edit_language.specs.Edits.{RemoveRule}
+use Rattle.mk_edit_language.specs.Edits.{OfRule, RemoveLines}
 use Rattle.mk_edit_language.specs.Causes.{where_holds}
 use Rattle.mk_edit_language.specs.LineCauses.{leaning, removal_leans}
 use Rattle.mk_edit_language.specs.RuleTaken.{recipe_goes_on}
@@ -67,7 +67,7 @@ not_led [] c h f d g = refl
 not_led (l ∷ ls) c h f d g = not_led-line c l ls (not_led ls) h f d g (is_prefix_led c.prefix l.bytes) refl
 
 -- so the removal of a rule is refused for no lines that lean
-pub removal-never_leans : (ls : List LocatedLine) (nth : Option ℕ) (g : List ℕ) (f : Found) → IsRuleAt ls nth g f → leaning (classed_lines (located_text ls)) (RemoveRule nth g) ≡ None
+pub removal-never_leans : (ls : List LocatedLine) (nth : Option ℕ) (g : List ℕ) (f : Found) → IsRuleAt ls nth g f → leaning (classed_lines (located_text ls)) (RemoveLines (OfRule nth g)) ≡ None
 removal-never_leans ls nth g f R =
     let s = R.spot in
     let t = located_text ls in

@@ -1,5 +1,5 @@
 -- Another command for a recipe line: the edit is one of a range of the line.
-use Rattle.std.proofs.Common.{◌≡◌, refl, sym, ap, ◌∙◌, subst, arith, ℕ, ◌+◌, ◌<◌, ◌≤◌, not, List, [], ◌∷◌, ◌++◌, length, length-append, Option, Some, None, is_some, option_map}
+use Rattle.std.proofs.Common.{◌≡◌, refl, sym, ap, ◌∙◌, subst, arith, ℕ, ◌+◌, ◌<◌, ◌≤◌, List, [], ◌∷◌, ◌++◌, length, length-append, Option, Some, None, option_map}
 use Rattle.std.specs.Prelude.{Ok, Err, slice_get}
 use Rattle.std.proofs.lemmas.List.{map-append, length-map}
 use Rattle.mk_lines.specs.PhysicalLines.{without_line_end, line_end, line_end_bytes}
@@ -12,18 +12,15 @@ use Rattle.mk_tree.specs.LocatedLines.{LocatedLine, located_line, located_lines,
 use Rattle.mk_tree.specs.LineTexts.{StandingLine}
 use Rattle.mk_tree.proofs.Indices.{get_middle}
 use Rattle.mk_edit_language.specs.Addresses.{Rule}
-use Rattle.mk_edit_language.specs.Edits.{Edit, SetRecipe, SetRecipeByText}
-use Rattle.mk_edit_language.specs.Spots.{nth_of}
-use Rattle.mk_edit_language.specs.Stretches.{this_line, recipe_found, text_number, touched_by}
-use Rattle.mk_edit_language.specs.EditedLines.{respanned_bytes, edited_bytes}
+use Rattle.mk_edit_language.specs.Edits.{RecipeLine, Edit, SetRecipe}
+use Rattle.mk_edit_language.specs.Stretches.{this_line, recipe_found, touched_by}
+use Rattle.mk_edit_language.specs.KeptLines.{respanned_bytes, edited_bytes}
 use Rattle.mk_edit_language.specs.LineCauses.{too_long}
 use Rattle.mk_edit_language.specs.EditSpans.{recipe_span, spans_of, where_found}
-use Rattle.mk_edit_language.specs.Causes.{where_holds}
 use Rattle.mk_edit_language.specs.RuleCauses.{absent}
 use Rattle.mk_edit_language.specs.RisingSpans.{Rise}
 use Rattle.mk_edit_language.specs.Refusals.{first_cause, causes, spans}
 use Rattle.mk_edit_language.specs.declared.refusal.Refusal.{Refusal}
-use Rattle.mk_edit_language.specs.declared.refusal.Refusal.TheVariants.{Absent}
 use Rattle.mk_edit_language.proofs.on_edits.SpansRise.{spans-rise}
 use Rattle.mk_edit_parts.specs.Found.{IsAddressed, IsPlaceOf}
 use Rattle.mk_edit.specs.RecipeEdits.{IsSetRecipe, command_range}
@@ -35,20 +32,20 @@ use Rattle.mk_edit.proofs.on_plans.RangePlans.{IsRangeEdit}
 use Rattle.mk_edit.proofs.on_plans.RemovalPlans.{place-found}
 use Rattle.mk_edit.proofs.on_recipes.OwnCauses.{own-refused}
 use Rattle.mk_edit.proofs.on_recipes.RulePlaces.{IsRuleAt, rule-at}
-use Rattle.mk_edit.proofs.on_recipes.MeantRecipes.{meant_index, number-meant, number-missing, text-missing, text-meant}
-use Rattle.mk_edit.proofs.on_recipes.RecipePlaces.{index_in_rule, found-none, IsRecipeAt, found-some}
+use Rattle.mk_edit.proofs.on_recipes.MeantRecipes.{meant_index, recipe-meant, recipe-missing}
+use Rattle.mk_edit.proofs.on_recipes.RecipePlaces.{index_in_rule, IsRecipeAt, found-some, spot_in}
 
 -- a recipe line stands below its header
-place-below : (ls : List LocatedLine) (from n at : ℕ) → Some at ≡ index_in_rule ls from n → from ≤ at
-place-below ls from n at h = go (nth_of n (recipe_spots_in (lines_from ls from))) h
+place-below : (ls : List LocatedLine) (from : ℕ) (w : RecipeLine) (at : ℕ) → Some at ≡ index_in_rule ls from w → from ≤ at
+place-below ls from w at h = go (spot_in w (recipe_spots_in (lines_from ls from))) h
   where
     go : (o : Option StandingLine) → Some at ≡ option_map (λ (s : StandingLine). from + length s.above) o → from ≤ at
     go None e = absurd (cc)
     go (Some s) e = let m : at ≡ from + length s.above = cc in omega (arith, m)
 
 -- the line of the document there
-shown-at : (ls : List LocatedLine) (nth : Option ℕ) (g : List ℕ) (n at : ℕ) (l : LocatedLine) → IsFaithful ls → (R : IsRecipeAt ls nth g n at) → Some l ≡ slice_get ls at → l ≡ located_line R.spot.line
-shown-at ls nth g n at l h R k =
+shown-at : (ls : List LocatedLine) (nth : Option ℕ) (g : List ℕ) (w : RecipeLine) (at : ℕ) (l : LocatedLine) → IsFaithful ls → (R : IsRecipeAt ls nth g w at) → Some l ≡ slice_get ls at → l ≡ located_line R.spot.line
+shown-at ls nth g w at l h R k =
     let s = R.spot in
     let A = located_lines s.above in
     let B = located_lines s.below in
@@ -58,18 +55,18 @@ shown-at ls nth g n at l h R k =
     cc
 
 -- the range of the command is the span of an edit that gives this line another command
-command-range : (e : Edit) (nth : Option ℕ) (g : List ℕ) (n : ℕ) (c : List ℕ) (ls : List LocatedLine) (at : ℕ) (l : LocatedLine) → (R : IsRecipeAt ls nth g n at) → IsFaithful ls → Some l ≡ slice_get ls at
-    → touched_by (classed_lines (located_text ls)) e ≡ option_map this_line (recipe_found (classed_lines (located_text ls)) nth g n)
+command-range : (e : Edit) (nth : Option ℕ) (g : List ℕ) (w : RecipeLine) (c : List ℕ) (ls : List LocatedLine) (at : ℕ) (l : LocatedLine) → (R : IsRecipeAt ls nth g w at) → IsFaithful ls → Some l ≡ slice_get ls at
+    → touched_by (classed_lines (located_text ls)) e ≡ option_map this_line (recipe_found (classed_lines (located_text ls)) nth g w)
     → ((rs : List Replacement) → edited_bytes (located_text ls) e (this_line R.spot) rs ≡ respanned_bytes (this_line R.spot) rs ∷ [])
-    → spans_of (located_text ls) (classed_lines (located_text ls)) e ≡ where_found (recipe_span c) (recipe_found (classed_lines (located_text ls)) nth g n)
+    → spans_of (located_text ls) (classed_lines (located_text ls)) e ≡ where_found (recipe_span c) (recipe_found (classed_lines (located_text ls)) nth g w)
     → first_cause (causes (located_text ls) (classed_lines (located_text ls)) e) ≡ first_cause (too_long (located_text ls) (spans_of (located_text ls) (classed_lines (located_text ls)) e) ∷ [])
     → IsRangeEdit e ls at l (command_range l.bytes) c
-command-range e nth g n c ls at l R h k touched left spanned caused =
+command-range e nth g w c ls at l R h k touched left spanned caused =
     let t = located_text ls in
     let cs = classed_lines t in
     let s = R.spot in
     let base = length (text_of s.above) in
-    let bytes : l.bytes ≡ s.line.bytes = ap (λ (z : LocatedLine). z.bytes) (shown-at ls nth g n at l h R k) in
+    let bytes : l.bytes ≡ s.line.bytes = ap (λ (z : LocatedLine). z.bytes) (shown-at ls nth g w at l h R k) in
     let one : spans_of t cs e ≡ record { start = base + 1; end = base + length (without_line_end l.bytes); new = c } ∷ [] =
     spanned ∙ (ap (where_found (recipe_span c)) R.found_is ∙ ap (λ m. record { start = base + 1; end = base + length (without_line_end m); new = c } ∷ []) (sym bytes)) in
     let rises = subst (Rise 0 (length t)) one (spans-rise t e) in
@@ -94,56 +91,28 @@ pub record IsSetRecipeOf (c : List ℕ) (e : Edit) (ls : List LocatedLine) (f : 
   pub in_range : (at : ℕ) → Ok at ≡ meant_index e ls f → at < length ls
   pub range : (at : ℕ) (l : LocatedLine) (r : Span) → Ok at ≡ meant_index e ls f → Some l ≡ slice_get ls at → r ≡ command_range l.bytes → IsRangeEdit e ls at l r c
 
-set_recipe : (nth : Option ℕ) (g : List ℕ) (n : ℕ) (c : List ℕ) (ls : List LocatedLine) (f : Found) → IsFaithful ls → IsAddressed (SetRecipe nth g n c) ls f → IsSetRecipeOf c (SetRecipe nth g n c) ls f
-set_recipe nth g n c ls f h A = record {
+set_recipe : (nth : Option ℕ) (g : List ℕ) (w : RecipeLine) (c : List ℕ) (ls : List LocatedLine) (f : Found) → IsFaithful ls → IsAddressed (SetRecipe nth g w c) ls f → IsSetRecipeOf c (SetRecipe nth g w c) ls f
+set_recipe nth g w c ls f h A = record {
   within = R.line.within;
   place = place-found ls (Rule nth g) f A.meant;
-  missing = λ r m.
-      let q = number-missing r (index_in_rule ls (f.at + 1) n) m in
-      own-refused e ls f r A (holds (absent cs e) _ r (ap (λ (o : Option StandingLine). where_holds (not (is_some o)) Absent) (found-none ls nth g f n R q.0) ∙ ap (λ (z : Refusal). Some z) q.1));
-  below = λ at m. omega (arith, place-below ls (f.at + 1) n at (number-meant at (index_in_rule ls (f.at + 1) n) m));
-  in_range = λ at m. (found-some ls nth g f n at h R (number-meant at (index_in_rule ls (f.at + 1) n) m)).within;
+  missing = λ r m. own-refused e ls f r A (holds (absent cs e) _ r (recipe-missing ls nth g w f r R m));
+  below = λ at m. omega (arith, place-below ls (f.at + 1) w at (recipe-meant ls nth g w f at h R m).index);
+  in_range = λ at m. (found-some ls nth g f w at h R (recipe-meant ls nth g w f at h R m).index).within;
   range = λ at l r m k i.
-      let Q = found-some ls nth g f n at h R (number-meant at (index_in_rule ls (f.at + 1) n) m) in
+      let T = recipe-meant ls nth g w f at h R m in
       subst (λ (z : Span). IsRangeEdit e ls at l z c) (sym i)
-      (command-range e nth g n c ls at l Q h k refl (λ rs. refl) refl (addressed-own e ls f _ A (passed (absent cs e) _ _ (ap (λ (o : Option StandingLine). where_holds (not (is_some o)) Absent) Q.found_is) refl)));
+      (command-range e nth g w c ls at l (found-some ls nth g f w at h R T.index) h k refl (λ rs. refl) refl (addressed-own e ls f _ A (passed (absent cs e) _ _ T.one refl)));
 }
   where
     e : Edit
-    e = SetRecipe nth g n c
+    e = SetRecipe nth g w c
 
     cs : List ClassedLine
     cs = classed_lines (located_text ls)
-
-    R : IsRuleAt ls nth g f
-    R = rule-at ls nth g f h A.is_there A.is_one A.meant
-
-set_by_text : (nth : Option ℕ) (g o c : List ℕ) (ls : List LocatedLine) (f : Found) → IsFaithful ls → IsAddressed (SetRecipeByText nth g o c) ls f → IsSetRecipeOf c (SetRecipeByText nth g o c) ls f
-set_by_text nth g o c ls f h A = record {
-  within = R.line.within;
-  place = place-found ls (Rule nth g) f A.meant;
-  missing = λ r m. own-refused e ls f r A (holds (absent cs e) _ r (text-missing ls nth g o f r R m));
-  below = λ at m. omega (arith, place-below ls (f.at + 1) n at (text-meant ls nth g o f at R m).number);
-  in_range = λ at m. (found-some ls nth g f n at h R (text-meant ls nth g o f at R m).number).within;
-  range = λ at l r m k i.
-      let T = text-meant ls nth g o f at R m in
-      subst (λ (z : Span). IsRangeEdit e ls at l z c) (sym i)
-      (command-range e nth g n c ls at l (found-some ls nth g f n at h R T.number) h k refl (λ rs. refl) refl (addressed-own e ls f _ A (passed (absent cs e) _ _ T.one refl)));
-}
-  where
-    e : Edit
-    e = SetRecipeByText nth g o c
-
-    cs : List ClassedLine
-    cs = classed_lines (located_text ls)
-
-    n : ℕ
-    n = text_number cs nth g o
 
     R : IsRuleAt ls nth g f
     R = rule-at ls nth g f h A.is_there A.is_one A.meant
 
 pub set_recipe-of : (c : List ℕ) (e : Edit) (ls : List LocatedLine) (f : Found) → IsFaithful ls → IsSetRecipe c e → IsAddressed e ls f → IsSetRecipeOf c e ls f
-set_recipe-of c (SetRecipe nth g k d) ls f h i A = subst (λ z. IsSetRecipeOf z (SetRecipe nth g k d) ls f) i (set_recipe nth g k d ls f h A)
-set_recipe-of c (SetRecipeByText nth g o d) ls f h i A = subst (λ z. IsSetRecipeOf z (SetRecipeByText nth g o d) ls f) i (set_by_text nth g o d ls f h A)
+set_recipe-of c (SetRecipe nth g w d) ls f h i A = subst (λ z. IsSetRecipeOf z (SetRecipe nth g w d) ls f) i (set_recipe nth g w d ls f h A)
 set_recipe-of c e ls f h i A = absurd i

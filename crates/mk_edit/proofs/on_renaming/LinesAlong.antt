@@ -14,7 +14,7 @@ use Rattle.mk_tree.specs.LocatedLines.{LocatedLine, located_line, located_lines,
 use Rattle.mk_tree.proofs.AdmissionLemmas.{defines_after-few}
 use Rattle.mk_tree.proofs.on_documents.LinesInText.{AreClassed, AreClassed-class, AreClassed-tail}
 use Rattle.mk_edit_language.specs.Costs.{is_renamed}
-use Rattle.mk_edit_language.specs.RenamedLines.{AreLinesRenamedInPlace, IsLineRenamed}
+use Rattle.mk_edit_language.specs.LinesInPlace.{AreLinesRenamedInPlace, IsLineRenamed}
 use Rattle.mk_patch.specs.Moves.{IsPlain}
 use Rattle.mk_patch.proofs.on_moves.TextLineLemmas.{plain-located}
 use Rattle.mk_edit_parts.specs.RenamedRanges.{renamed_ranges}

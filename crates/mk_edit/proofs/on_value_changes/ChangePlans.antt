@@ -1,6 +1,6 @@
 -- The patch of a change of values that no cause refuses: its moves lead from the lines of a document to those after the change,
 -- and hold few lines.
-use Rattle.std.proofs.Common.{◌≡◌, refl, sym, ap, ◌∙◌, subst, arith, ℕ, ◌+◌, ◌≤◌, Bool, false, List, [], ◌∷◌, ◌++◌, length, filter, None}
+use Rattle.std.proofs.Common.{◌≡◌, refl, sym, ap, ◌∙◌, subst, arith, ℕ, ◌+◌, ◌≤◌, Bool, false, List, [], ◌∷◌, ◌++◌, length, filter, Some, None}
 use Rattle.std.specs.Prelude.{Ok, ◌&&◌, if◌then◌else◌}
 use Rattle.std.specs.List.{list_any}
 use Rattle.std.proofs.lemmas.Bool.{and_parts}
@@ -12,7 +12,7 @@ use Rattle.mk_tree.specs.Documents.{IsFaithful}
 use Rattle.mk_tree.specs.LocatedLines.{LocatedLine, located_line, located_lines, located_text, size_of}
 use Rattle.mk_tree.proofs.on_documents.LinesInText.{AreClassed, AreClassed-class, AreClassed-tail, AreClassed-lines}
 use Rattle.mk_edit_language.specs.Costs.{cost}
-use Rattle.mk_edit_language.specs.Edits.{ValueChange, ChangeValues}
+use Rattle.mk_edit_language.specs.Edits.{Every, ValueChange, ChangeValue}
 use Rattle.mk_edit_language.specs.EditSpans.{spans_of}
 use Rattle.mk_edit_language.specs.LineCauses.{is_open_to}
 use Rattle.mk_edit_language.specs.Refusals.{causes, first_cause, spans, text_after}
@@ -52,13 +52,13 @@ changed-number n c f x (k ∷ ks) h =
 -- stands; they are as many as the change costs; and their moves are what is planned.
 pub record IsChangePlanned (n : List ℕ) (c : ValueChange) (ls : List LocatedLine) : Type 0 where
   pub can : AreChangeable c (meant_places n c ls)
-  pub costs : length (meant_places n c ls) ≡ cost (located_text ls) (ChangeValues n c)
-  pub planned : IsPlanned (ChangeValues n c) ls (changing_moves c (meant_places n c ls))
+  pub costs : length (meant_places n c ls) ≡ cost (located_text ls) (ChangeValue Every n c)
+  pub planned : IsPlanned (ChangeValue Every n c) ls (changing_moves c (meant_places n c ls))
 
 pub change_values-planned : (n : List ℕ) (c : ValueChange) (ls : List LocatedLine) → IsFaithful ls → size_of ls ≤ max_text → length ls ≤ size_of ls
-    → first_cause (causes (located_text ls) (classed_lines (located_text ls)) (ChangeValues n c)) ≡ None → IsChangePlanned n c ls
+    → first_cause (causes (located_text ls) (classed_lines (located_text ls)) (ChangeValue Every n c)) ≡ None → IsChangePlanned n c ls
 change_values-planned n c ls f few_bytes few h =
-    let e = ChangeValues n c in
+    let e = ChangeValue Every n c in
     let t = located_text ls in
     let before = classed_lines t in
     let after = classed_lines (text_after t e) in
@@ -66,7 +66,7 @@ change_values-planned n c ls f few_bytes few h =
     let spans_are : spans t e ≡ Ok rs = unrefused t e h in
     let W = accepted t e rs spans_are in
     let p = not_prefix n W.not_reserved in
-    let closed : list_any (λ l. is_changed n c l && is_open_to c l.class) before ≡ false = where_holds-none _ OpenValue W.value_closed in
+    let closed : list_any (λ l. is_changed n c l && is_open_to c (Some l.class)) before ≡ false = where_holds-none _ OpenValue W.value_closed in
     let K = change_values-keeps n c t rs spans_are in
     let A = AreClassed-lines t before refl in
     let own = located_lines before in

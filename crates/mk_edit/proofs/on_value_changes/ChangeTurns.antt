@@ -1,6 +1,6 @@
 -- The moves of a change of values, by its notes, are exchanges of the lines that are changed; and each of these lines can be
 -- exchanged where it stands.
-use Rattle.std.proofs.Common.{◌≡◌, refl, sym, ap, ◌∙◌, subst, arith, ℕ, ◌+◌, ◌≤◌, Bool, true, false, not, List, [], ◌∷◌, length, map, filter, cond}
+use Rattle.std.proofs.Common.{◌≡◌, refl, sym, ap, ◌∙◌, subst, arith, ℕ, ◌+◌, ◌≤◌, Bool, true, false, not, List, [], ◌∷◌, length, map, filter, cond, Some}
 use Rattle.std.specs.Prelude.{if◌then◌else◌, ◌&&◌}
 use Rattle.std.specs.List.{list_any}
 use Rattle.std.proofs.lemmas.Bool.{and_parts, not-true}
@@ -18,12 +18,10 @@ use Rattle.mk_tree.specs.LineTexts.{line_in}
 use Rattle.mk_tree.specs.LocatedLines.{LocatedLine, located_line, located_lines}
 use Rattle.mk_tree.proofs.AdmissionLemmas.{defines_after-few}
 use Rattle.mk_tree.proofs.on_documents.LinesInText.{AreClassed, AreClassed-class, AreClassed-tail}
-use Rattle.mk_edit_language.specs.ChangedLines.{IsLineChanged}
+use Rattle.mk_edit_language.specs.LinesInPlace.{IsLineChanged, AreInPlace}
 use Rattle.mk_edit_language.specs.Edits.{ValueChange}
 use Rattle.mk_edit_language.specs.LineCauses.{is_open_to}
-use Rattle.mk_edit_language.specs.LinesInPlace.{AreInPlace}
-use Rattle.mk_edit_language.specs.ValueChanges.{change_spans, is_changed}
-use Rattle.mk_edit_language.specs.ValueSpans.{assignment_spans}
+use Rattle.mk_edit_language.specs.ValueChanges.{change_spans, is_changed, assignment_spans}
 use Rattle.mk_patch.specs.Moves.{Exchange, IsPlain}
 use Rattle.mk_patch.proofs.on_moves.ExchangeLemmas.{exchanges}
 use Rattle.mk_patch.proofs.on_moves.TextLineLemmas.{plain-located}
@@ -98,14 +96,14 @@ module _ (n : List ℕ) (c : ValueChange) where
   -- what is known of each line of an accepted change
   module _ (f : is_prefix_name n ≡ false) where
     -- a line that is changed
-    own-line : (x : Context) (k : ClassedLine) → class_of x k.bytes ≡ k.class → is_changed n c k ≡ true → (is_changed n c k && is_open_to c k.class) ≡ false → IsOwnLine c x (located_line k)
+    own-line : (x : Context) (k : ClassedLine) → class_of x k.bytes ≡ k.class → is_changed n c k ≡ true → (is_changed n c k && is_open_to c (Some k.class)) ≡ false → IsOwnLine c x (located_line k)
     own-line x k h e o =
         let N = named-line x n k h (changed-assigns n c k e) f in
         record {
           assigned = N.assigned;
           here = N.here;
           class_is = N.located;
-          not_open = ap (is_open_to c) (sym N.class_is) ∙ (ap (λ b. b && is_open_to c k.class) (sym e) ∙ o);
+          not_open = ap (λ (q : Class Cell). is_open_to c (Some q)) (sym N.class_is) ∙ (ap (λ b. b && is_open_to c (Some k.class)) (sym e) ∙ o);
         }
 
     -- it becomes the line of the law
@@ -148,7 +146,7 @@ module _ (n : List ℕ) (c : ValueChange) where
         go true false = record { both = λ e. absurd (cc); one = λ e. refl }
         go false k = record { both = λ e. absurd (cc); one = λ e. refl }
 
-    line-turns : (x : Context) (k m : ClassedLine) → class_of x k.bytes ≡ k.class → (is_changed n c k && is_open_to c k.class) ≡ false → IsLineChanged n c x k m
+    line-turns : (x : Context) (k m : ClassedLine) → class_of x k.bytes ≡ k.class → (is_changed n c k && is_open_to c (Some k.class)) ≡ false → IsLineChanged n c x k m
         → CanTurn (is_exchanged_in turn.NoLonger) (is_exchanged_in turn.Longer) (is_changed_located n c) new_line x (located_line k)
     line-turns x k m h o R =
         let l = located_line k in
@@ -165,28 +163,28 @@ module _ (n : List ℕ) (c : ValueChange) where
           whole_first = λ e. (and_parts (is_changed_located n c l) (not (is_longer c l)) e).0;
         }
 
-    pub lines-turn : (x : Context) (ks ms : List ClassedLine) → AreClassed x ks → list_any (λ l. is_changed n c l && is_open_to c l.class) ks ≡ false → AreInPlace (IsLineChanged n c) x ks ms → CanEachChange x (located_lines ks)
+    pub lines-turn : (x : Context) (ks ms : List ClassedLine) → AreClassed x ks → list_any (λ l. is_changed n c l && is_open_to c (Some l.class)) ks ≡ false → AreInPlace (IsLineChanged n c) x ks ms → CanEachChange x (located_lines ks)
     lines-turn x [] [] h o R = tt
     lines-turn x [] (m ∷ ms) h o R = absurd R
     lines-turn x (k ∷ ks) [] h o R = absurd R
     lines-turn x (k ∷ ks) (m ∷ ms) h o R =
-        let here = is_changed n c k && is_open_to c k.class in
-        let below = list_any (λ l. is_changed n c l && is_open_to c l.class) ks in
+        let here = is_changed n c k && is_open_to c (Some k.class) in
+        let below = list_any (λ l. is_changed n c l && is_open_to c (Some l.class)) ks in
         (line-turns x k m (AreClassed-class x k ks h) (or-left_false here below o) R.0, lines-turn (context_after x k.class) ks ms (AreClassed-tail x k ks h) (or-right_false here below o) R.1)
 
     -- and each line that is noted can be changed
-    pub lines-changeable : (at : ℕ) (x : Context) (ks ms : List ClassedLine) → AreClassed x ks → list_any (λ l. is_changed n c l && is_open_to c l.class) ks ≡ false → AreInPlace (IsLineChanged n c) x ks ms → x.defines + length ks ≤ max_text
+    pub lines-changeable : (at : ℕ) (x : Context) (ks ms : List ClassedLine) → AreClassed x ks → list_any (λ l. is_changed n c l && is_open_to c (Some l.class)) ks ≡ false → AreInPlace (IsLineChanged n c) x ks ms → x.defines + length ks ≤ max_text
         → AreChangeable c (meant_places_from n c at x (located_lines ks))
     lines-changeable at x [] [] h o R low = tt
     lines-changeable at x [] (m ∷ ms) h o R low = absurd R
     lines-changeable at x (k ∷ ks) [] h o R low = absurd R
     lines-changeable at x (k ∷ ks) (m ∷ ms) h o R low =
-        let here = is_changed n c k && is_open_to c k.class in
-        let below = list_any (λ l. is_changed n c l && is_open_to c l.class) ks in
+        let here = is_changed n c k && is_open_to c (Some k.class) in
+        let below = list_any (λ l. is_changed n c l && is_open_to c (Some l.class)) ks in
         let rest = lines-changeable (at + 1) (context_after x k.class) ks ms (AreClassed-tail x k ks h) (or-right_false here below o) R.1 (omega (arith, low, defines_after-few x.defines k.class)) in
         go (is_changed_located n c (located_line k)) refl (AreClassed-class x k ks h) (or-left_false here below o) R.0 rest
       where
-        go : (b : Bool) → is_changed_located n c (located_line k) ≡ b → class_of x k.bytes ≡ k.class → (is_changed n c k && is_open_to c k.class) ≡ false → IsLineChanged n c x k m
+        go : (b : Bool) → is_changed_located n c (located_line k) ≡ b → class_of x k.bytes ≡ k.class → (is_changed n c k && is_open_to c (Some k.class)) ≡ false → IsLineChanged n c x k m
             → AreChangeable c (meant_places_from n c (at + 1) (context_after x k.class) (located_lines ks))
             → AreChangeable c (if b then record { place = record { at = at; context = x }; line = located_line k } ∷ meant_places_from n c (at + 1) (context_after x k.class) (located_lines ks)
             else meant_places_from n c (at + 1) (context_after x k.class) (located_lines ks))

@@ -1,5 +1,5 @@
 -- One line after a change of its value: its bytes, as the code puts them together, and its length.
-use Rattle.std.proofs.Common.{◌≡◌, refl, sym, ap, ◌∙◌, subst, arith, ℕ, ◌+◌, ◌-◌, ◌≤◌, Bool, true, false, List, [], ◌∷◌, ◌++◌, take, drop, length, length-append, None}
+use Rattle.std.proofs.Common.{◌≡◌, refl, sym, ap, ◌∙◌, subst, arith, ℕ, ◌+◌, ◌-◌, ◌≤◌, Bool, true, false, not, ◌||◌, List, [], ◌∷◌, ◌++◌, take, drop, length, length-append, append_assoc, None}
 use Rattle.std.specs.Prelude.{◌==◌, IfOk, Result, Ok, Err}
 use Rattle.std.proofs.lemmas.Bool.{ltb-true, ltb-false}
 use Rattle.std.proofs.lemmas.List.{length-drop, length-take-le}
@@ -21,19 +21,15 @@ use Rattle.mk_class.specs.declared.class.Class as class
 use Rattle.mk_tree.specs.LocatedLines.{LocatedLine}
 use Rattle.mk_edit_language.specs.Edits.{ValueChange, Set, Append, Add, Remove}
 use Rattle.mk_edit_language.specs.LineCauses.{bares_end}
-use Rattle.mk_edit_language.specs.ValueChanges.{change_spans}
-use Rattle.mk_edit_language.specs.ValueSpans.{assignment_spans, append_value_span, set_value_span}
+use Rattle.mk_edit_language.specs.ValueChanges.{change_spans, assignment_spans, append_value_span, set_value_span}
 use Rattle.mk_edit_parts.specs.LineRanges.{value_range_located}
 use Rattle.mk_edit_parts.specs.SeenAssignments.{HasAssignment, IsAssignmentAt, IsAssignmentSeen}
 use Rattle.mk_edit_parts.specs.ValuePieces.{line_without_pieces}
-use Rattle.mk_edit.specs.ValueChangeLines.{IsOwnLine, bytes_changed, bytes_put, is_longer, spared_by}
-use Rattle.mk_edit.specs.ValueEdits.{space_after, value_text_located}
+use Rattle.mk_edit.specs.ValueChangeLines.{IsOwnLine, bytes_changed, bytes_put, is_longer, space_after, spared_by, value_text_located}
 use Rattle.mk_edit.proofs.on_prerequisites.WordPlans.{nothing-put, pieces-length}
-use Rattle.mk_edit.proofs.on_values.AppendValuePlans.{append_value_span-range, appended-line}
 use Rattle.mk_edit.proofs.on_values.OwnLines.{IsValueText, own_line, own_rest, own-seen, own-text, own-whole}
-use Rattle.mk_edit.proofs.on_values.RemoveWordPlans.{closed-if, line-nothing, line-spans}
-use Rattle.mk_edit.proofs.on_values.SetValuePlans.{is_empty-length, set_value_span-range}
 use Rattle.mk_edit.proofs.on_values.ValuePlaces.{IsValueRange, value-range}
+use Rattle.mk_edit.proofs.on_values.ValueSpans.{append_value_span-range, is_empty-length, line-nothing, line-spans, set_value_span-range}
 
 -- what holds of an accepted result holds of it in other words
 pub mapped : {X Y : Type 0} (P Q : X → Type 0) (r : Result X Y) → ((x : X) → P x → Q x) → IfOk r P → IfOk r Q
@@ -111,6 +107,10 @@ put-bytes c x l v p O =
 pub put-within : (c : ValueChange) (x : Context) (l : LocatedLine) → IsOwnLine c x l → (value_range_located false l).end ≤ length l.bytes
 put-within c x l O = (line-range x l O.assigned false (value_range_located false l) O.here O.class_is refl).within
 
+-- the line with a space and the text put in there
+appended-line : (m bytes space text v : List ℕ) (at : ℕ) → m ≡ take at bytes ++ (space ++ (v ++ drop at bytes)) → space ≡ space_after text → m ≡ take at bytes ++ ((space_after text ++ v) ++ drop at bytes)
+appended-line m bytes space text v at h s = h ∙ (ap (λ z. take at bytes ++ (z ++ (v ++ drop at bytes))) s ∙ ap (λ z. take at bytes ++ z) (sym (append_assoc (space_after text) v (drop at bytes))))
+
 -- as the code puts them together
 pub put-formed : (l : LocatedLine) (v bytes space text m : List ℕ) (r : Span) → r ≡ value_range_located false l → bytes ≡ l.bytes → text ≡ value_text_located l → space ≡ space_after text → m ≡ take r.end bytes ++ (space ++ (v ++ drop r.end bytes))
     → m ≡ bytes_put v l
@@ -121,6 +121,10 @@ put-formed l v bytes space text m r k b t s h =
     ∙ ap (λ z. take (value_range_located false l).end l.bytes ++ ((space_after z ++ v) ++ drop (value_range_located false l).end l.bytes)) t))
 
 -- ---- a word less
+
+closed-if : (c b : Bool) → (not c || b) ≡ false → c ≡ true
+closed-if true b h = refl
+closed-if false b h = absurd (cc)
 
 remove-closed : (x : Context) (l : LocatedLine) (w : List ℕ) → (O : IsOwnLine (Remove w) x l) → is_closed joined_byte (concat O.assigned.value) ≡ true
 remove-closed x l w O = closed-if (is_closed joined_byte (concat O.assigned.value)) (bares_end w O.assigned) O.not_open

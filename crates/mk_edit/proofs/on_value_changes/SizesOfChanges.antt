@@ -7,7 +7,7 @@ use Rattle.std.proofs.lemmas.Bool.{le-ltb, ne_eqb}
 use Rattle.std.proofs.Math.Bool.{or-false, or_assoc}
 use Rattle.mk_lines.specs.Limits.{max_text}
 use Rattle.mk_lines.specs.Cells.{Cell}
-use Rattle.mk_lines.specs.Pieces.{Replacement, replaced}
+use Rattle.mk_lines.specs.Pieces.{Replacement}
 use Rattle.mk_class.specs.ListTests.{is_empty}
 use Rattle.mk_class.specs.Classes.{Class}
 use Rattle.mk_class.specs.ClassTable.{class_of}
@@ -19,29 +19,23 @@ use Rattle.mk_tree.specs.LocatedLines.{LocatedLine, located_line, located_lines,
 use Rattle.mk_tree.proofs.on_changes.Sizes.{size_of-text}
 use Rattle.mk_tree.proofs.on_documents.LinesInText.{AreClassed, AreClassed-class, AreClassed-tail, AreClassed-lines}
 use Rattle.mk_edit_language.specs.Causes.{where_holds}
-use Rattle.mk_edit_language.specs.Edits.{ValueChange, Set, Append, Add, Remove, ChangeValues}
+use Rattle.mk_edit_language.specs.Edits.{Every, ValueChange, Set, Append, Add, Remove, ChangeValue}
 use Rattle.mk_edit_language.specs.EditSpans.{spans_in_lines, spans_of}
 use Rattle.mk_edit_language.specs.Lengths.{bytes_taken, bytes_put}
 use Rattle.mk_edit_language.specs.LineCauses.{too_long}
-use Rattle.mk_edit_language.specs.ValueChanges.{change_spans, changed_line_spans, is_changed}
-use Rattle.mk_edit_language.specs.ValueSpans.{append_value_span, assignment_spans}
+use Rattle.mk_edit_language.specs.ValueChanges.{change_spans, changed_line_spans, is_changed, append_value_span, assignment_spans}
 use Rattle.mk_edit_language.specs.declared.refusal.Refusal.TheVariants.{TooLong}
-use Rattle.mk_edit_language.proofs.on_edits.LengthLemmas.{length-replaced}
-use Rattle.mk_edit_language.proofs.on_edits.SpansRise.{spans-rise}
 use Rattle.mk_edit_parts.specs.LineRanges.{value_range_located}
 use Rattle.mk_edit_parts.specs.LocatedParts.{assigns_located, is_unread_located}
 use Rattle.mk_edit_parts.specs.ValuePieces.{line_without_pieces}
 use Rattle.mk_edit.specs.ChangeValuesSurveys.{found_by, found_with}
-use Rattle.mk_edit.specs.ValueChangeLines.{is_changed_located, is_open_located, put_by, spared_by}
-use Rattle.mk_edit.specs.ValueEdits.{space_after, value_text_located}
+use Rattle.mk_edit.specs.ValueChangeLines.{is_changed_located, is_open_located, put_by, space_after, spared_by, value_text_located}
 use Rattle.mk_edit.specs.declared.change_values_survey.Findings.{Findings}
-use Rattle.mk_edit.proofs.on_plans.CausePlans.{never-long, same_test}
+use Rattle.mk_edit.proofs.on_plans.CausePlans.{AreBalanced, long-by, never-long}
 use Rattle.mk_edit.proofs.on_prerequisites.WordPlans.{nothing-put}
 use Rattle.mk_edit.proofs.on_renaming.PatchPlans.{filter-step}
 use Rattle.mk_edit.proofs.on_renaming.SizesOfTexts.{put-append, taken-append}
-use Rattle.mk_edit.proofs.on_values.AppendValuePlans.{append_value_span-range}
-use Rattle.mk_edit.proofs.on_values.RemoveWordPlans.{line-nothing, line-spans}
-use Rattle.mk_edit.proofs.on_values.SetValuePlans.{is_empty-length, set_value_span-range}
+use Rattle.mk_edit.proofs.on_values.ValueSpans.{append_value_span-range, is_empty-length, line-nothing, line-spans, set_value_span-range}
 use Rattle.mk_edit.proofs.on_value_changes.ChangedBytes.{line-range, line-text}
 use Rattle.mk_edit.proofs.on_value_changes.LinesTold.{IsNamedLine, changed-assigns, changed-told, named-line}
 
@@ -101,15 +95,11 @@ none-pass p (x ∷ xs) = go (p x) (none-pass p xs)
 -- ---- the bytes of one line
 
 -- a change that puts a text in
-abbrev PutsIn : ValueChange → Type 0
+abbrev pub PutsIn : ValueChange → Type 0
 PutsIn (Set v) = Unit {0}
 PutsIn (Append v) = Unit {0}
 PutsIn (Add w) = Unit {0}
 PutsIn (Remove w) = ⊥
-
--- the bytes that spans put in, with those that are spared, are those of the change and those that spans take out
-abbrev AreBalanced : (spared put : ℕ) → List Replacement → Type 0
-AreBalanced s p rs = bytes_put rs + s ≡ p + bytes_taken rs
 
 abbrev space_if : Bool → List ℕ
 space_if b = if b then [] else 32 ∷ []
@@ -136,7 +126,7 @@ append-balanced x k v at N =
       space-spared text,
     )
 
-change-balanced : (c : ValueChange) (x : Context) (k : ClassedLine) (at : ℕ) → PutsIn c → (N : IsNamedLine x k) → AreBalanced (spared_by c (located_line k)) (put_by c) (change_spans c at N.assigned)
+pub change-balanced : (c : ValueChange) (x : Context) (k : ClassedLine) (at : ℕ) → PutsIn c → (N : IsNamedLine x k) → AreBalanced (spared_by c (located_line k)) (put_by c) (change_spans c at N.assigned)
 change-balanced (Set v) x k at p N =
     let l = located_line k in
     let r = value_range_located (length v == 0) l in
@@ -206,19 +196,19 @@ abbrev pub is_long : (name : List ℕ) → ValueChange → List LocatedLine → 
 is_long n c ls = nat_lt (max_text + spared_in n c ls) (size_of ls + length (filter (is_changed_located n c) ls) * put_by c)
 
 long-balanced : (ls : List LocatedLine) (n : List ℕ) (c : ValueChange) → PutsIn c → IsFaithful ls → is_prefix_name n ≡ false
-    → too_long (located_text ls) (spans_of (located_text ls) (classed_lines (located_text ls)) (ChangeValues n c)) ≡ where_holds (is_long n c ls) TooLong
+    → too_long (located_text ls) (spans_of (located_text ls) (classed_lines (located_text ls)) (ChangeValue Every n c)) ≡ where_holds (is_long n c ls) TooLong
 long-balanced ls n c p h f =
     let t = located_text ls in
     let ds = classed_lines t in
-    let rs = spans_of t ds (ChangeValues n c) in
-    let number = length-replaced 0 (length t) t rs (spans-rise t (ChangeValues n c)) (omega arith) in
+    let rs = spans_of t ds (ChangeValue Every n c) in
     let balance = lines-balanced n c f p start ds 0 (AreClassed-lines t ds refl) in
-    let own : AreBalanced (spared_in n c ls) (length (filter (is_changed_located n c) ls) * put_by c) rs =
-    subst (λ (z : List LocatedLine). AreBalanced (spared_in n c z) (length (filter (is_changed_located n c) z) * put_by c) rs) (sym h) balance in
-    ap (λ b. where_holds b TooLong) (same_test max_text (length (replaced 0 t rs)) (spared_in n c ls) (size_of ls + length (filter (is_changed_located n c) ls) * put_by c) (omega (arith, number, own, size_of-text ls)))
+    let spared = spared_in n c ls in
+    let put = length (filter (is_changed_located n c) ls) * put_by c in
+    let own : AreBalanced spared put rs = subst (λ (z : List LocatedLine). AreBalanced (spared_in n c z) (length (filter (is_changed_located n c) z) * put_by c) rs) (sym h) balance in
+    long-by t (ChangeValue Every n c) spared put own ∙ ap (λ m. where_holds (nat_lt (max_text + spared) (m + put)) TooLong) (sym (size_of-text ls))
 
 pub change-long : (ls : List LocatedLine) (n : List ℕ) (c : ValueChange) → IsFaithful ls → size_of ls ≤ max_text → is_prefix_name n ≡ false
-    → too_long (located_text ls) (spans_of (located_text ls) (classed_lines (located_text ls)) (ChangeValues n c)) ≡ where_holds (is_long n c ls) TooLong
+    → too_long (located_text ls) (spans_of (located_text ls) (classed_lines (located_text ls)) (ChangeValue Every n c)) ≡ where_holds (is_long n c ls) TooLong
 change-long ls n (Set v) h few f = long-balanced ls n (Set v) tt h f
 change-long ls n (Append v) h few f = long-balanced ls n (Append v) tt h f
 change-long ls n (Add w) h few f = long-balanced ls n (Add w) tt h f
@@ -226,4 +216,4 @@ change-long ls n (Remove w) h few f =
     let t = located_text ls in
     let ds = classed_lines t in
     let short : is_long n (Remove w) ls ≡ false = le-ltb _ _ (omega (arith, few)) in
-    never-long t (ChangeValues n (Remove w)) (lines-removed n w f start ds 0 (AreClassed-lines t ds refl)) (omega (arith, few, size_of-text ls)) ∙ ap (λ b. where_holds b TooLong) (sym short)
+    never-long t (ChangeValue Every n (Remove w)) (lines-removed n w f start ds 0 (AreClassed-lines t ds refl)) (omega (arith, few, size_of-text ls)) ∙ ap (λ b. where_holds b TooLong) (sym short)

@@ -23,8 +23,7 @@ use Rattle.mk_edit_parts.proofs.on_finding.Walks.{each-from}
 use Rattle.mk_edit_parts.proofs.on_finding.WindowLemmas.{AreAhead, IsPassed, ahead-first, ahead-next, left-at, passed-all, passed-by, passed-none, passed-one}
 use Rattle.mk_edit_parts.proofs.on_prerequisites.RawPartLemmas.{raw-within}
 use Rattle.mk_edit.specs.ChangeValuesSurveys.{IsSurveyedTo, MeantLine, findings_on, found_by, found_so, found_with, meant_places, meant_places_from, meant_view, nothing_found}
-use Rattle.mk_edit.specs.ValueChangeLines.{has_effect_located, is_changed_located, is_open_located, spared_by}
-use Rattle.mk_edit.specs.ValueEdits.{value_text_located}
+use Rattle.mk_edit.specs.ValueChangeLines.{has_effect_located, is_changed_located, is_open_located, spared_by, value_text_located}
 use Rattle.mk_edit.specs.declared.change_values_places.Meant.{Meant}
 use Rattle.mk_edit.specs.declared.change_values_survey.Findings.{Findings}
 
@@ -70,7 +69,7 @@ space-few : (b : Bool) (l : LocatedLine) → (if b then 1 else 0) ≤ length l.b
 space-few true l = omega arith
 space-few false l = omega arith
 
-spared-few : (c : ValueChange) (l : LocatedLine) → spared_by c l ≤ length l.bytes + 1
+pub spared-few : (c : ValueChange) (l : LocatedLine) → spared_by c l ≤ length l.bytes + 1
 spared-few (Set v) l = go l.class
   where
     wide : (s e : ℕ) → e ≤ length l.bytes → e - s ≤ length l.bytes + 1

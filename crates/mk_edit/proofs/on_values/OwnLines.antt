@@ -28,7 +28,7 @@ use Rattle.mk_class.proofs.on_classes.ClassLemmas.{has_stray-left, has_stray-rig
 use Rattle.mk_class.proofs.on_assignments.AssignmentLineLemmas.{AssignParts}
 use Rattle.mk_tree.specs.LocatedLines.{LocatedLine}
 use Rattle.mk_edit_language.specs.LineCauses.{ends_in_fold}
-use Rattle.mk_edit_language.specs.ValueWords.{led_words, staying, from_first_word, remove_word_pieces}
+use Rattle.mk_edit_language.specs.ValueChanges.{led_words, staying, from_first_word, remove_word_pieces}
 use Rattle.mk_edit_language.proofs.on_values.AppendValueLemmas.{value-units}
 use Rattle.mk_edit_language.proofs.on_values.WordParts.{IsPart, value-led}
 use Rattle.mk_edit_language.proofs.on_values.RemoveWordLemmas.{remove_word-old}
@@ -37,7 +37,7 @@ use Rattle.mk_edit_parts.specs.SeenAssignments.{IsAssignmentAt, IsAssignmentSeen
 use Rattle.mk_edit_parts.specs.ValuePieces.{line_without_pieces}
 use Rattle.mk_edit_parts.proofs.on_prerequisites.WordRangeLemmas.{part-words}
 use Rattle.mk_edit_parts.proofs.on_values.ValueCells.{assign-parts, assign-no_stray, value-cells}
-use Rattle.mk_edit.specs.ValueEdits.{value_text_located}
+use Rattle.mk_edit.specs.ValueChangeLines.{value_text_located}
 use Rattle.mk_edit.proofs.on_values.ValuePlaces.{assignment-located}
 
 -- ---- the text of the value

@@ -7,7 +7,6 @@ use Rattle.mk_lines.specs.Ranges.{raw_offset}
 use Rattle.mk_lines.specs.declared.split.Span.{Span}
 use Rattle.mk_class.specs.Assignments.{Assignment, before_value}
 use Rattle.mk_class.specs.RecipePrefix.{is_prefix_name}
-use Rattle.mk_class.specs.Classes.{Class}
 use Rattle.mk_class.specs.Classes.Class.{Assign}
 use Rattle.mk_class.specs.LocatedClasses.{located_class, located_assignment}
 use Rattle.mk_class.specs.ClassTable.{class_of}
@@ -83,8 +82,8 @@ variable-place e ls f nth n h a A =
     let above : take f.at cs ≡ s.above = ap (take f.at) whole ∙ (ap (λ k. take k (s.above ++ s.line ∷ s.below)) (sym F.place_is) ∙ take-append_seam s.above (s.line ∷ s.below)) in
     record { within = (line-at ls (Variable nth n) f h F).within; place = ap context_of above ∙ F.context_is }
 
--- what is known of the line that the address of a variable means, and of the range of its value
-pub record IsValuePlace (ls : List LocatedLine) (nth : Option ℕ) (n : List ℕ) (f : Found) (l : LocatedLine) (b : Bool) (r : Span) : Type 0 where
+-- what is known of the line that the address of a variable means
+pub record IsValuePlace (ls : List LocatedLine) (nth : Option ℕ) (n : List ℕ) (f : Found) (l : LocatedLine) : Type 0 where
   pub spot : StandingLine
   pub place_is : length spot.above ≡ f.at
   pub found_is : found (classed_lines (located_text ls)) (Variable nth n) ≡ Some spot
@@ -92,12 +91,11 @@ pub record IsValuePlace (ls : List LocatedLine) (nth : Option ℕ) (n : List ℕ
   pub class_is : spot.line.class ≡ Assign assigned None
   pub here : class_of f.context spot.line.bytes ≡ Assign assigned None
   pub line_is : l ≡ located_line spot.line
-  pub range : IsValueRange spot.line.bytes assigned b r
 
-pub value-place : (ls : List LocatedLine) (nth : Option ℕ) (n : List ℕ) (f : Found) (l : LocatedLine) (b : Bool) (r : Span) → IsFaithful ls
+pub value-place : (ls : List LocatedLine) (nth : Option ℕ) (n : List ℕ) (f : Found) (l : LocatedLine) → IsFaithful ls
     → no_such_line (classed_lines (located_text ls)) (Some (Variable nth n)) ≡ None → ambiguous_line (classed_lines (located_text ls)) (Some (Variable nth n)) ≡ None → is_prefix_name n ≡ false
-    → IsFoundAt (classed_lines (located_text ls)) (Variable nth n) f → Some l ≡ slice_get ls f.at → r ≡ value_range_located b l → IsValuePlace ls nth n f l b r
-value-place ls nth n f l b r h there one free F g k =
+    → IsFoundAt (classed_lines (located_text ls)) (Variable nth n) f → Some l ≡ slice_get ls f.at → IsValuePlace ls nth n f l
+value-place ls nth n f l h there one free F g =
     let t = located_text ls in
     let s = F.spot in
     let L = line-at ls (Variable nth n) f h F in
@@ -105,18 +103,13 @@ value-place ls nth n f l b r h there one free F g k =
     let e : Some A.spot ≡ Some s = sym A.found_is ∙ F.found_is in
     let same : A.spot ≡ s = cc in
     let class_is : s.line.class ≡ Assign A.assigned None = ap (λ (z : StandingLine). z.line.class) (sym same) ∙ A.class_is in
-    let here : class_of f.context s.line.bytes ≡ Assign A.assigned None = L.class_is ∙ class_is in
     let shown : Some l ≡ Some (located_line s.line) = g ∙ L.line_is in
-    let line_is : l ≡ located_line s.line = cc in
-    let seen : l ≡ record { bytes = s.line.bytes; class = located_class joined_byte (Assign A.assigned None) } =
-    line_is ∙ ap (λ (q : Class Cell). record { bytes = s.line.bytes; class = located_class joined_byte q }) class_is in
     record {
       spot = s;
       place_is = F.place_is;
       found_is = F.found_is;
       assigned = A.assigned;
       class_is = class_is;
-      here = here;
-      line_is = line_is;
-      range = subst (IsValueRange s.line.bytes A.assigned b) (ap (value_range_located b) (sym seen) ∙ sym k) (value-range f.context s.line.bytes A.assigned b here);
+      here = L.class_is ∙ class_is;
+      line_is = cc;
     }

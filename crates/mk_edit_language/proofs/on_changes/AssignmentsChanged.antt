@@ -1,5 +1,5 @@
--- One assignment's line with its value changed, by the law of the edit of this value alone.
-use Rattle.std.proofs.Common.{◌≡◌, refl, ℕ, List, [], ◌∷◌, ◌++◌, true, false, not, ◌&&◌, length, None}
+-- One assignment's line with its value changed.
+use Rattle.std.proofs.Common.{◌≡◌, refl, ℕ, List, [], ◌∷◌, ◌++◌, true, false, not, ◌&&◌, length, Some, None}
 use Rattle.std.proofs.lemmas.Bool.{and_parts, not-true, not-false}
 use Rattle.std.specs.List.{list_any}
 use Rattle.mk_lines.specs.Lists.{concat}
@@ -16,10 +16,9 @@ use Rattle.mk_class.specs.RecipePrefix.{is_prefix_name}
 use Rattle.mk_class.specs.Classes.Class.{Assign}
 use Rattle.mk_class.specs.ClassedLines.{ClassedLine, classed_lines}
 use Rattle.mk_tree.specs.Documents.{text_of}
-use Rattle.mk_edit_language.specs.Edits.{ValueChange, Set, Append, Add, Remove, ChangeValues}
+use Rattle.mk_edit_language.specs.Edits.{Which, ValueChange, Set, Append, Add, Remove, ChangeValue}
 use Rattle.mk_edit_language.specs.ArgumentCauses.{bad_argument, is_value_word}
-use Rattle.mk_edit_language.specs.ValueSpans.{append_value_span}
-use Rattle.mk_edit_language.specs.ValueChanges.{change_spans}
+use Rattle.mk_edit_language.specs.ValueChanges.{append_value_span, change_spans}
 use Rattle.mk_edit_language.specs.LineCauses.{ends_in_fold, bares_end, is_open_to}
 use Rattle.mk_edit_language.specs.Changes.{item_with_value, value_appended, value_changed}
 use Rattle.mk_edit_language.proofs.on_edits.Accepted.{two-passed}
@@ -39,16 +38,16 @@ IsChangeText (Append v) = IsPutAfter v
 IsChangeText (Add w) = IsPutAfter w
 IsChangeText (Remove w) = is_value w ≡ true
 
-pub change-text : (n : List ℕ) (c : ValueChange) → bad_argument (ChangeValues n c) ≡ None → IsChangeText c
-change-text n (Set v) h = (two-passed field.Name field.Value (is_name n) (is_value v) h).1
-change-text n (Append v) h =
+pub change-text : (w : Which) (n : List ℕ) (c : ValueChange) → bad_argument (ChangeValue w n c) ≡ None → IsChangeText c
+change-text a n (Set v) h = (two-passed field.Name field.Value (is_name n) (is_value v) h).1
+change-text a n (Append v) h =
     let p = and_parts (is_value v) (not (is_empty v)) (two-passed field.Name field.Value (is_name n) (is_value v && not (is_empty v)) h).1 in
     (p.0, not-true (is_empty v) p.1)
-change-text n (Add w) h =
+change-text a n (Add w) h =
     let no_gap = not (list_any (is_gap (λ b. b)) (units (λ b. b) w)) in
     let p = and_parts (is_value w) (not (is_empty w) && no_gap) (two-passed field.Name field.Word (is_name n) (is_value_word w) h).1 in
     (p.0, not-true (is_empty w) (and_parts (not (is_empty w)) no_gap p.1).0)
-change-text n (Remove w) h =
+change-text a n (Remove w) h =
     let no_gap = not (list_any (is_gap (λ b. b)) (units (λ b. b) w)) in
     (and_parts (is_value w) (not (is_empty w) && no_gap) (two-passed field.Name field.Word (is_name n) (is_value_word w) h).1).0
 
@@ -61,7 +60,7 @@ put-after t A l B a (b ∷ v) h k f p o = append_value-line t A l B a b v h k f 
 
 -- the line of an assignment whose value is changed
 pub assignment-changed : (c : ValueChange) (t : List ℕ) (A : List ClassedLine) (l : ClassedLine) (B : List ClassedLine) (a : Assignment Cell) → classed_lines t ≡ A ++ l ∷ B → l.class ≡ Assign a None
-    → is_prefix_name (unit_text joined_byte a.name) ≡ false → IsChangeText c → is_open_to c (Assign a None) ≡ false
+    → is_prefix_name (unit_text joined_byte a.name) ≡ false → IsChangeText c → is_open_to c (Some (Assign a None)) ≡ false
     → IsLineReplaced (replaced 0 t (change_spans c (length (text_of A)) a)) A B (item_with_value a (value_changed t c (length (text_of A)) a))
 assignment-changed (Set v) t A l B a h k f p o = set_value-replaced t A l B a v h k f p
 assignment-changed (Append v) t A l B a h k f p o = put-after t A l B a v h k f p o

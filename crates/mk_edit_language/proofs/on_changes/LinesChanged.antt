@@ -1,7 +1,7 @@
 -- The lines of a text after a change of every value of a name, each in the place of the old one.
-use Rattle.std.proofs.Common.{◌≡◌, refl, sym, ap, ◌∙◌, subst, ℕ, List, [], ◌∷◌, ◌++◌, map, Bool, true, false, ◌&&◌, ◌||◌, cond, append_assoc, length, length-append, ◌+◌, None}
+use Rattle.std.proofs.Common.{◌≡◌, refl, sym, ap, ◌∙◌, subst, ℕ, List, [], ◌∷◌, ◌++◌, map, Bool, true, false, ◌&&◌, ◌||◌, cond, append_assoc, length, length-append, ◌+◌, Some, None}
 use Rattle.std.proofs.lemmas.Bool.{and_parts}
-use Rattle.std.proofs.lemmas.List.{append-nil, append_cancel_left, append_cancel_right}
+use Rattle.std.proofs.lemmas.List.{append-nil}
 use Rattle.std.proofs.lemmas.List.Folds.{list_any-append}
 use Rattle.std.specs.List.{list_any}
 use Rattle.mk_lines.specs.LogicalLines.{EndsWhereFollowed}
@@ -19,22 +19,20 @@ use Rattle.mk_tree.specs.Documents.{text_of, context_of}
 use Rattle.mk_tree.specs.Items.{items, items_of_line}
 use Rattle.mk_tree.specs.LineTexts.{StandingLine, bytes_of}
 use Rattle.mk_tree.specs.EachReplaced.{ReplaceEach}
-use Rattle.mk_tree.proofs.on_documents.LinesInText.{line-in_text, run-in_text, reading-line, text_of-append, context_of-last, AreClassed, AreClassed-tail}
+use Rattle.mk_tree.proofs.on_documents.LinesInText.{line-in_text, run-in_text, text_of-append, context_of-last, AreClassed, AreClassed-tail}
 use Rattle.mk_tree.proofs.on_documents.DocumentLemmas.{text_of-classed_lines}
 use Rattle.mk_tree.proofs.on_changes.EachReplacedLemmas.{lines-replaced}
 use Rattle.mk_edit_language.specs.Edits.{ValueChange}
 use Rattle.mk_edit_language.specs.Addresses.{assigns}
-use Rattle.mk_edit_language.specs.ValueSpans.{assignment_spans}
-use Rattle.mk_edit_language.specs.ValueChanges.{has_effect, is_changed, change_spans, changed_line_spans}
+use Rattle.mk_edit_language.specs.ValueChanges.{assignment_spans, has_effect, is_changed, change_spans, changed_line_spans}
 use Rattle.mk_edit_language.specs.EditSpans.{spans_in_lines}
 use Rattle.mk_edit_language.specs.LineCauses.{is_open_to}
-use Rattle.mk_edit_language.specs.Changes.{item_with_value, value_item, value_changed, changed_items, with_values}
+use Rattle.mk_edit_language.specs.Changes.{value_item, value_changed, changed_items, with_values}
 use Rattle.mk_edit_language.specs.RisingSpans.{Rise}
-use Rattle.mk_edit_language.specs.LinesInPlace.{AreInPlace}
-use Rattle.mk_edit_language.specs.ChangedLines.{changed_bytes, IsLineChanged}
+use Rattle.mk_edit_language.specs.LinesInPlace.{AreInPlace, changed_bytes, IsLineChanged}
 use Rattle.mk_edit_language.proofs.on_edits.RisingSpanLemmas.{replaced-append}
 use Rattle.mk_edit_language.proofs.on_edits.SpansRise.{spot-rises, rise-changed, rise-in_line, rise-lines}
-use Rattle.mk_edit_language.proofs.on_edits.KeptLineLemmas.{line-respanned}
+use Rattle.mk_edit_language.proofs.on_edits.MadeLines.{line-respanned}
 use Rattle.mk_edit_language.proofs.on_values.FoundAssignments.{assigned-by_name, assigned-by_item}
 use Rattle.mk_edit_language.proofs.on_changes.SpansShifted.{change-by_itself}
 use Rattle.mk_edit_language.proofs.on_changes.AssignmentsChanged.{IsChangeText, assignment-changed}
@@ -44,7 +42,7 @@ use Rattle.mk_edit_language.proofs.on_changes.AssignmentsChanged.{IsChangeText, 
 pub record CanChange (n : List ℕ) (c : ValueChange) (ls : List ClassedLine) : Type 0 where
   pub not_prefix : is_prefix_name n ≡ false
   pub text : IsChangeText c
-  pub none_open : list_any (λ l. is_changed n c l && is_open_to c l.class) ls ≡ false
+  pub none_open : list_any (λ l. is_changed n c l && is_open_to c (Some l.class)) ls ≡ false
 
 -- ---- one line
 
@@ -95,11 +93,11 @@ line-changed n c t K A l B h e =
     let at = length (text_of A) in
     let f = change_spans c in
     let s : StandingLine = record { above = A; line = l; below = B } in
-    let x = assigned-by_name t n A l B h (and_parts (assigns n l.class) (has_effect c l.class) e).0 K.not_prefix in
+    let x = assigned-by_name t n A l B h (and_parts (assigns n l.class) (has_effect c (Some l.class)) e).0 K.not_prefix in
     let a = x.assigned in
     let v = value_changed t c at a in
-    let none = none-of (λ l. is_changed n c l && is_open_to c l.class) A l B (subst (λ z. list_any (λ l. is_changed n c l && is_open_to c l.class) z ≡ false) h K.none_open) in
-    let closed : is_open_to c (Assign a None) ≡ false = subst (λ (z : Class Cell). is_open_to c z ≡ false) x.class_is (one-open (is_changed n c l) (is_open_to c l.class) none e) in
+    let none = none-of (λ l. is_changed n c l && is_open_to c (Some l.class)) A l B (subst (λ z. list_any (λ l. is_changed n c l && is_open_to c (Some l.class)) z ≡ false) h K.none_open) in
+    let closed : is_open_to c (Some (Assign a None)) ≡ false = subst (λ (z : Class Cell). is_open_to c (Some z) ≡ false) x.class_is (one-open (is_changed n c l) (is_open_to c (Some l.class)) none e) in
     let r = assignment-changed c t A l B a h x.class_is x.no_prefix K.text closed in
     let rs : List Replacement = f at a in
     let spans_are : (m : ℕ) → changed_line_spans n c m l.class ≡ f m a = λ m. ap (λ b. cond b (assignment_spans f m l.class) []) e ∙ ap (assignment_spans f m) x.class_is in
@@ -107,10 +105,7 @@ line-changed n c t K A l B h e =
     let m = r.line in
     let bytes : m.bytes ≡ replaced at l.bytes rs = line-respanned t rs A l B m h r.lines rise in
     let L = line-in_text (replaced 0 t rs) A m B r.lines in
-    let item : items_of_line m.class m.bytes ≡ item_with_value a v ∷ [] =
-    append_cancel_right (items_of_line m.class m.bytes) (item_with_value a v ∷ []) (items B)
-    (append_cancel_left (items A) (items_of_line m.class m.bytes ++ items B) (item_with_value a v ∷ items B) (sym (reading-line (replaced 0 t rs) A m B r.lines) ∙ r.reads)) in
-    let y = assigned-by_item (replaced 0 t rs) A m B a v r.lines item x.no_prefix in
+    let y = assigned-by_item (replaced 0 t rs) A m B a v r.lines r.item x.no_prefix in
     record {
       after = m;
       is = record {
@@ -125,7 +120,7 @@ line-changed n c t K A l B h e =
       };
       ends = EndsWhereFollowed-of m.bytes (bytes_of B) L.ends;
       text = ap (replaced at l.bytes) (spans_are at) ∙ sym bytes;
-      reads = item
+      reads = r.item
           ∙ (ap (value_item (value_changed t c) at) (sym x.class_is) ∙ ap (λ b. cond b (value_item (value_changed t c) at l.class) (items_of_line l.class l.bytes)) (sym e));
     }
 

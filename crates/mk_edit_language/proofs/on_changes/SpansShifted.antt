@@ -5,9 +5,7 @@ use Rattle.mk_lines.specs.Pieces.{Replacement, replaced, Piece, Keep, Replace, r
 use Rattle.mk_class.specs.ListTests.{is_empty}
 use Rattle.mk_class.specs.Assignments.{Assignment}
 use Rattle.mk_edit_language.specs.Edits.{ValueChange, Set, Append, Add, Remove}
-use Rattle.mk_edit_language.specs.ValueSpans.{value_start, value_end, blanks_end, set_value_span, append_value_span}
-use Rattle.mk_edit_language.specs.ValueWords.{led_words, staying, remove_word_pieces, remove_word_spans}
-use Rattle.mk_edit_language.specs.ValueChanges.{change_spans}
+use Rattle.mk_edit_language.specs.ValueChanges.{value_start, value_end, blanks_end, set_value_span, append_value_span, led_words, staying, remove_word_pieces, remove_word_spans, change_spans}
 use Rattle.mk_edit_language.proofs.on_edits.RisingSpanLemmas.{same_replacement}
 
 -- replacements further on

@@ -1,5 +1,5 @@
 -- What it says of an edit that no cause refuses it.
-use Rattle.std.proofs.Common.{◌≡◌, refl, ap, ◌∙◌, ℕ, List, [], ◌∷◌, Bool, true, false, not, Option, Some, None, is_some}
+use Rattle.std.proofs.Common.{◌≡◌, refl, ℕ, List, [], ◌∷◌, Bool, true, false, not, Option, Some, None, is_some}
 use Rattle.std.specs.Prelude.{Ok}
 use Rattle.mk_lines.specs.Pieces.{Replacement}
 use Rattle.mk_class.specs.ClassedLines.{classed_lines}
@@ -8,7 +8,7 @@ use Rattle.mk_edit_language.specs.Edits.{Edit}
 use Rattle.mk_edit_language.specs.Spots.{nth_of, picked}
 use Rattle.mk_edit_language.specs.EditSpans.{spans_of}
 use Rattle.mk_edit_language.specs.Causes.{where_holds}
-use Rattle.mk_edit_language.specs.ArgumentCauses.{Tested, first_failed, bad_argument, reserved}
+use Rattle.mk_edit_language.specs.ArgumentCauses.{FieldTest, Tested, first_failed, bad_argument, reserved}
 use Rattle.mk_edit_language.specs.AddressCauses.{unread_prefix, no_such, ambiguous, prefix_led, is_missing, is_several}
 use Rattle.mk_edit_language.specs.RuleCauses.{absent, already, taken, shared_rule, straddles}
 use Rattle.mk_edit_language.specs.LineCauses.{open_value, open_line, open_define, leaning, too_long}
@@ -90,21 +90,6 @@ accepted t e rs h =
       spans_are = u.1;
     }
 
--- one more cause that does not hold
-none-before : (o : Option Refusal) (cs : List (Option Refusal)) → o ≡ None → first_cause cs ≡ None → first_cause (o ∷ cs) ≡ None
-none-before o cs h k = ap (λ z. first_cause (z ∷ cs)) h ∙ k
-
--- an edit of which no cause holds has its spans
-pub accepted-spans : (t : List ℕ) (e : Edit) (rs : List Replacement) → IsAccepted t e rs → spans t e ≡ Ok rs
-accepted-spans t e rs A =
-    let ls = classed_lines t in
-    let none : first_cause (causes t ls e) ≡ None =
-    none-before _ _ A.arguments (none-before _ _ A.not_reserved (none-before _ _ A.prefix_read (none-before _ _ A.is_there
-    (none-before _ _ A.is_one (none-before _ _ A.not_led (none-before _ _ A.not_absent (none-before _ _ A.not_already
-    (none-before _ _ A.not_taken (none-before _ _ A.not_shared (none-before _ _ A.not_straddling (none-before _ _ A.value_closed
-    (none-before _ _ A.line_closed (none-before _ _ A.define_closed (none-before _ _ A.not_leaning (none-before _ _ A.not_long refl))))))))))))))) in
-    ap (λ o. unless_refused o (spans_of t ls e)) none ∙ ap Ok A.spans_are
-
 -- an address that is neither missing nor one of several means a line
 pub spot-picked : (nth : Option ℕ) (ss : List StandingLine) → is_missing nth ss ≡ false → is_several nth ss ≡ false → (s : StandingLine) × (picked nth ss ≡ Some s)
 spot-picked None [] h k = absurd (cc)
@@ -117,13 +102,11 @@ spot-picked (Some n) ss h k = go (nth_of n ss) refl h
     go (Some s) e h = (s, e)
 
 -- fields that pass their tests
-pub two-passed : (f g : Field) (x y : Bool) → first_failed (Tested f x ∷ Tested g y ∷ []) ≡ None → (x ≡ true) × (y ≡ true)
-two-passed f g true true h = (refl, refl)
-two-passed f g true false h = absurd (cc)
-two-passed f g false y h = absurd (cc)
+pub first-passed : (f : Field) (x : Bool) (ts : List FieldTest) → first_failed (Tested f x ∷ ts) ≡ None → (x ≡ true) × (first_failed ts ≡ None)
+first-passed f true ts h = (refl, h)
+first-passed f false ts h = absurd (cc)
 
-pub three-passed : (f g h : Field) (x y z : Bool) → first_failed (Tested f x ∷ Tested g y ∷ Tested h z ∷ []) ≡ None → (x ≡ true) × ((y ≡ true) × (z ≡ true))
-three-passed f g h true true true e = (refl, (refl, refl))
-three-passed f g h true true false e = absurd (cc)
-three-passed f g h true false z e = absurd (cc)
-three-passed f g h false y z e = absurd (cc)
+pub two-passed : (f g : Field) (x y : Bool) → first_failed (Tested f x ∷ Tested g y ∷ []) ≡ None → (x ≡ true) × (y ≡ true)
+two-passed f g x y h =
+    let p = first-passed f x (Tested g y ∷ []) h in
+    (p.0, (first-passed g y [] p.1).0)

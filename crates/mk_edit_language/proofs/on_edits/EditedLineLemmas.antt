@@ -1,48 +1,37 @@
 -- The lines after an edit of one place: for code that builds the bytes of its new line.
-use Rattle.std.proofs.Common.{◌≡◌, sym, ap, ◌∙◌, subst, arith, ℕ, ◌+◌, ◌-◌, List, [], ◌∷◌, ◌++◌, not, true, length, length-append, take, drop}
-use Rattle.std.specs.Prelude.{Ok, Some}
+use Rattle.std.proofs.Common.{◌≡◌, sym, ap, ◌∙◌, subst, arith, ℕ, ◌+◌, ◌-◌, List, [], ◌∷◌, ◌++◌, not, true, length, length-append, take, drop, refl, Option, Some, option_map}
+use Rattle.std.specs.Prelude.{Ok}
 use Rattle.std.proofs.lemmas.List.{append-nil, append_cancel_left}
 use Rattle.mk_lines.specs.LogicalLines.{logical_lines}
 use Rattle.mk_lines.proofs.on_lines.LineLemmas.{OneLine-logical}
 use Rattle.mk_lines.specs.Pieces.{Replacement, replaced, Piece, old_bytes, new_bytes, replacements}
 use Rattle.mk_lines.proofs.on_lists.PieceLemmas.{replaced-pieces}
-use Rattle.mk_class.specs.Classes.{is_conditional}
+use Rattle.mk_lines.specs.Cells.{Cell}
+use Rattle.mk_lines.specs.PhysicalLines.{line_end_bytes, file_line_end}
+use Rattle.mk_class.specs.declared.assignment.Flavor.{Flavor}
+use Rattle.mk_class.specs.Classes.{Class, is_conditional}
 use Rattle.mk_class.specs.ClassTable.{class_of}
-use Rattle.mk_class.specs.ClassedLines.{classed, classed_lines}
+use Rattle.mk_class.specs.ClassedLines.{ClassedLine, classed, classed_lines}
 use Rattle.mk_tree.specs.Documents.{text_of, context_of, AreUnconditional}
 use Rattle.mk_tree.specs.LineTexts.{line_in}
+use Rattle.mk_tree.specs.NewLineEnds.{above_ended}
+use Rattle.mk_edit_language.specs.NewLines.{assign_text}
 use Rattle.mk_tree.proofs.on_documents.LinesInText.{line-in_text}
-use Rattle.mk_edit_language.specs.Edits.{Edit, SetValue, AppendValue, AddWord, RemoveWord, ChangeValues, AddAssign, RemoveAssign, AddRule, RemoveRule, AddPrereq, RemovePrereq, AddRecipe, SetRecipe, RemoveRecipe, InsertRecipe, SetRecipeByText, RemoveRecipeByText, RenameTarget}
-use Rattle.mk_edit_language.specs.Stretches.{Stretch, insertion, touched_by}
-use Rattle.mk_edit_language.specs.EditedLines.{respanned_bytes, edited_bytes, edited_lines}
+use Rattle.mk_edit_language.specs.Edits.{NewAssign, Every, Place, Edit, ChangeValue, ChangePrereqs, AddLine, AddRecipe, SetRecipe, RemoveLines, RenameTarget}
+use Rattle.mk_edit_language.specs.Stretches.{Stretch, between, place_found, insertion, removal, touched_by}
+use Rattle.mk_edit_language.specs.KeptLines.{IsOfOnePlace, respanned_bytes, edited_bytes, edited_lines, above_after}
 use Rattle.mk_edit_language.specs.Refusals.{spans, text_after}
 use Rattle.mk_edit_language.specs.RisingSpans.{Rise}
 use Rattle.mk_edit_language.proofs.on_edits.RisingSpanLemmas.{Rise-until, Rise-pieces, Rise-within}
-use Rattle.mk_edit_language.specs.KeptLines.{AreOthersKept, above_after}
-use Rattle.mk_edit_language.proofs.on_edits.KeptLemmas.{edits-keep}
+use Rattle.mk_edit_language.proofs.on_edits.MadeEdits.{one_place-made}
 
 -- ---- the lines after it
 
 -- an edit that touches some lines is an edit of one place
-place-kept : (t : List ℕ) (e : Edit) (rs : List Replacement) (s : Stretch) → touched_by (classed_lines t) e ≡ Some s → spans t e ≡ Ok rs → AreOthersKept t e rs
-place-kept t (SetValue nth n v) rs s p h = edits-keep (SetValue nth n v) t rs h
-place-kept t (AppendValue nth n v) rs s p h = edits-keep (AppendValue nth n v) t rs h
-place-kept t (AddWord nth n w) rs s p h = edits-keep (AddWord nth n w) t rs h
-place-kept t (RemoveWord nth n w) rs s p h = edits-keep (RemoveWord nth n w) t rs h
-place-kept t (AddAssign q n f v) rs s p h = edits-keep (AddAssign q n f v) t rs h
-place-kept t (RemoveAssign nth n) rs s p h = edits-keep (RemoveAssign nth n) t rs h
-place-kept t (AddRule q ts c ws) rs s p h = edits-keep (AddRule q ts c ws) t rs h
-place-kept t (RemoveRule nth g) rs s p h = edits-keep (RemoveRule nth g) t rs h
-place-kept t (AddPrereq order nth g w) rs s p h = edits-keep (AddPrereq order nth g w) t rs h
-place-kept t (RemovePrereq nth g w) rs s p h = edits-keep (RemovePrereq nth g w) t rs h
-place-kept t (AddRecipe nth g c) rs s p h = edits-keep (AddRecipe nth g c) t rs h
-place-kept t (SetRecipe nth g k c) rs s p h = edits-keep (SetRecipe nth g k c) t rs h
-place-kept t (RemoveRecipe nth g k) rs s p h = edits-keep (RemoveRecipe nth g k) t rs h
-place-kept t (InsertRecipe nth g k c) rs s p h = edits-keep (InsertRecipe nth g k c) t rs h
-place-kept t (SetRecipeByText nth g o c) rs s p h = edits-keep (SetRecipeByText nth g o c) t rs h
-place-kept t (RemoveRecipeByText nth g o) rs s p h = edits-keep (RemoveRecipeByText nth g o) t rs h
-place-kept t (ChangeValues n c) rs s p h = absurd (cc)
-place-kept t (RenameTarget o n) rs s p h = absurd (cc)
+touched-of_one : (ls : List ClassedLine) (e : Edit) (s : Stretch) → touched_by ls e ≡ Some s → IsOfOnePlace e
+touched-of_one ls (ChangeValue Every n c) s p = absurd (cc)
+touched-of_one ls (RenameTarget o n) s p = absurd (cc)
+touched-of_one ls e s p = tt
 
 -- what is known of an edit by the lines that it touches
 pub record IsEdited (t : List ℕ) (e : Edit) (rs : List Replacement) (s : Stretch) : Type 0 where
@@ -54,7 +43,7 @@ pub record IsEdited (t : List ℕ) (e : Edit) (rs : List Replacement) (s : Stret
 
 pub edited : (t : List ℕ) (e : Edit) (rs : List Replacement) (s : Stretch) → touched_by (classed_lines t) e ≡ Some s → spans t e ≡ Ok rs → IsEdited t e rs s
 edited t e rs s p h =
-    let K = place-kept t e rs s p h in
+    let K = (one_place-made e (touched-of_one (classed_lines t) e s p) t rs h).kept in
     let q : Some K.touched ≡ Some s = sym K.place ∙ p in
     let same : K.touched ≡ s = cc in
     subst (IsEdited t e rs) same (record {
@@ -89,6 +78,26 @@ pub taken-out : (t : List ℕ) (e : Edit) (rs : List Replacement) (s : Stretch) 
     → classed_lines (text_after t e) ≡ above_after t (insertion (classed_lines t) e) s ++ s.below
 taken-out t e rs s p h b =
     (edited t e rs s p h).after ∙ ap (λ z. above_after t (insertion (classed_lines t) e) s ++ (classed (context_of s.above) z ++ s.below)) b
+
+-- an accepted edit that takes lines out leaves the others, each with its class
+pub removed-lines : (e : Edit) (t : List ℕ) (rs : List Replacement) (s : Stretch) → spans t e ≡ Ok rs → removal (classed_lines t) e ≡ Some s → classed_lines (text_after t e) ≡ s.above ++ s.below
+removed-lines (RemoveLines r) t rs s h k = taken-out t (RemoveLines r) rs s k h refl
+removed-lines (ChangeValue w n c) t rs s h k = absurd (cc)
+removed-lines (ChangePrereqs nth g c) t rs s h k = absurd (cc)
+removed-lines (AddLine p l) t rs s h k = absurd (cc)
+removed-lines (AddRecipe nth g p c) t rs s h k = absurd (cc)
+removed-lines (SetRecipe nth g w c) t rs s h k = absurd (cc)
+removed-lines (RenameTarget o n) t rs s h k = absurd (cc)
+
+-- ---- a new assignment
+
+pub new_assign-lines : (p : Place) (n : List ℕ) (f : Flavor) (v t : List ℕ) (rs : List Replacement) (s : Stretch) → spans t (AddLine p (NewAssign n f v)) ≡ Ok rs → place_found (classed_lines t) p ≡ Some s
+    → (k : Class Cell) × (classed_lines (text_after t (AddLine p (NewAssign n f v))) ≡ above_ended (file_line_end t) s.above s.below ++ record { bytes = assign_text n f v ++ line_end_bytes (file_line_end t); class = k } ∷ s.below)
+new_assign-lines p n f v t rs s h e =
+    let E = AddLine p (NewAssign n f v) in
+    let m = assign_text n f v ++ line_end_bytes (file_line_end t) in
+    let P = put-there t E rs (between s) m (ap (option_map between) e) h refl in
+    (class_of (context_of s.above) m, P.lines ∙ ap (λ (o : Option Stretch). above_after t o (between s) ++ line_in (context_of s.above) m ∷ s.below) e)
 
 -- ---- the bytes of touched lines with their spans replaced
 

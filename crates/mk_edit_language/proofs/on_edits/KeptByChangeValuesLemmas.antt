@@ -3,19 +3,18 @@ use Rattle.std.proofs.Common.{◌≡◌, refl, sym, ap, ◌∙◌, ℕ, List, []
 use Rattle.std.specs.Prelude.{Ok}
 use Rattle.mk_lines.specs.Pieces.{Replacement, replaced}
 use Rattle.mk_class.specs.ClassedLines.{classed_lines}
-use Rattle.mk_edit_language.specs.Edits.{ValueChange, ChangeValues}
-use Rattle.mk_edit_language.specs.ValueSpans.{assignment_spans}
-use Rattle.mk_edit_language.specs.ValueChanges.{is_changed, change_spans, changed_line_spans}
+use Rattle.mk_edit_language.specs.Edits.{Every, ValueChange, ChangeValue}
+use Rattle.mk_edit_language.specs.ValueChanges.{assignment_spans, is_changed, change_spans, changed_line_spans}
 use Rattle.mk_edit_language.specs.Refusals.{spans, text_by}
-use Rattle.mk_edit_language.specs.ChangedLines.{changed_bytes, IsLineChanged, AreOthersKeptByChangeValues}
+use Rattle.mk_edit_language.specs.LinesInPlace.{changed_bytes, IsLineChanged, AreOthersKeptByChangeValues}
 use Rattle.mk_edit_language.proofs.on_edits.Accepted.{accepted}
 use Rattle.mk_edit_language.proofs.on_edits.SpansRise.{rise-changed}
 use Rattle.mk_edit_language.proofs.on_edits.KeptApartLemmas.{apart-kept}
 use Rattle.mk_edit_language.proofs.on_changes.ChangeValuesLemmas.{change_values-text}
 
-pub change_values-keeps : (n : List ℕ) (c : ValueChange) (t : List ℕ) (rs : List Replacement) → spans t (ChangeValues n c) ≡ Ok rs → AreOthersKeptByChangeValues n c t rs
+pub change_values-keeps : (n : List ℕ) (c : ValueChange) (t : List ℕ) (rs : List Replacement) → spans t (ChangeValue Every n c) ≡ Ok rs → AreOthersKeptByChangeValues n c t rs
 change_values-keeps n c t rs h =
-    let e = ChangeValues n c in
+    let e = ChangeValue Every n c in
     let A = accepted t e rs h in
     let T = change_values-text n c t rs h in
     apart-kept t e rs (is_changed n c) (changed_line_spans n c) (changed_bytes n c) (IsLineChanged n c) T.made.after h (λ x l m r. r.in_place) (rise-changed n c)

@@ -22,7 +22,7 @@ use Rattle.mk_edit_language.proofs.on_edits.SpansRise.{rise-renamed}
 use Rattle.mk_edit_language.proofs.on_edits.KeptApartLemmas.{apart-kept}
 use Rattle.mk_edit_language.proofs.on_renames.RenamedTexts.{renamed_class, lines-renamed, line_pieces, line_class}
 use Rattle.mk_edit_language.proofs.on_renames.RenameTargetLemmas.{rename_target-words}
-use Rattle.mk_edit_language.specs.RenamedLines.{renamed_bytes, IsLineRenamed, AreLinesRenamedInPlace, AreOthersKeptByRenameTarget}
+use Rattle.mk_edit_language.specs.LinesInPlace.{renamed_bytes, IsLineRenamed, AreLinesRenamedInPlace, AreOthersKeptByRenameTarget}
 use Rattle.mk_edit_language.proofs.on_renames.RenamedHeaders.{none-replaced}
 
 -- ---- pieces of which none is replaced

@@ -126,12 +126,6 @@ replaced-append a b x y (r ∷ rs) qs h k =
 
 -- ---- which replacements rise
 
--- one, of a stretch of the text
-pub Rise-one : (p w q v : List ℕ) (t : List ℕ) (s e : ℕ) → t ≡ p ++ (w ++ q) → s ≡ length p → e ≡ s + length w → Rise 0 (length t) (record { start = s; end = e; new = v } ∷ [])
-Rise-one p w q v t s e h i j =
-    let n : length t ≡ length p + (length w + length q) = ap length h ∙ (length-append p (w ++ q) ∙ ap (λ z. length p + z) (length-append w q)) in
-    (omega arith, omega (arith, j), omega (arith, n, i, j))
-
 -- the replacements that pieces are
 pub Rise-pieces : (at : ℕ) (ps : List Piece) → Rise at (at + length (old_bytes ps)) (replacements at ps)
 Rise-pieces at [] = omega arith

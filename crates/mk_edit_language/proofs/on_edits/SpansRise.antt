@@ -1,5 +1,5 @@
 -- The spans of each edit rise within the text and do not overlap.
-use Rattle.std.proofs.Common.{◌≡◌, refl, sym, ap, ◌∙◌, subst, arith, ℕ, List, [], ◌∷◌, ◌++◌, Bool, true, false, cond, length, length-append, append_assoc, ◌+◌, ◌≤◌, Option, Some, None}
+use Rattle.std.proofs.Common.{◌≡◌, refl, sym, ap, ◌∙◌, subst, arith, ℕ, List, [], ◌∷◌, ◌++◌, Bool, true, false, cond, length, length-append, append_assoc, ◌+◌, ◌≤◌, Option, Some, None, option_map}
 use Rattle.std.proofs.lemmas.Bool.{eqb-true}
 use Rattle.std.proofs.lemmas.List.{append-nil}
 use Rattle.std.specs.Prelude.{Ok, codes}
@@ -30,57 +30,27 @@ use Rattle.mk_tree.specs.Documents.{text_of, context_of}
 use Rattle.mk_tree.proofs.on_documents.LinesInText.{line-in_text, run-in_text, AreClassed, AreClassed-class, AreClassed-tail, AreClassed-lines}
 use Rattle.mk_tree.proofs.on_documents.DocumentLemmas.{text_of-classed_lines}
 use Rattle.mk_tree.specs.LineTexts.{StandingLine}
-use Rattle.mk_edit_language.specs.Edits.{ValueChange, Set, Append, Add, Remove, Edit, SetValue, AppendValue, AddWord, RemoveWord, ChangeValues, AddAssign, RemoveAssign, AddRule, RemoveRule, AddPrereq, RemovePrereq, AddRecipe, SetRecipe, RemoveRecipe, InsertRecipe, SetRecipeByText, RemoveRecipeByText, RenameTarget}
+use Rattle.mk_edit_language.specs.Edits.{ValueChange, Set, Append, Add, Remove, One, Every, PrereqChange, AddPrereq, RemovePrereq, Edit, ChangeValue, ChangePrereqs, AddLine, AddRecipe, SetRecipe, RemoveLines, RenameTarget}
 use Rattle.mk_edit_language.specs.Addresses.{Variable, Rule, found}
-use Rattle.mk_edit_language.specs.Stretches.{Stretch, insertion, removal, recipe_found, IsStretchOf, text_number}
+use Rattle.mk_edit_language.specs.Stretches.{Stretch, this_line, between, place_found, recipe_place, recipe_found, touched_by}
 use Rattle.mk_edit_language.specs.NewLines.{new_line_span}
-use Rattle.mk_edit_language.specs.ValueSpans.{value_start, value_span, value_spans, set_value_span, append_value_span, assignment_span, assignment_spans}
-use Rattle.mk_edit_language.specs.ValueWords.{LedWord, led_words_among, led_words, staying, led_units, from_first_word, remove_word_pieces, remove_word_spans}
+use Rattle.mk_edit_language.specs.ValueChanges.{value_start, value_spans, set_value_span, append_value_span, assignment_spans, LedWord, led_words_among, led_words, staying, led_units, from_first_word, remove_word_pieces, remove_word_spans, is_class_changed, change_spans, changed_line_spans}
 use Rattle.mk_edit_language.proofs.on_values.RemoveWordLemmas.{remove_word-old}
 use Rattle.mk_edit_language.specs.WordPieces.{add_pieces, remove_pieces, rename_pieces, renamed_pieces, header_pieces, kept, put_last, prerequisite_text, removed_words, renamed_words}
 use Rattle.mk_edit_language.proofs.on_prerequisites.WordsRemoved.{removed-old_cells}
-use Rattle.mk_edit_language.specs.ValueChanges.{is_class_changed, change_spans, changed_line_spans}
-use Rattle.mk_edit_language.specs.EditSpans.{removed_span, header_spans, word_spans, spans_in_lines, renamed_line_spans, recipe_span, where_found, spans_of}
+use Rattle.mk_edit_language.specs.EditSpans.{removed_span, header_spans, word_spans, prereq_pieces, spans_in_lines, renamed_line_spans, recipe_span, where_found, spans_of}
 use Rattle.mk_edit_language.specs.Refusals.{spans, text_by, text_after}
 use Rattle.mk_edit_language.proofs.on_edits.Accepted.{accepted}
 use Rattle.mk_edit_language.specs.RisingSpans.{Rise, IsReplacedAt}
-use Rattle.mk_edit_language.proofs.on_edits.RisingSpanLemmas.{Rise-until, Rise-since, Rise-append, Rise-one, Rise-pieces, Rise-replaced}
+use Rattle.mk_edit_language.proofs.on_edits.RisingSpanLemmas.{Rise-until, Rise-since, Rise-append, Rise-pieces, Rise-replaced}
 use Rattle.mk_edit_language.proofs.on_recipes.RecipeClassLemmas.{recipe-stands}
+use Rattle.mk_edit_language.proofs.on_lines.SpotLemmas.{recipe_found-is}
 use Rattle.mk_edit_language.proofs.on_lines.PrefixLemmas.{CanBegin, context-can_begin}
-use Rattle.mk_edit_language.proofs.on_edits.EditPlaces.{IsSpotOf, found-spot, recipe_found-spot, recipe_found-recipe, insertion-stretch, removal-stretch}
+use Rattle.mk_edit_language.proofs.on_edits.EditPlaces.{IsSpotOf, found-spot, touched-stretch}
 use Rattle.mk_edit_language.proofs.on_lines.ClassParts.{part_units, parts-within, raw_width-append}
 use Rattle.mk_edit_language.proofs.on_renames.WordsRenamed.{renamed-old_cells}
 
--- spans that rise within a text
-abbrev RiseIn : List ℕ → List Replacement → Type 0
-RiseIn t rs = Rise 0 (length t) rs
-
--- the spans of what is found rise, if those of each thing that may be found do
-rise-found : {A : Type 0} (t : List ℕ) (f : A → List Replacement) (o : Option A) → ((x : A) → o ≡ Some x → RiseIn t (f x)) → RiseIn t (where_found f o)
-rise-found t f None h = omega arith
-rise-found t f (Some x) h = h x refl
-
--- ---- stretches of lines
-
-rise-removed : (t : List ℕ) (s : Stretch) → IsStretchOf (classed_lines t) s → RiseIn t (removed_span s)
-rise-removed t s h =
-    Rise-one (text_of s.above) (text_of s.lines) (text_of s.below) [] t (length (text_of s.above)) (length (text_of s.above) + length (text_of s.lines)) (run-in_text t s.above s.lines s.below h).text refl refl
-
-rise-inserted : (t : List ℕ) (e : Edit) (s : Stretch) → IsStretchOf (classed_lines t) s → RiseIn t (new_line_span t e s)
-rise-inserted t e s h =
-    let at = length (text_of s.above) in
-    let e : length t ≡ at + length (text_of s.lines ++ text_of s.below) = ap length (run-in_text t s.above s.lines s.below h).text ∙ length-append (text_of s.above) (text_of s.lines ++ text_of s.below) in
-    (omega arith, omega arith, omega (arith, e))
-
 -- ---- inside a line
-
--- what a line and the lines above it have together is within the text
-line-within : (t : List ℕ) (s : StandingLine) → IsSpotOf (classed_lines t) s → length (text_of s.above) + length s.line.bytes ≤ length t
-line-within t s h =
-    let P = line-in_text t s.above s.line s.below h in
-    let e : length t ≡ length (text_of s.above) + (length s.line.bytes + length (text_of s.below)) =
-    ap length P.text ∙ (length-append (text_of s.above) (s.line.bytes ++ text_of s.below) ∙ ap (λ z. length (text_of s.above) + z) (length-append s.line.bytes (text_of s.below))) in
-    omega (arith, e)
 
 -- the parts of a line have at most as many raw bytes as the line
 spot-parts : (t : List ℕ) (s : StandingLine) → IsSpotOf (classed_lines t) s → raw_width (part_units s.line.class) ≤ length s.line.bytes
@@ -96,14 +66,11 @@ assignment-length a =
     ap raw_width s ∙ (raw_width-append (before_value a) (a.value ++ a.after) ∙ ap (λ z. raw_width (before_value a) + z) (raw_width-append a.value a.after))
 
 -- spans that rise within each line which has an assignment
-abbrev pub RiseInAssignment : (ℕ → Assignment Cell → List Replacement) → Type 0
+abbrev RiseInAssignment : (ℕ → Assignment Cell → List Replacement) → Type 0
 RiseInAssignment f = (at : ℕ) (a : Assignment Cell) (n : ℕ) → raw_width (assignment_units a) ≤ n → Rise at (at + n) (f at a)
 
-abbrev pub RisesInAssignment : (ℕ → Assignment Cell → Replacement) → Type 0
-RisesInAssignment f = RiseInAssignment (λ n a. f n a ∷ [])
-
 -- the value that is set
-pub set_value-rises : (v : List ℕ) → RisesInAssignment (set_value_span v)
+set_value-rises : (v : List ℕ) → RiseInAssignment (λ n a. set_value_span v n a ∷ [])
 set_value-rises v at a n h = go (is_empty v) (assignment-length a)
   where
     go : (b : Bool) → raw_width (assignment_units a) ≡ raw_width (before_value a) + (raw_width a.value + raw_width a.after)
@@ -112,7 +79,7 @@ set_value-rises v at a n h = go (is_empty v) (assignment-length a)
     go false e = (omega arith, omega arith, omega (arith, e, h))
 
 -- what is appended to it
-pub append_value-rises : (v : List ℕ) → RisesInAssignment (append_value_span v)
+append_value-rises : (v : List ℕ) → RiseInAssignment (λ n a. append_value_span v n a ∷ [])
 append_value-rises v at a n h = let e = assignment-length a in (omega arith, omega arith, omega (arith, e, h))
 
 -- the words that go
@@ -131,7 +98,7 @@ from_first-width : (ls : List LedWord) → raw_width (from_first_word ls) ≤ ra
 from_first-width [] = omega arith
 from_first-width (l ∷ ls) = let p = raw_width-append l.gaps (l.word ++ led_units ls) in omega (arith, p)
 
-pub remove_word-rises : (w : List ℕ) → RiseInAssignment (remove_word_spans w)
+remove_word-rises : (w : List ℕ) → RiseInAssignment (remove_word_spans w)
 remove_word-rises w at a n h = go (is_empty (staying w (led_words a.value)))
   where
     ps : List Piece
@@ -169,33 +136,15 @@ rise-values f g at n (TargetAssign x) h = omega arith
 rise-values f g at n Rough h = omega arith
 rise-values f g at n (Header x) h = omega arith
 
-rise-value : (f : ℕ → Assignment Cell → Replacement) → RisesInAssignment f → RisesInLine (assignment_span f)
-rise-value f g = rise-values (λ n a. f n a ∷ []) g
-
 -- spans in the line of a spot
 pub spot-rises : (t : List ℕ) (s : StandingLine) (f : ℕ → Class Cell → List Replacement) → IsSpotOf (classed_lines t) s → RisesInLine f
     → Rise (length (text_of s.above)) (length (text_of s.above) + length s.line.bytes) (f (length (text_of s.above)) s.line.class)
 spot-rises t s f h g = g (length (text_of s.above)) (length s.line.bytes) s.line.class (spot-parts t s h)
 
-rise-spot : (t : List ℕ) (s : StandingLine) (f : ℕ → Class Cell → List Replacement) → IsSpotOf (classed_lines t) s → RisesInLine f → RiseIn t (f (length (text_of s.above)) s.line.class)
-rise-spot t s f h g =
-    let at = length (text_of s.above) in
-    let rs = f at s.line.class in
-    Rise-since 0 at (length t) rs (Rise-until at (at + length s.line.bytes) (length t) rs (spot-rises t s f h g) (line-within t s h)) (omega arith)
-
--- the spans of a value in the line of a spot
-pub values-rise : (t : List ℕ) (s : StandingLine) (f : ℕ → Assignment Cell → List Replacement) → IsSpotOf (classed_lines t) s → RiseInAssignment f
-    → Rise (length (text_of s.above)) (length (text_of s.above) + length s.line.bytes) (value_spans f s)
-values-rise t s f h g = spot-rises t s (assignment_spans f) h (rise-values f g)
-
-pub value-rises : (t : List ℕ) (s : StandingLine) (f : ℕ → Assignment Cell → Replacement) → IsSpotOf (classed_lines t) s → RisesInAssignment f
-    → Rise (length (text_of s.above)) (length (text_of s.above) + length s.line.bytes) (value_span f s)
-value-rises t s f h g = values-rise t s (λ n a. f n a ∷ []) h g
-
 -- ---- words
 
 -- how many bytes pieces have before
-abbrev pub old_length : List Piece → ℕ
+abbrev old_length : List Piece → ℕ
 old_length ps = length (old_bytes ps)
 
 old_length-append : (ps qs : List Piece) → old_length (ps ++ qs) ≡ old_length ps + old_length qs
@@ -252,10 +201,10 @@ header-length h t n o i j k =
 rename-length : (o n : List ℕ) (h : Headers.Header Cell) → old_length (rename_pieces o n h) ≡ raw_width (header_units h)
 rename-length o n h = header-length h (renamed_words o n h.targets) (renamed_words o n h.normal) (renamed_words o n h.order_only) (renamed-length o n h.targets) (renamed-length o n h.normal) (renamed-length o n h.order_only)
 
-pub remove-length : (w : List ℕ) (h : Headers.Header Cell) → old_length (remove_pieces w h) ≡ raw_width (header_units h)
+remove-length : (w : List ℕ) (h : Headers.Header Cell) → old_length (remove_pieces w h) ≡ raw_width (header_units h)
 remove-length w h = header-length h (kept h.targets) (removed_words w h.normal) (removed_words w h.order_only) (kept-length h.targets) (removed-length w h.normal) (removed-length w h.order_only)
 
-pub add-length : (order : Bool) (w : List ℕ) (h : Headers.Header Cell) → old_length (add_pieces order w h) ≡ raw_width (header_units h)
+add-length : (order : Bool) (w : List ℕ) (h : Headers.Header Cell) → old_length (add_pieces order w h) ≡ raw_width (header_units h)
 add-length false w h = header-length h (kept h.targets) (put_last (prerequisite_text w h) h.normal) (kept h.order_only) (kept-length h.targets) (put_last-length (prerequisite_text w h) h.normal) (kept-length h.order_only)
 add-length true w h = go (is_empty h.bar)
   where
@@ -263,7 +212,11 @@ add-length true w h = go (is_empty h.bar)
     go true = header-length h (kept h.targets) (put_last (codes " | " ++ w) h.normal) (kept h.order_only) (kept-length h.targets) (put_last-length (codes " | " ++ w) h.normal) (kept-length h.order_only)
     go false = header-length h (kept h.targets) (kept h.normal) (put_last (32 ∷ w) h.order_only) (kept-length h.targets) (kept-length h.normal) (put_last-length (32 ∷ w) h.order_only)
 
-pub rise-header : (f : Headers.Header Cell → List Piece) → ((h : Headers.Header Cell) → old_length (f h) ≡ raw_width (header_units h)) → RisesInLine (header_spans f)
+prereq-length : (c : PrereqChange) (h : Headers.Header Cell) → old_length (prereq_pieces c h) ≡ raw_width (header_units h)
+prereq-length (AddPrereq order w) h = add-length order w h
+prereq-length (RemovePrereq w) h = remove-length w h
+
+rise-header : (f : Headers.Header Cell → List Piece) → ((h : Headers.Header Cell) → old_length (f h) ≡ raw_width (header_units h)) → RisesInLine (header_spans f)
 rise-header f g at n (Header x) h = Rise-until at (at + old_length (f x)) (at + n) (replacements at (f x)) (Rise-pieces at (f x)) (omega (arith, g x, h))
 rise-header f g at n Endef h = omega arith
 rise-header f g at n (Body d) h = omega arith
@@ -335,7 +288,7 @@ rise-lines f g c (l ∷ ls) at h =
     (rise-in_line f g c l ls at h)
     (subst (λ z. Rise m z (spans_in_lines f m ls)) e (rise-lines f g (context_after c l.class) ls m (AreClassed-tail c l ls h)))
 
-rise-all_lines : (f : ℕ → Class Cell → List Replacement) → RisesInLine f → (t : List ℕ) → RiseIn t (spans_in_lines f 0 (classed_lines t))
+rise-all_lines : (f : ℕ → Class Cell → List Replacement) → RisesInLine f → (t : List ℕ) → Rise 0 (length t) (spans_in_lines f 0 (classed_lines t))
 rise-all_lines f g t =
     let ls = classed_lines t in
     Rise-until 0 (0 + length (text_of ls)) (length t) (spans_in_lines f 0 ls) (rise-lines f g start ls 0 (AreClassed-lines t ls refl)) (omega (arith, ap length (text_of-classed_lines t)))
@@ -354,7 +307,7 @@ some-text p (b ∷ r) h k = go (without_line_end (b ∷ r)) (line_end (b ∷ r))
     go [] ends.CrLf i n = absurd (let z : 13 ≡ b = cc in let w : is_barred_byte 13 ≡ false = subst (λ q. is_barred_byte q ≡ false) (sym z) n in cc)
 
 -- the text of a recipe line
-pub recipe-rises : (t c : List ℕ) (s : StandingLine) → IsSpotOf (classed_lines t) s → is_recipe s.line.class ≡ true
+recipe-rises : (t c : List ℕ) (s : StandingLine) → IsSpotOf (classed_lines t) s → is_recipe s.line.class ≡ true
     → Rise (length (text_of s.above)) (length (text_of s.above) + length s.line.bytes) (recipe_span c s)
 recipe-rises t c s h r =
     let P = line-in_text t s.above s.line s.below h in
@@ -365,51 +318,73 @@ recipe-rises t c s h r =
     ap length (sym (without_line_end-line_end s.line.bytes)) ∙ length-append (without_line_end s.line.bytes) (line_end_bytes (line_end s.line.bytes)) in
     (omega arith, omega (arith, text), omega (arith, whole))
 
-rise-recipe : (t c : List ℕ) (s : StandingLine) → IsSpotOf (classed_lines t) s → is_recipe s.line.class ≡ true → RiseIn t (recipe_span c s)
-rise-recipe t c s h r =
-    let at = length (text_of s.above) in
-    Rise-since 0 at (length t) (recipe_span c s) (Rise-until at (at + length s.line.bytes) (length t) (recipe_span c s) (recipe-rises t c s h r) (line-within t s h)) (omega arith)
-
 -- ---- each edit
 
+-- spans that rise within a stretch of lines
+abbrev RiseWithin : Stretch → List Replacement → Type 0
+RiseWithin s rs = Rise (length (text_of s.above)) (length (text_of s.above) + length (text_of s.lines)) rs
+
+-- the spans of what is found rise within its stretch, if those of each thing that may be found do
+within-found : {A : Type 0} (f : A → List Replacement) (g : A → Stretch) (o : Option A) → ((x : A) → o ≡ Some x → RiseWithin (g x) (f x)) → (s : Stretch) → option_map g o ≡ Some s → RiseWithin s (where_found f o)
+within-found f g None h s e = absurd (cc)
+within-found f g (Some x) h s e = let k : g x ≡ s = cc in subst (λ (z : Stretch). RiseWithin z (f x)) k (h x refl)
+
+within-line : (s : StandingLine) (rs : List Replacement) → Rise (length (text_of s.above)) (length (text_of s.above) + length s.line.bytes) rs → RiseWithin (this_line s) rs
+within-line s rs r = subst (λ q. Rise (length (text_of s.above)) (length (text_of s.above) + length q) rs) (sym (append-nil s.line.bytes)) r
+
+-- the spans of an edit of one place rise within the lines that it touches
+pub spans-within : (t : List ℕ) (e : Edit) (s : Stretch) → touched_by (classed_lines t) e ≡ Some s → RiseWithin s (spans_of t (classed_lines t) e)
+spans-within t (ChangeValue (One nth) n c) s h =
+    let a = Variable nth n in
+    within-found (value_spans (change_spans c)) this_line (found (classed_lines t) a)
+    (λ x i. within-line x (value_spans (change_spans c) x) (spot-rises t x (assignment_spans (change_spans c)) (found-spot (classed_lines t) a x i) (rise-values (change_spans c) (change-rises c)))) s h
+spans-within t (ChangePrereqs nth g c) s h =
+    let a = Rule nth g in
+    within-found (word_spans (prereq_pieces c)) this_line (found (classed_lines t) a)
+    (λ x i. within-line x (word_spans (prereq_pieces c) x) (spot-rises t x (header_spans (prereq_pieces c)) (found-spot (classed_lines t) a x i) (rise-header (prereq_pieces c) (prereq-length c)))) s h
+spans-within t (AddLine p l) s h = within-found (new_line_span t (AddLine p l)) between (place_found (classed_lines t) p) (λ x i. (omega arith, omega arith, omega arith)) s h
+spans-within t (AddRecipe nth g p c) s h = within-found (new_line_span t (AddRecipe nth g p c)) between (recipe_place (classed_lines t) nth g p) (λ x i. (omega arith, omega arith, omega arith)) s h
+spans-within t (SetRecipe nth g w c) s h =
+    within-found (recipe_span c) this_line (recipe_found (classed_lines t) nth g w)
+    (λ x i. let r = recipe_found-is (classed_lines t) nth g w x i in within-line x (recipe_span c x) (recipe-rises t c x r.whole r.passes)) s h
+spans-within t (RemoveLines r) s h = subst (λ (o : Option Stretch). RiseWithin s (where_found removed_span o)) (sym h) (omega arith, omega arith, omega arith)
+spans-within t (ChangeValue Every n c) s h = absurd (cc)
+spans-within t (RenameTarget o n) s h = absurd (cc)
+
+-- so they rise within the text
+rise-touched : (t : List ℕ) (rs : List Replacement) (s : Stretch) → classed_lines t ≡ s.above ++ (s.lines ++ s.below) → RiseWithin s rs → Rise 0 (length t) rs
+rise-touched t rs s h r =
+    let at = length (text_of s.above) in
+    let n = length (text_of s.lines) in
+    let e : length t ≡ at + (n + length (text_of s.below)) =
+    ap length (run-in_text t s.above s.lines s.below h).text ∙ (length-append (text_of s.above) (text_of s.lines ++ text_of s.below) ∙ ap (λ z. at + z) (length-append (text_of s.lines) (text_of s.below))) in
+    Rise-since 0 at (length t) rs (Rise-until at (at + n) (length t) rs r (omega (arith, e))) (omega arith)
+
+-- an edit of one place that touches no lines has no spans
+no-spans : {A B : Type 0} (f : A → List Replacement) (g : A → B) (o : Option A) → option_map g o ≡ None → where_found f o ≡ []
+no-spans f g None e = refl
+no-spans f g (Some x) e = absurd (cc)
+
+rise-one_place : (t : List ℕ) (e : Edit) → (touched_by (classed_lines t) e ≡ None → spans_of t (classed_lines t) e ≡ []) → Rise 0 (length t) (spans_of t (classed_lines t) e)
+rise-one_place t e none = go (touched_by (classed_lines t) e) refl
+  where
+    go : (o : Option Stretch) → touched_by (classed_lines t) e ≡ o → Rise 0 (length t) (spans_of t (classed_lines t) e)
+    go None h = subst (Rise 0 (length t)) (sym (none h)) (omega arith)
+    go (Some s) h = rise-touched t _ s (touched-stretch (classed_lines t) e s h) (spans-within t e s h)
+
 -- the spans of each edit rise within the text
-pub spans-rise : (t : List ℕ) (e : Edit) → RiseIn t (spans_of t (classed_lines t) e)
-spans-rise t (SetValue nth n v) = rise-found t (value_span (set_value_span v)) (found (classed_lines t) (Variable nth n))
-    (λ s i. rise-spot t s (assignment_span (set_value_span v)) (found-spot (classed_lines t) (Variable nth n) s i) (rise-value (set_value_span v) (set_value-rises v)))
-spans-rise t (AppendValue nth n v) = rise-found t (value_span (append_value_span v)) (found (classed_lines t) (Variable nth n))
-    (λ s i. rise-spot t s (assignment_span (append_value_span v)) (found-spot (classed_lines t) (Variable nth n) s i) (rise-value (append_value_span v) (append_value-rises v)))
-spans-rise t (AddWord nth n w) = rise-found t (value_span (append_value_span w)) (found (classed_lines t) (Variable nth n))
-    (λ s i. rise-spot t s (assignment_span (append_value_span w)) (found-spot (classed_lines t) (Variable nth n) s i) (rise-value (append_value_span w) (append_value-rises w)))
-spans-rise t (RemoveWord nth n w) = rise-found t (value_spans (remove_word_spans w)) (found (classed_lines t) (Variable nth n))
-    (λ s i. rise-spot t s (assignment_spans (remove_word_spans w)) (found-spot (classed_lines t) (Variable nth n) s i) (rise-values (remove_word_spans w) (remove_word-rises w)))
-spans-rise t (AddAssign p n f v) = rise-found t (new_line_span t (AddAssign p n f v)) (insertion (classed_lines t) (AddAssign p n f v))
-    (λ s i. rise-inserted t (AddAssign p n f v) s (insertion-stretch (classed_lines t) (AddAssign p n f v) s i))
-spans-rise t (RemoveAssign nth n) = rise-found t removed_span (removal (classed_lines t) (RemoveAssign nth n)) (λ s i. rise-removed t s (removal-stretch (classed_lines t) (RemoveAssign nth n) s i))
-spans-rise t (AddRule p ts c ws) = rise-found t (new_line_span t (AddRule p ts c ws)) (insertion (classed_lines t) (AddRule p ts c ws))
-    (λ s i. rise-inserted t (AddRule p ts c ws) s (insertion-stretch (classed_lines t) (AddRule p ts c ws) s i))
-spans-rise t (RemoveRule nth g) = rise-found t removed_span (removal (classed_lines t) (RemoveRule nth g)) (λ s i. rise-removed t s (removal-stretch (classed_lines t) (RemoveRule nth g) s i))
-spans-rise t (AddPrereq order nth g w) = rise-found t (word_spans (add_pieces order w)) (found (classed_lines t) (Rule nth g))
-    (λ s i. rise-spot t s (header_spans (add_pieces order w)) (found-spot (classed_lines t) (Rule nth g) s i) (rise-header (add_pieces order w) (add-length order w)))
-spans-rise t (RemovePrereq nth g w) = rise-found t (word_spans (remove_pieces w)) (found (classed_lines t) (Rule nth g))
-    (λ s i. rise-spot t s (header_spans (remove_pieces w)) (found-spot (classed_lines t) (Rule nth g) s i) (rise-header (remove_pieces w) (remove-length w)))
-spans-rise t (AddRecipe nth g c) = rise-found t (new_line_span t (AddRecipe nth g c)) (insertion (classed_lines t) (AddRecipe nth g c))
-    (λ s i. rise-inserted t (AddRecipe nth g c) s (insertion-stretch (classed_lines t) (AddRecipe nth g c) s i))
-spans-rise t (SetRecipe nth g k c) = rise-found t (recipe_span c) (recipe_found (classed_lines t) nth g k)
-    (λ s i. rise-recipe t c s (recipe_found-spot (classed_lines t) nth g k s i) (recipe_found-recipe (classed_lines t) nth g k s i))
-spans-rise t (RemoveRecipe nth g k) = rise-found t removed_span (removal (classed_lines t) (RemoveRecipe nth g k)) (λ s i. rise-removed t s (removal-stretch (classed_lines t) (RemoveRecipe nth g k) s i))
-spans-rise t (InsertRecipe nth g k c) = rise-found t (new_line_span t (InsertRecipe nth g k c)) (insertion (classed_lines t) (InsertRecipe nth g k c))
-    (λ s i. rise-inserted t (InsertRecipe nth g k c) s (insertion-stretch (classed_lines t) (InsertRecipe nth g k c) s i))
-spans-rise t (SetRecipeByText nth g o c) =
-    let ls = classed_lines t in
-    let k = text_number ls nth g o in
-    rise-found t (recipe_span c) (recipe_found ls nth g k) (λ s i. rise-recipe t c s (recipe_found-spot ls nth g k s i) (recipe_found-recipe ls nth g k s i))
-spans-rise t (RemoveRecipeByText nth g o) =
-    rise-found t removed_span (removal (classed_lines t) (RemoveRecipeByText nth g o)) (λ s i. rise-removed t s (removal-stretch (classed_lines t) (RemoveRecipeByText nth g o) s i))
-spans-rise t (ChangeValues n c) = rise-all_lines (changed_line_spans n c) (rise-changed n c) t
+pub spans-rise : (t : List ℕ) (e : Edit) → Rise 0 (length t) (spans_of t (classed_lines t) e)
+spans-rise t (ChangeValue (One nth) n c) = rise-one_place t (ChangeValue (One nth) n c) (no-spans (value_spans (change_spans c)) this_line (found (classed_lines t) (Variable nth n)))
+spans-rise t (ChangePrereqs nth g c) = rise-one_place t (ChangePrereqs nth g c) (no-spans (word_spans (prereq_pieces c)) this_line (found (classed_lines t) (Rule nth g)))
+spans-rise t (AddLine p l) = rise-one_place t (AddLine p l) (no-spans (new_line_span t (AddLine p l)) between (place_found (classed_lines t) p))
+spans-rise t (AddRecipe nth g p c) = rise-one_place t (AddRecipe nth g p c) (no-spans (new_line_span t (AddRecipe nth g p c)) between (recipe_place (classed_lines t) nth g p))
+spans-rise t (SetRecipe nth g w c) = rise-one_place t (SetRecipe nth g w c) (no-spans (recipe_span c) this_line (recipe_found (classed_lines t) nth g w))
+spans-rise t (RemoveLines r) = rise-one_place t (RemoveLines r) (ap (where_found removed_span))
+spans-rise t (ChangeValue Every n c) = rise-all_lines (changed_line_spans n c) (rise-changed n c) t
 spans-rise t (RenameTarget o n) = rise-all_lines (renamed_line_spans o n) (rise-renamed o n) t
 
 -- The law: of an accepted edit the spans rise within the text, and the bytes outside them are as before.
 pub only_spans-replaced : (t : List ℕ) (e : Edit) (rs : List Replacement) → spans t e ≡ Ok rs → IsReplacedAt t (text_after t e) rs
 only_spans-replaced t e rs h =
-    let r : RiseIn t rs = subst (RiseIn t) (accepted t e rs h).spans_are (spans-rise t e) in
+    let r : Rise 0 (length t) rs = subst (Rise 0 (length t)) (accepted t e rs h).spans_are (spans-rise t e) in
     subst (λ z. IsReplacedAt t z rs) (sym (ap (text_by t) h)) (Rise-replaced t rs r)

@@ -1,5 +1,5 @@
 -- What an address means is a line of the text that passes its test.
-use Rattle.std.proofs.Common.{◌≡◌, refl, sym, ap, ◌∙◌, subst, ℕ, List, [], ◌∷◌, ◌++◌, map, Bool, true, false, not, Option, Some, None, zero, suc, take, length, append_assoc, is_some}
+use Rattle.std.proofs.Common.{◌≡◌, refl, sym, ap, ◌∙◌, subst, ℕ, List, [], ◌∷◌, ◌++◌, map, Bool, true, false, not, Option, Some, None, zero, suc, take, length, append_assoc, is_some, filter, cond}
 use Rattle.std.specs.Prelude.{option_and_then}
 use Rattle.mk_lines.specs.Cells.{Cell}
 use Rattle.mk_class.specs.Headers.{Header}
@@ -7,10 +7,13 @@ use Rattle.mk_class.specs.Classes.{Class, is_recipe}
 use Rattle.mk_class.specs.ClassedLines.{ClassedLine}
 use Rattle.mk_tree.specs.RecipeLines.{recipe_lines}
 use Rattle.mk_tree.specs.LineTexts.{StandingLine}
+use Rattle.mk_edit_language.specs.Edits.{RecipeLine, ByNumber, ByText}
 use Rattle.mk_edit_language.specs.Addresses.{Rule, is_rule_for, found}
 use Rattle.mk_edit_language.specs.AddressCauses.{is_missing, is_several}
-use Rattle.mk_edit_language.specs.Stretches.{below_header, recipe_spots, recipe_spot, recipe_found}
-use Rattle.mk_edit_language.proofs.on_edits.Accepted.{spot-picked}
+use Rattle.mk_edit_language.specs.RuleCauses.{not_one, no_recipe}
+use Rattle.mk_edit_language.specs.declared.refusal.Refusal.TheVariants.{Absent}
+use Rattle.mk_edit_language.specs.Stretches.{below_header, has_text, recipe_spots, recipe_spot, recipe_found, recipes_found}
+use Rattle.mk_edit_language.proofs.on_edits.Accepted.{spot-picked, where_holds-none}
 use Rattle.mk_edit_language.specs.Spots.{spots, spot_if, under, nth_of, picked}
 
 -- a spot of some lines, whose line passes the test
@@ -69,40 +72,66 @@ below-spots test ls h (s ∷ ss) e k = (
   below-spots test ls h ss e k.1,
 )
 
--- a recipe line of a header is a spot of the text
-pub recipe_spot-is : (ls : List ClassedLine) (h : StandingLine) (k : ℕ) (s : StandingLine) → ls ≡ h.above ++ h.line ∷ h.below → recipe_spot k h ≡ Some s → IsSpot (λ l. is_recipe l.class) ls s
-recipe_spot-is ls h k s e i =
-    let ss = spots (λ l. is_recipe l.class) h.below in
-    let n = length (recipe_lines h.below) in
-    nth-is (λ l. is_recipe l.class) ls k (recipe_spots h) s
-    (below-spots (λ l. is_recipe l.class) ls h (take n ss) e (take-spots (λ l. is_recipe l.class) h.below n ss (spots-are (λ l. is_recipe l.class) h.below))) i
+filter-spots : (test : ClassedLine → Bool) (ls : List ClassedLine) (p : StandingLine → Bool) (ss : List StandingLine) → AreSpots test ls ss → AreSpots test ls (filter p ss)
+filter-spots test ls p [] h = tt
+filter-spots test ls p (s ∷ ss) h = go (p s) (filter-spots test ls p ss h.1)
+  where
+    go : (b : Bool) → AreSpots test ls (filter p ss) → AreSpots test ls (cond b (s ∷ filter p ss) (filter p ss))
+    go true k = (h.0, k)
+    go false k = k
 
--- the recipe line that a rule and a number mean
-pub record FoundRecipe (ls : List ClassedLine) (nth : Option ℕ) (t : List ℕ) (k : ℕ) : Type 0 where
+-- a recipe line of a header is a spot of the text
+pub recipe_spot-is : (ls : List ClassedLine) (h : StandingLine) (w : RecipeLine) (s : StandingLine) → ls ≡ h.above ++ h.line ∷ h.below → recipe_spot w h ≡ Some s → IsSpot (λ l. is_recipe l.class) ls s
+recipe_spot-is ls h w s e i = meant w i
+  where
+    are : AreSpots (λ l. is_recipe l.class) ls (recipe_spots h)
+    are =
+        let ss = spots (λ l. is_recipe l.class) h.below in
+        let n = length (recipe_lines h.below) in
+        below-spots (λ l. is_recipe l.class) ls h (take n ss) e (take-spots (λ l. is_recipe l.class) h.below n ss (spots-are (λ l. is_recipe l.class) h.below))
+
+    meant : (w : RecipeLine) → recipe_spot w h ≡ Some s → IsSpot (λ l. is_recipe l.class) ls s
+    meant (ByNumber k) i = nth-is (λ l. is_recipe l.class) ls k (recipe_spots h) s are i
+    meant (ByText o) i = nth-is (λ l. is_recipe l.class) ls 1 (filter (has_text o) (recipe_spots h)) s (filter-spots (λ l. is_recipe l.class) ls (has_text o) (recipe_spots h) are) i
+
+-- so is one of a rule
+pub recipe_found-is : (ls : List ClassedLine) (nth : Option ℕ) (t : List ℕ) (w : RecipeLine) (s : StandingLine) → recipe_found ls nth t w ≡ Some s → IsSpot (λ l. is_recipe l.class) ls s
+recipe_found-is ls nth t w s e = go (found ls (Rule nth t)) refl e
+  where
+    go : (o : Option StandingLine) → found ls (Rule nth t) ≡ o → option_and_then (recipe_spot w) o ≡ Some s → IsSpot (λ l. is_recipe l.class) ls s
+    go None i h = absurd (cc)
+    go (Some p) i h = recipe_spot-is ls p w s (picked-is (λ l. is_rule_for t l.class) ls nth p i).whole h
+
+-- the recipe line that is meant
+pub record FoundRecipe (ls : List ClassedLine) (nth : Option ℕ) (t : List ℕ) (w : RecipeLine) : Type 0 where
   pub spot : StandingLine
-  pub found_is : recipe_found ls nth t k ≡ Some spot
+  pub found_is : recipe_found ls nth t w ≡ Some spot
   pub whole : ls ≡ spot.above ++ spot.line ∷ spot.below
   pub is_recipe_line : is_recipe spot.line.class ≡ true
 
--- is a line of the text, where there is one
-pub recipe-found : (ls : List ClassedLine) (nth : Option ℕ) (t : List ℕ) (k : ℕ) → not (is_some (recipe_found ls nth t k)) ≡ false → FoundRecipe ls nth t k
-recipe-found ls nth t k h = header (found ls (Rule nth t)) refl h
+recipe-there : (ls : List ClassedLine) (nth : Option ℕ) (t : List ℕ) (w : RecipeLine) → no_recipe ls nth t w ≡ None → (s : StandingLine) × (recipe_found ls nth t w ≡ Some s)
+recipe-there ls nth t (ByNumber k) h = some (recipe_found ls nth t (ByNumber k)) (where_holds-none _ Absent h)
   where
-    line : (p : StandingLine) → found ls (Rule nth t) ≡ Some p → (o : Option StandingLine) → recipe_spot k p ≡ o → not (is_some o) ≡ false → FoundRecipe ls nth t k
-    line p e None i n = absurd (cc)
-    line p e (Some s) i n =
-        let q = picked-is (λ l. is_rule_for t l.class) ls nth p e in
-        let r = recipe_spot-is ls p k s q.whole i in
-        record {
-          spot = s;
-          found_is = ap (option_and_then (recipe_spot k)) e ∙ i;
-          whole = r.whole;
-          is_recipe_line = r.passes;
-        }
+    some : (o : Option StandingLine) → not (is_some o) ≡ false → (s : StandingLine) × (o ≡ Some s)
+    some None n = absurd (cc)
+    some (Some s) n = (s, refl)
+recipe-there ls nth t (ByText o) h = rule (found ls (Rule nth t)) h
+  where
+    one : (qs : List StandingLine) → not_one qs ≡ None → (s : StandingLine) × (nth_of 1 qs ≡ Some s)
+    one [] k = absurd (cc)
+    one (q ∷ []) k = (q, refl)
+    one (q ∷ r ∷ qs) k = absurd (cc)
 
-    header : (o : Option StandingLine) → found ls (Rule nth t) ≡ o → not (is_some (option_and_then (recipe_spot k) o)) ≡ false → FoundRecipe ls nth t k
-    header None e n = absurd (cc)
-    header (Some p) e n = line p e (recipe_spot k p) refl n
+    rule : (p : Option StandingLine) → not_one (filter (has_text o) (recipes_found p)) ≡ None → (s : StandingLine) × (option_and_then (recipe_spot (ByText o)) p ≡ Some s)
+    rule None k = absurd (cc)
+    rule (Some p) k = one (filter (has_text o) (recipe_spots p)) k
+
+-- is a line of the text, where it is neither absent nor one of several
+pub recipe-found : (ls : List ClassedLine) (nth : Option ℕ) (t : List ℕ) (w : RecipeLine) → no_recipe ls nth t w ≡ None → FoundRecipe ls nth t w
+recipe-found ls nth t w h =
+    let s = recipe-there ls nth t w h in
+    let r = recipe_found-is ls nth t w s.0 s.1 in
+    record { spot = s.0; found_is = s.1; whole = r.whole; is_recipe_line = r.passes }
 
 -- ---- rules
 

@@ -1,10 +1,9 @@
--- An accepted new assignment puts its item into the reading, and no other item changes.
+-- The line of an accepted new assignment can stand at its place, and reads as its item.
 use Rattle.std.proofs.Common.{◌≡◌, refl, sym, ap, ◌∙◌, subst, ℕ, List, [], ◌∷◌, ◌++◌, map, Bool, true, false, not, ◌||◌, Option, Some, None, append_assoc}
 use Rattle.std.specs.List.{list_any}
 use Rattle.std.proofs.lemmas.List.{append-nil, map-append}
 use Rattle.std.proofs.lemmas.Bool.{and_parts, not-true, or_from, not_from_false}
-use Rattle.std.specs.Prelude.{Ok, nat_lt}
-use Rattle.std.proofs.lemmas.Option.{same_Some}
+use Rattle.std.specs.Prelude.{nat_lt}
 use Rattle.mk_lines.specs.Lists.{leading, after_leading, trim_end, trailing, Each, FirstFails, LastFails}
 use Rattle.mk_lines.proofs.on_lists.ListLemmas.{Each-append, leading-append_all, trim_end-append, trailing-append}
 use Rattle.mk_lines.specs.PhysicalLines.{line_end_bytes, file_line_end}
@@ -12,7 +11,7 @@ use Rattle.mk_lines.specs.Cells.{Cell, Byte, joined_byte, cells, line_cells}
 use Rattle.mk_lines.proofs.on_cells.CellLemmas.{raw_text-bytes}
 use Rattle.mk_lines.proofs.on_cells.LineCells.{AreLineCells-cells, bytes-are_line_cells}
 use Rattle.mk_lines.proofs.on_lines.LineEndAdded.{IsEnded}
-use Rattle.mk_lines.specs.Pieces.{Replacement, replaced}
+use Rattle.mk_lines.specs.Pieces.{Replacement}
 use Rattle.mk_lines.specs.Units.{units, is_closed}
 use Rattle.mk_lines.proofs.on_units.UnitLemmas.{units-append}
 use Rattle.mk_lines.specs.Words.{Token, Gap, Word, tokens, token_units, before_tokens, is_gap}
@@ -33,35 +32,30 @@ use Rattle.mk_class.specs.Classes.{Class}
 use Rattle.mk_class.specs.Contexts.{Context}
 use Rattle.mk_class.specs.ClassTable.{is_unreadable, class_of, class_at}
 use Rattle.mk_class.proofs.on_classes.ClassLemmas.{IsAssignLine, assign-plain_class, assignment-filled}
-use Rattle.mk_class.specs.ClassedLines.{classed_lines}
 use Rattle.mk_class.specs.declared.assignment.Flavor.{Flavor}
 use Rattle.mk_class.specs.declared.assignment.Flavor.TheVariants.{Recursive, Simple, PosixSimple, Immediate, Conditional, Append, Shell}
 use Rattle.mk_class.proofs.on_assignments.AssignmentLineLemmas.{cells_class}
 use Rattle.mk_class.specs.OperatorTexts.{operator_text}
 use Rattle.mk_tree.specs.Documents.{context_of}
-use Rattle.mk_tree.specs.Items.{items, Assign, Sets}
-use Rattle.mk_tree.specs.Readings.{reading}
+use Rattle.mk_tree.specs.Items.{Assign, Sets}
 use Rattle.mk_tree.proofs.on_changes.NewLineLemmas.{file_line_end-some, new_line-clean, clean-no_line_end}
 use Rattle.mk_tree.proofs.on_changes.RecipeRunLemmas.{assign-agrees}
-use Rattle.mk_edit_language.specs.Edits.{Place, AddAssign}
-use Rattle.mk_edit_language.specs.Stretches.{Stretch, place_found}
-use Rattle.mk_edit_language.specs.ArgumentCauses.{is_place, place_names}
+use Rattle.mk_edit_language.specs.Edits.{Place, NewAssign, AddLine}
+use Rattle.mk_edit_language.specs.Stretches.{Stretch}
+use Rattle.mk_edit_language.specs.ArgumentCauses.{is_place, line_tests, address_names}
+use Rattle.mk_edit_language.specs.Addresses.{place_address}
 use Rattle.mk_edit_language.specs.AddressCauses.{begins_new_line}
 use Rattle.mk_lines.specs.Spacing.{after_space}
-use Rattle.mk_edit_language.specs.NewLines.{assign_text, new_line_span}
-use Rattle.mk_edit_language.specs.EditSpans.{where_found}
-use Rattle.mk_edit_language.specs.LineCauses.{follows_open_line, new_line_leans}
-use Rattle.mk_edit_language.specs.Refusals.{spans, text_by, text_after}
-use Rattle.mk_edit_language.specs.Changes.{change, with_item, new_assign}
-use Rattle.mk_edit_language.proofs.on_edits.Accepted.{accepted, where_holds-none, three-passed}
+use Rattle.mk_edit_language.specs.NewLines.{assign_text}
+use Rattle.mk_edit_language.specs.Changes.{new_item}
+use Rattle.mk_edit_language.proofs.on_edits.Accepted.{IsAccepted, where_holds-none, first-passed, two-passed}
 use Rattle.mk_edit_language.proofs.on_values.FoundAssignments.{no_prefix-set}
 use Rattle.mk_edit_language.proofs.on_values.SetValueLemmas.{bytes-joined, unit_text-units}
-use Rattle.mk_edit_language.proofs.on_new_lines.NewPlaces.{IsNewPlace, new-place}
-use Rattle.mk_edit_language.proofs.on_new_lines.NewLineStands.{StandsAt, with_line, stands-reading, stands-lines}
-use Rattle.mk_tree.specs.NewLineEnds.{above_ended}
+use Rattle.mk_edit_language.proofs.on_new_lines.NewPlaces.{new-place}
+use Rattle.mk_edit_language.proofs.on_new_lines.NewLineStands.{NewStands, accepted-stands}
 use Rattle.mk_edit_language.proofs.on_lines.NameLemmas.{AreNameBytes, name-bytes_are, name-clean, AreUnmarked, name-unmarked, unmarked-append, singles, singles-append, unit_text-singles, unmarked-closed, unmarked-units}
 use Rattle.mk_edit_language.specs.declared.refusal.Field.TheVariants as field
-use Rattle.mk_edit_language.specs.declared.refusal.Refusal.TheVariants.{RecipePrefix, OpenLine, Leans, Reserved}
+use Rattle.mk_edit_language.specs.declared.refusal.Refusal.TheVariants.{RecipePrefix, Reserved}
 use Rattle.mk_edit_language.proofs.on_values.SetValueEmptyLemmas.{last-append}
 
 -- ---- the operator
@@ -184,7 +178,7 @@ spaced-split [] = refl
 spaced-split (b ∷ v) = refl
 
 -- the new assignment
-abbrev pub new_assignment : List ℕ → Flavor → List ℕ → Assignment Cell
+abbrev new_assignment : List ℕ → Flavor → List ℕ → Assignment Cell
 new_assignment n f v = record {
   modifiers = [];
   flavor = f;
@@ -333,95 +327,42 @@ new-class c b n f v m d h k e p =
     ∙ (ap (λ z. class_at joined_byte false z c.flag (nat_lt 0 c.conditionals) (is_unreadable (map Byte x)) (units joined_byte (map Byte x))) d
     ∙ assign-plain_class false (nat_lt 0 c.conditionals) (map Byte x) (units joined_byte (map Byte x)) a is))
 
--- ---- the law
+-- ---- the edit
 
-assign-stands : (t : List ℕ) (s : Stretch) (p : Place) (b : ℕ) (n : List ℕ) (f : Flavor) (v : List ℕ) → classed_lines t ≡ s.above ++ s.below → (context_of s.above).defines ≡ 0
-    → is_name (b ∷ n) ≡ true → is_value v ≡ true → is_prefix_name (b ∷ n) ≡ false → begins_new_line (AddAssign p (b ∷ n) f v) (Some s) ≡ false
-    → follows_open_line (Some s) ≡ false → new_line_leans (AddAssign p (b ∷ n) f v) (Some s) ≡ false
-    → StandsAt t s (assign_text (b ∷ n) f v) (Class.Assign (new_assignment (b ∷ n) f v) None)
-assign-stands t s p b n f v whole d h k named led unopened leans =
+-- the new line of an accepted new assignment can stand at its place
+pub new_assign-stands : (p : Place) (n : List ℕ) (f : Flavor) (v t : List ℕ) (rs : List Replacement) → IsAccepted t (AddLine p (NewAssign n f v)) rs → NewStands t (AddLine p (NewAssign n f v)) (new_item (NewAssign n f v))
+new_assign-stands p [] f v t rs A = absurd (
+    let q : false ≡ true = (two-passed field.Name field.Value (is_name []) (is_value v) (first-passed field.Place (is_place p) (line_tests (NewAssign [] f v)) A.arguments).1).0 in
+    cc)
+new_assign-stands p (b ∷ n) f v t rs A =
+    let e = AddLine p (NewAssign (b ∷ n) f v) in
+    let u = two-passed field.Name field.Value (is_name (b ∷ n)) (is_value v) (first-passed field.Place (is_place p) (line_tests (NewAssign (b ∷ n) f v)) A.arguments).1 in
+    let at = list_any is_prefix_name (address_names (place_address p)) in
+    let r : (is_prefix_name (b ∷ n) || at) ≡ false = or-left_false _ _ (where_holds-none _ Reserved A.not_reserved) in
+    let P = new-place t p A.is_there A.is_one (or-right_false (is_prefix_name (b ∷ n)) at r) A.define_closed in
+    let s = P.stretch in
     let c = context_of s.above in
-    let e = file_line_end t in
+    let led : begins_new_line e (Some s) ≡ false = subst (λ (z : Option Stretch). begins_new_line e z ≡ false) P.found_is (where_holds-none _ RecipePrefix A.not_led) in
+    let E = file_line_end t in
     let x = assign_text (b ∷ n) f v in
-    let N = name-bytes_are b n h in
-    let V = value-units v k in
+    let N = name-bytes_are b n u.0 in
+    let V = value-units v u.1 in
     let a = new_assignment (b ∷ n) f v in
-    let unbarred = line-unbarred (b ∷ n) f v N V in
-    let clean = not_from_false (list_any is_barred_byte x) unbarred in
-    let ended : IsEnded x e = new_line-clean x e clean (line-no_backslash (b ∷ n) f v k) (file_line_end-some t) in
-    let same : line_cells (x ++ line_end_bytes e) ≡ map Byte x =
+    let clean = not_from_false (list_any is_barred_byte x) (line-unbarred (b ∷ n) f v N V) in
+    let ended : IsEnded x E = new_line-clean x E clean (line-no_backslash (b ∷ n) f v u.1) (file_line_end-some t) in
+    let same : line_cells (x ++ line_end_bytes E) ≡ map Byte x =
     ap cells (ended.same_text ∙ sym (raw_text-bytes x)) ∙ AreLineCells-cells (map Byte x) (bytes-are_line_cells x (clean-no_line_end x clean)) in
     let none : prefix_set_by joined_byte (nat_lt 0 c.conditionals) a ≡ None =
-    no_prefix-set (nat_lt 0 c.conditionals) a (subst (λ z. is_prefix_name z ≡ false) (sym (unit_text-singles (b ∷ n))) named) in
+    no_prefix-set (nat_lt 0 c.conditionals) a (subst (λ z. is_prefix_name z ≡ false) (sym (unit_text-singles (b ∷ n))) (or-left_false (is_prefix_name (b ∷ n)) at r)) in
     record {
-      whole = whole;
-      not_open = unopened;
-      ended = ended;
-      class = new-class c b n f v (x ++ line_end_bytes e) d N V same led ∙ ap (Class.Assign a) none;
-      agrees = assign-agrees c a;
-      not_leaning = leans;
+      stretch = s;
+      found_is = P.found_is;
+      text = x;
+      text_is = refl;
+      class = Class.Assign a None;
+      plain = refl;
+      item =
+          ap (λ z. Assign (Sets [] z f (unit_text joined_byte (units joined_byte (map Byte v)))) ∷ []) (unit_text-singles (b ∷ n))
+          ∙ ap (λ z. Assign (Sets [] (b ∷ n) f z) ∷ []) (unit_text-units (map Byte v) ∙ bytes-joined v);
+      stands = accepted-stands t e rs s x (Class.Assign a None) A P.found_is P.whole ended (new-class c b n f v (x ++ line_end_bytes E) P.no_define N V same led ∙ ap (Class.Assign a) none) (assign-agrees c a) refl;
     }
-
-assign-item : (t : List ℕ) (s : Stretch) (b : ℕ) (n : List ℕ) (f : Flavor) (v : List ℕ) → StandsAt t s (assign_text (b ∷ n) f v) (Class.Assign (new_assignment (b ∷ n) f v) None)
-    → reading (with_line t s (assign_text (b ∷ n) f v)) ≡ with_item (new_assign (b ∷ n) f v) s
-assign-item t s b n f v h =
-    stands-reading t s (assign_text (b ∷ n) f v) (Class.Assign (new_assignment (b ∷ n) f v) None) h
-    ∙ (ap (λ z. items s.above ++ Assign (Sets [] z f (unit_text joined_byte (units joined_byte (map Byte v)))) ∷ items s.below) (unit_text-singles (b ∷ n))
-    ∙ ap (λ z. items s.above ++ Assign (Sets [] (b ∷ n) f z) ∷ items s.below) (unit_text-units (map Byte v) ∙ bytes-joined v))
-
--- where the line of an accepted new assignment stands
-pub record AssignStands (t : List ℕ) (p : Place) (b : ℕ) (n : List ℕ) (f : Flavor) (v : List ℕ) (rs : List Replacement) : Type 0 where
-  pub place : IsNewPlace t p
-  pub stands : StandsAt t place.stretch (assign_text (b ∷ n) f v) (Class.Assign (new_assignment (b ∷ n) f v) None)
-  pub spans_are : new_line_span t (AddAssign p (b ∷ n) f v) place.stretch ≡ rs
-
--- an accepted one stands there
-pub accepted-stands : (t : List ℕ) (p : Place) (b : ℕ) (n : List ℕ) (f : Flavor) (v : List ℕ) (rs : List Replacement) → spans t (AddAssign p (b ∷ n) f v) ≡ Ok rs → AssignStands t p b n f v rs
-accepted-stands t p b n f v rs h =
-    let e = AddAssign p (b ∷ n) f v in
-    let A = accepted t e rs h in
-    let u = three-passed field.Place field.Name field.Value (is_place p) (is_name (b ∷ n)) (is_value v) A.arguments in
-    let r : (is_prefix_name (b ∷ n) || list_any is_prefix_name (place_names p)) ≡ false = or-left_false _ _ (where_holds-none _ Reserved A.not_reserved) in
-    let P = new-place t p A.is_there A.is_one (or-right_false (is_prefix_name (b ∷ n)) (list_any is_prefix_name (place_names p)) r) A.define_closed in
-    let s = P.stretch in
-    let led : begins_new_line e (Some s) ≡ false = subst (λ (z : Option Stretch). begins_new_line e z ≡ false) P.found_is (where_holds-none _ RecipePrefix A.not_led) in
-    let unopened : follows_open_line (Some s) ≡ false = subst (λ (z : Option Stretch). follows_open_line z ≡ false) P.found_is (where_holds-none _ OpenLine A.line_closed) in
-    let leans : new_line_leans e (Some s) ≡ false = subst (λ (z : Option Stretch). new_line_leans e z ≡ false) P.found_is (or-left_false _ _ (where_holds-none _ Leans A.not_leaning)) in
-    record {
-      place = P;
-      stands = assign-stands t s p b n f v P.whole P.no_define u.1.0 u.1.1 (or-left_false (is_prefix_name (b ∷ n)) (list_any is_prefix_name (place_names p)) r) led unopened leans;
-      spans_are = subst (λ (z : Option Stretch). where_found (new_line_span t e) z ≡ rs) P.found_is A.spans_are;
-    }
-
--- a new assignment has a name
-pub no_name : (p : Place) (f : Flavor) (v t : List ℕ) (rs : List Replacement) → spans t (AddAssign p [] f v) ≡ Ok rs → ⊥
-no_name p f v t rs h =
-    let A = accepted t (AddAssign p [] f v) rs h in
-    let u = three-passed field.Place field.Name field.Value (is_place p) (is_name []) (is_value v) A.arguments in
-    let q : false ≡ true = u.1.0 in cc
-
--- the law
-pub add_assign-reads : (p : Place) (n : List ℕ) (f : Flavor) (v t : List ℕ) (rs : List Replacement) → spans t (AddAssign p n f v) ≡ Ok rs
-    → reading (text_after t (AddAssign p n f v)) ≡ change t (AddAssign p n f v)
-add_assign-reads p [] f v t rs h = absurd (no_name p f v t rs h)
-add_assign-reads p (b ∷ n) f v t rs h =
-    let S = accepted-stands t p b n f v rs h in
-    let z : change t (AddAssign p (b ∷ n) f v) ≡ with_item (new_assign (b ∷ n) f v) S.place.stretch = ap (where_found (with_item (new_assign (b ∷ n) f v))) S.place.found_is in
-    ap (λ q. reading (text_by t q)) h
-    ∙ (ap (λ q. reading (replaced 0 t q)) (sym S.spans_are) ∙ (assign-item t S.place.stretch b n f v S.stands ∙ sym z))
-
--- the lines after it
-pub add_assign-lines : (p : Place) (n : List ℕ) (f : Flavor) (v t : List ℕ) (rs : List Replacement) (s : Stretch) → spans t (AddAssign p n f v) ≡ Ok rs → place_found (classed_lines t) p ≡ Some s
-    → (k : Class Cell) × (classed_lines (text_after t (AddAssign p n f v)) ≡ above_ended (file_line_end t) s.above s.below ++ record { bytes = assign_text n f v ++ line_end_bytes (file_line_end t); class = k } ∷ s.below)
-add_assign-lines p [] f v t rs s h e = absurd (no_name p f v t rs h)
-add_assign-lines p (b ∷ n) f v t rs s h e =
-    let S = accepted-stands t p b n f v rs h in
-    let i : S.place.stretch ≡ s = same_Some S.place.stretch s (sym S.place.found_is ∙ e) in
-    let x = assign_text (b ∷ n) f v in
-    let k = Class.Assign (new_assignment (b ∷ n) f v) None in (
-      k,
-      ap (λ q. classed_lines (text_by t q)) h
-          ∙ (ap (λ q. classed_lines (replaced 0 t q)) (sym S.spans_are)
-          ∙ (stands-lines t S.place.stretch x k S.stands
-          ∙ ap (λ (z : Stretch). above_ended (file_line_end t) z.above z.below ++ record { bytes = x ++ line_end_bytes (file_line_end t); class = k } ∷ z.below) i)),
-    )

@@ -16,7 +16,7 @@ use Rattle.mk_tree.proofs.on_documents.LinesInText.{line-in_text, context_of-las
 use Rattle.mk_edit_language.specs.Edits.{Place, Bottom, BeforeVar, AfterVar, BeforeRule}
 use Rattle.mk_edit_language.specs.Addresses.{place_address}
 use Rattle.mk_edit_language.specs.Stretches.{Stretch, bottom, before_line, after_line, place_found}
-use Rattle.mk_edit_language.specs.ArgumentCauses.{place_names}
+use Rattle.mk_edit_language.specs.ArgumentCauses.{address_names}
 use Rattle.mk_edit_language.specs.AddressCauses.{no_such_line, ambiguous_line}
 use Rattle.mk_edit_language.specs.LineCauses.{open_define_at}
 use Rattle.mk_edit_language.proofs.on_edits.Accepted.{where_holds-none}
@@ -36,7 +36,7 @@ none-open n h = omega (arith, ltb-false 0 n h)
 
 -- the place is found, and if it is the end of the text, no define is open there
 pub new-place : (t : List ℕ) (p : Place) → no_such_line (classed_lines t) (place_address p) ≡ None → ambiguous_line (classed_lines t) (place_address p) ≡ None
-    → list_any is_prefix_name (place_names p) ≡ false → open_define_at (classed_lines t) p ≡ None → IsNewPlace t p
+    → list_any is_prefix_name (address_names (place_address p)) ≡ false → open_define_at (classed_lines t) p ≡ None → IsNewPlace t p
 new-place t Bottom h k n d = record {
   stretch = bottom (classed_lines t);
   found_is = refl;

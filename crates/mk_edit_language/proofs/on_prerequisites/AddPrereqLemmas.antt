@@ -1,13 +1,13 @@
 -- An accepted new prerequisite is put last in its list, and no other item changes.
-use Rattle.std.proofs.Common.{◌≡◌, refl, sym, ap, ◌∙◌, subst, ℕ, List, [], ◌∷◌, ◌++◌, map, Bool, true, false, not, ◌&&◌, ◌||◌, cond, Option, append_assoc, length}
+use Rattle.std.proofs.Common.{◌≡◌, refl, sym, ap, ◌∙◌, subst, ℕ, List, [], ◌∷◌, ◌++◌, map, Bool, true, false, not, ◌&&◌, ◌||◌, cond, append_assoc, length}
 use Rattle.std.proofs.lemmas.List.{append-nil, map-append}
 use Rattle.std.proofs.lemmas.Bool.{or_parts}
-use Rattle.std.specs.Prelude.{◌⊎◌, Ok, nat_lt, codes}
+use Rattle.std.specs.Prelude.{◌⊎◌, nat_lt, codes}
 use mathlib.Core.Logic.{inl, inr}
 use Rattle.mk_lines.specs.Lists.{concat}
 use Rattle.mk_lines.proofs.on_lists.ListLemmas.{Each-append, concat-append}
 use Rattle.mk_lines.specs.Cells.{Cell, Byte, joined_byte, line_cells}
-use Rattle.mk_lines.specs.Pieces.{Replacement, replaced, old_cells, new_cells, replacements}
+use Rattle.mk_lines.specs.Pieces.{replaced, old_cells, new_cells, replacements}
 use Rattle.mk_lines.proofs.on_cells.LineCells.{AreLineCells, AreLineCells-none, AreLineCells-left, AreLineCells-right, bytes-are_line_cells}
 use Rattle.mk_lines.proofs.on_units.UnitLemmas.{concat-units}
 use Rattle.mk_lines.specs.Words.{tokens, is_gap}
@@ -16,21 +16,14 @@ use Rattle.mk_class.specs.Texts.{word_texts}
 use Rattle.mk_class.specs.Headers
 use Rattle.mk_class.specs.Headers.{header_units}
 use Rattle.mk_class.specs.HeaderFits.{FitsBar}
-use Rattle.mk_class.specs.Arguments.{is_target, is_word}
 use Rattle.mk_class.specs.Classes.Class.{Header}
 use Rattle.mk_class.specs.ClassedLines.{ClassedLine, classed_lines}
-use Rattle.mk_tree.specs.LineTexts.{text_of, context_of, StandingLine}
+use Rattle.mk_tree.specs.LineTexts.{text_of, context_of}
 use Rattle.mk_tree.proofs.on_documents.LinesInText.{line-in_text}
 use Rattle.mk_tree.specs.Items
 use Rattle.mk_tree.specs.Items.{header_item, raw_units}
-use Rattle.mk_tree.specs.Readings.{reading}
-use Rattle.mk_edit_language.specs.Edits.{AddPrereq}
 use Rattle.mk_edit_language.specs.WordPieces.{add_pieces, normal_pieces, header_pieces, prerequisite_text, put_last, kept}
-use Rattle.mk_edit_language.specs.EditSpans.{word_spans, where_found}
-use Rattle.mk_edit_language.specs.Refusals.{spans, text_by, text_after}
-use Rattle.mk_edit_language.specs.Changes.{change, with_header, with_prerequisite}
-use Rattle.mk_edit_language.proofs.on_edits.Accepted.{accepted, where_holds-none, two-passed}
-use Rattle.mk_edit_language.proofs.on_lines.SpotLemmas.{rule-found}
+use Rattle.mk_edit_language.specs.Changes.{with_prerequisite}
 use Rattle.mk_edit_language.proofs.on_lines.HeadUnits.{AllAre, AllAre-append, AllAre-left, AllAre-right, EndsSolid, EndsSolid-after, line_cells-after_solid}
 use Rattle.mk_edit_language.proofs.on_lines.LineTails.{EndsAs, EndsAs-after}
 use Rattle.mk_edit_language.proofs.on_lines.HeadWords.{gap-last, last-more}
@@ -38,11 +31,9 @@ use Rattle.mk_edit_language.proofs.on_lines.DirectiveWords.{alike-itself}
 use Rattle.mk_edit_language.proofs.on_lines.HeaderParts.{IsPartUnit, part-head, HeaderKnown, is_bar_glued, is_no_gap, FitIn, with_parts, bar-is, bar-solid}
 use Rattle.mk_edit_language.proofs.on_lines.HeaderChanges.{middle_units, header-cells, FitAsCells, header-here, same-not_led}
 use Rattle.mk_edit_language.proofs.on_lines.LineReplaced.{IsLineReplaced, replaced-same}
-use Rattle.mk_edit_language.proofs.on_prerequisites.HeaderEdits.{header_pieces-new, header_pieces-whole, kept-old, kept-new, header-replaced, lists-end, list-cells, word_spans-header, with_header-header}
-use Rattle.mk_edit_language.proofs.on_prerequisites.NewWords.{IsNewWord, cell_units, word-is_new}
+use Rattle.mk_edit_language.proofs.on_prerequisites.HeaderEdits.{header_pieces-new, header_pieces-whole, kept-old, kept-new, header-replaced, lists-end, list-cells}
+use Rattle.mk_edit_language.proofs.on_prerequisites.NewWords.{IsNewWord, cell_units}
 use Rattle.mk_edit_language.proofs.on_prerequisites.WordsAdded.{AreGapUnits, gap_units-end, front_units, gaps_after, front-gaps, gaps-are_gaps, front-words, front-cells, words-before_gaps, space_unit, space-part, units-end, put_units, put-parts, put-words, put-cells, put-ends, word-ends, front-solid}
-use Rattle.mk_edit_language.specs.declared.refusal.Field.TheVariants as field
-use Rattle.mk_edit_language.specs.declared.refusal.Refusal.TheVariants.{NoSuch}
 
 -- ---- pieces
 
@@ -380,18 +371,3 @@ add_prereq-line true t A l B h w n e k = go (is_empty h.bar) refl
         (header_pieces h (kept h.targets) (kept h.normal) (put_last (32 ∷ w) h.order_only))))) A B (with_prerequisite true w (header_item h))
     go true b = bar-line t A l B h w n b e k
     go false b = order-line t A l B h w n b e k
-
--- the law of a new prerequisite
-pub add_prereq-reads : (order : Bool) (nth : Option ℕ) (g w t : List ℕ) (rs : List Replacement) → spans t (AddPrereq order nth g w) ≡ Ok rs
-    → reading (text_after t (AddPrereq order nth g w)) ≡ change t (AddPrereq order nth g w)
-add_prereq-reads order nth g w t rs h =
-    let A = accepted t (AddPrereq order nth g w) rs h in
-    let F = rule-found (classed_lines t) nth g (where_holds-none _ NoSuch A.is_there) (where_holds-none _ _ A.is_one) in
-    let word = word-is_new w (two-passed field.Target field.Word (is_target g) (is_word w) A.arguments).1 in
-    let s = F.spot in
-    let y : word_spans (add_pieces order w) s ≡ rs = subst (λ (z : Option StandingLine). where_found (word_spans (add_pieces order w)) z ≡ rs) F.found_is A.spans_are in
-    let z : change t (AddPrereq order nth g w) ≡ with_header (with_prerequisite order w) s = ap (λ (o : Option StandingLine). where_found (with_header (with_prerequisite order w)) o) F.found_is in
-    ap (λ q. reading (text_by t q)) h
-    ∙ (ap (λ q. reading (replaced 0 t q)) (sym y ∙ word_spans-header (add_pieces order w) s F.header F.class_is)
-    ∙ ((add_prereq-line order t s.above s.line s.below F.header w word F.whole F.class_is).reads
-    ∙ sym (z ∙ with_header-header (with_prerequisite order w) s F.header F.class_is)))

@@ -1,11 +1,11 @@
 -- An accepted removal of a prerequisite removes the word from the header's lists, and no other item changes.
-use Rattle.std.proofs.Common.{◌≡◌, refl, sym, ap, ◌∙◌, subst, ℕ, List, [], ◌∷◌, ◌++◌, map, Bool, true, false, Option, length}
+use Rattle.std.proofs.Common.{◌≡◌, refl, sym, ap, ◌∙◌, subst, ℕ, List, [], ◌∷◌, ◌++◌, map, Bool, true, false, length}
 use Rattle.std.proofs.lemmas.Bool.{or_parts}
-use Rattle.std.specs.Prelude.{◌⊎◌, Ok, nat_lt}
+use Rattle.std.specs.Prelude.{◌⊎◌, nat_lt}
 use mathlib.Core.Logic.{inl, inr}
 use Rattle.mk_lines.specs.Lists.{concat}
 use Rattle.mk_lines.specs.Cells.{Cell, joined_byte, line_cells}
-use Rattle.mk_lines.specs.Pieces.{Replacement, replaced, old_cells, new_cells, replacements}
+use Rattle.mk_lines.specs.Pieces.{replaced, old_cells, new_cells, replacements}
 use Rattle.mk_lines.proofs.on_cells.LineCells.{AreLineCells}
 use Rattle.mk_lines.specs.Words.{tokens, token_words, token_units, is_word_first, is_gap}
 use Rattle.mk_lines.proofs.on_units.TokenLemmas.{token_text, token_units-tokens, token_text-tokens, tokens-are_tokens, tokens-token_units}
@@ -15,18 +15,12 @@ use Rattle.mk_class.specs.Headers
 use Rattle.mk_class.specs.Headers.{header_units}
 use Rattle.mk_class.specs.Classes.Class.{Header}
 use Rattle.mk_class.specs.ClassedLines.{ClassedLine, classed_lines}
-use Rattle.mk_tree.specs.LineTexts.{text_of, context_of, StandingLine}
+use Rattle.mk_tree.specs.LineTexts.{text_of, context_of}
 use Rattle.mk_tree.proofs.on_documents.LinesInText.{line-in_text}
 use Rattle.mk_tree.specs.Items
 use Rattle.mk_tree.specs.Items.{header_item, raw_units}
-use Rattle.mk_tree.specs.Readings.{reading}
-use Rattle.mk_edit_language.specs.Edits.{RemovePrereq}
 use Rattle.mk_edit_language.specs.WordPieces.{removed_words, remove_pieces, kept}
-use Rattle.mk_edit_language.specs.EditSpans.{word_spans, where_found}
-use Rattle.mk_edit_language.specs.Refusals.{spans, text_by, text_after}
-use Rattle.mk_edit_language.specs.Changes.{change, with_header, without_prerequisite, without_word}
-use Rattle.mk_edit_language.proofs.on_edits.Accepted.{accepted, where_holds-none}
-use Rattle.mk_edit_language.proofs.on_lines.SpotLemmas.{rule-found}
+use Rattle.mk_edit_language.specs.Changes.{without_prerequisite, without_word}
 use Rattle.mk_edit_language.proofs.on_lines.HeadUnits.{AllAre, IsHeadUnit}
 use Rattle.mk_edit_language.proofs.on_lines.LineTails.{EndsAs}
 use Rattle.mk_edit_language.proofs.on_lines.HeadWords.{concat-token_units, first-word, last-gap, gap-last}
@@ -35,8 +29,7 @@ use Rattle.mk_edit_language.proofs.on_lines.DirectiveWords.{alike-itself}
 use Rattle.mk_edit_language.proofs.on_lines.HeaderParts.{IsPartUnit, part-head, HeaderKnown, is_bar_glued, is_no_gap, FitIn, with_parts}
 use Rattle.mk_edit_language.proofs.on_lines.HeaderChanges.{header-cells, FitAsCells, header-here, same-not_led}
 use Rattle.mk_edit_language.proofs.on_lines.LineReplaced.{IsLineReplaced, replaced-same}
-use Rattle.mk_edit_language.proofs.on_prerequisites.HeaderEdits.{header_pieces-new, header_pieces-whole, kept-old, kept-new, header-replaced, fits-bar_again, lists-end, list-cells, word_spans-header, with_header-header}
-use Rattle.mk_edit_language.specs.declared.refusal.Refusal.TheVariants.{NoSuch}
+use Rattle.mk_edit_language.proofs.on_prerequisites.HeaderEdits.{header_pieces-new, header_pieces-whole, kept-old, kept-new, header-replaced, fits-bar_again, lists-end, list-cells}
 
 -- ---- a list of prerequisites
 
@@ -148,16 +141,3 @@ remove_prereq-line t A l B h w e k =
     (header_pieces-whole h (kept h.targets) (removed_words w h.normal) (removed_words w h.order_only) (kept-old h.targets) (removed-old w h.normal) (removed-old w h.order_only))
     (removed-pieces_new h w) (removed-fit cond (line_cells l.bytes) h w H.known) (removed-fit_cells cond (line_cells l.bytes) h w H.known)
     (same-not_led c l.bytes h (removed_units w h.normal) h.bar (removed_units w h.order_only) H))
-
--- the law of the removal of a prerequisite
-pub remove_prereq-reads : (nth : Option ℕ) (g w t : List ℕ) (rs : List Replacement) → spans t (RemovePrereq nth g w) ≡ Ok rs → reading (text_after t (RemovePrereq nth g w)) ≡ change t (RemovePrereq nth g w)
-remove_prereq-reads nth g w t rs h =
-    let A = accepted t (RemovePrereq nth g w) rs h in
-    let F = rule-found (classed_lines t) nth g (where_holds-none _ NoSuch A.is_there) (where_holds-none _ _ A.is_one) in
-    let s = F.spot in
-    let y : word_spans (remove_pieces w) s ≡ rs = subst (λ (z : Option StandingLine). where_found (word_spans (remove_pieces w)) z ≡ rs) F.found_is A.spans_are in
-    let z : change t (RemovePrereq nth g w) ≡ with_header (without_prerequisite w) s = ap (λ (o : Option StandingLine). where_found (with_header (without_prerequisite w)) o) F.found_is in
-    ap (λ q. reading (text_by t q)) h
-    ∙ (ap (λ q. reading (replaced 0 t q)) (sym y ∙ word_spans-header (remove_pieces w) s F.header F.class_is)
-    ∙ ((remove_prereq-line t s.above s.line s.below F.header w F.whole F.class_is).reads
-    ∙ sym (z ∙ with_header-header (without_prerequisite w) s F.header F.class_is)))

@@ -1,15 +1,16 @@
--- Accepted edits of recipe lines change the reading by that line alone.
-use Rattle.std.proofs.Common.{◌≡◌, refl, sym, ap, ◌∙◌, subst, ℕ, List, [], ◌∷◌, ◌++◌, Bool, true, false, not, ◌||◌, ◌&&◌, ◌==◌, Option, Some, None, is_some, length, drop, option_map, append_assoc, map, arith, reverse, ◌+◌}
+-- The line of an accepted new recipe line can stand at its place; and a recipe line with another command.
+use Rattle.std.proofs.Common.{◌≡◌, refl, sym, ap, ◌∙◌, subst, ℕ, List, [], ◌∷◌, ◌++◌, Bool, true, false, not, ◌||◌, ◌&&◌, ◌==◌, Option, Some, None, is_some, length, drop, append_assoc, map, arith, reverse, ◌+◌}
 use Rattle.std.specs.List.{list_any}
 use Rattle.std.proofs.lemmas.Bool.{and_parts, eq-eqb, eqb-true}
 use Rattle.std.proofs.lemmas.List.{reverse-append}
-use Rattle.std.specs.Prelude.{Ok, nat_lt, option_and_then}
+use Rattle.std.specs.Prelude.{nat_lt, option_and_then}
 use Rattle.mk_lines.specs.Lists.{Each}
 use Rattle.mk_lines.proofs.on_lists.ListLemmas.{Each-append}
 use Rattle.mk_lines.specs.Bytes.{ByteKind, byte_kind}
 use Rattle.mk_lines.specs.Bytes.ByteKind.{LineFeed, CarriageReturn}
 use Rattle.mk_lines.specs.PhysicalLines.{line_end, line_end_bytes, without_line_end, file_line_end}
 use Rattle.mk_lines.specs.LogicalLines.{has_no_line_end, is_continued, ends_line}
+use Rattle.mk_lines.proofs.on_lines.LineEndAdded.{IsEnded}
 use Rattle.mk_lines.proofs.on_lines.LineLemmas.{OneLine, Ends, EndsBefore}
 use Rattle.mk_lines.proofs.on_lines.LineEndLemmas.{KeepsApart, FirstIsNot, without_line_end-line_end, without_line_end-append, Ends-ends_line}
 use Rattle.mk_lines.proofs.on_cells.LineOfCells.{IsClean, one_line-of_cells}
@@ -20,7 +21,6 @@ use Rattle.mk_lines.proofs.on_cells.LineCells.{AreLineCells-cells, bytes-are_lin
 use Rattle.mk_lines.specs.Pieces.{Replacement, replaced}
 use Rattle.mk_lines.specs.declared.ends.End.{End}
 use Rattle.mk_lines.specs.declared.ends.End.TheVariants as ends
-use Rattle.mk_lines.proofs.on_lists.BoolLemmas.{or-left_false}
 use Rattle.mk_class.specs.ListTests.{last_passes}
 use Rattle.mk_class.specs.RecipePrefix.{is_prefix_led}
 use Rattle.mk_class.specs.Arguments.{is_barred_byte, is_backslash_byte, is_clean, is_command, is_target}
@@ -28,35 +28,28 @@ use Rattle.mk_class.specs.Classes.{Class, is_recipe}
 use Rattle.mk_class.specs.Contexts.{Context, context_after}
 use Rattle.mk_class.specs.ClassTable.{is_unreadable, class_of, class_at}
 use Rattle.mk_class.specs.ClassedLines.{classed_lines, context_after_lines}
-use Rattle.mk_class.specs.declared.context.RuleFlag.{RuleFlag}
 use Rattle.mk_class.specs.declared.context.RuleFlag.TheVariants as flag
 use Rattle.mk_tree.specs.Documents.{text_of, context_of}
-use Rattle.mk_tree.specs.Items.{items, Recipe}
-use Rattle.mk_tree.specs.Readings.{reading}
-use Rattle.mk_tree.specs.Leaning.{leans}
+use Rattle.mk_tree.specs.Items.{Recipe}
 use Rattle.mk_tree.specs.RecipeLines.{recipe_run, after_recipe}
 use Rattle.mk_tree.proofs.on_documents.LinesInText.{line-in_text, bytes_of, run-in_text, context_of-append}
 use Rattle.mk_tree.proofs.on_changes.NewLineLemmas.{file_line_end-some, new_line-clean, clean-no_line_end}
 use Rattle.mk_tree.proofs.on_changes.SpansInLines.{text-span_replaced}
 use Rattle.mk_tree.proofs.on_changes.RecipeRunLemmas.{rule-context, recipe_run-after, recipe_run-stays, recipe-agrees}
 use Rattle.mk_tree.specs.LineTexts.{StandingLine}
-use Rattle.mk_edit_language.specs.Edits.{Edit, AddRecipe, SetRecipe, InsertRecipe}
-use Rattle.mk_edit_language.specs.Spots.{nth_of}
-use Rattle.mk_edit_language.specs.Stretches.{Stretch, before_line, after_rule, recipe_spots, recipe_gaps, recipe_gap, insertion}
-use Rattle.mk_edit_language.specs.NewLines.{new_text, new_line_span}
-use Rattle.mk_edit_language.specs.EditSpans.{where_found, recipe_span, spans_of}
-use Rattle.mk_edit_language.specs.LineCauses.{follows_open_line, flag_below_new, new_line_leans}
-use Rattle.mk_edit_language.specs.Refusals.{spans, text_by, text_after}
-use Rattle.mk_edit_language.specs.Changes.{change, with_item, with_items}
-use Rattle.mk_edit_language.proofs.on_edits.Accepted.{IsAccepted, accepted, where_holds-none, two-passed}
-use Rattle.mk_edit_language.proofs.on_edits.EditPlaces.{gap-is}
-use Rattle.mk_edit_language.proofs.on_lines.SpotLemmas.{IsSpot, FoundRule, rule-found, recipe_spot-is, recipe-found, recipe-class}
-use Rattle.mk_edit_language.proofs.on_new_lines.NewLineStands.{StandsAt, stands-span, stands-reading}
+use Rattle.mk_edit_language.specs.Edits.{ByNumber, RecipePlace, Last, At, AddRecipe}
+use Rattle.mk_edit_language.specs.Stretches.{Stretch, before_line, after_rule, recipe_gap, recipe_place}
+use Rattle.mk_edit_language.specs.EditSpans.{recipe_span}
+use Rattle.mk_edit_language.specs.RuleCauses.{absent}
+use Rattle.mk_edit_language.proofs.on_edits.Accepted.{IsAccepted, where_holds-none, two-passed}
+use Rattle.mk_edit_language.proofs.on_edits.EditPlaces.{place-is}
+use Rattle.mk_edit_language.proofs.on_lines.SpotLemmas.{IsSpot, FoundRule, rule-found, recipe_spot-is, recipe-class}
+use Rattle.mk_edit_language.proofs.on_new_lines.NewLineStands.{NewStands, accepted-stands}
 use Rattle.mk_edit_language.proofs.on_lines.LineReplaced.{IsLineReplaced, replaced-line, replaced-same}
 use Rattle.mk_edit_language.proofs.on_recipes.RecipeClassLemmas.{StandsInRule, recipe-stands}
 use Rattle.mk_edit_language.proofs.on_lines.PrefixLemmas.{CanBegin, context-can_begin}
 use Rattle.mk_edit_language.specs.declared.refusal.Field.TheVariants as field
-use Rattle.mk_edit_language.specs.declared.refusal.Refusal.TheVariants.{NoSuch, Absent, OpenLine, Leans}
+use Rattle.mk_edit_language.specs.declared.refusal.Refusal.TheVariants.{NoSuch, Absent}
 
 -- ---- a recipe line's text
 
@@ -86,41 +79,11 @@ recipe-class_in_rule c l d f p =
 
 -- ---- a new recipe line
 
--- where the new line of a rule's recipe stands
-pub record RecipeStands (t c : List ℕ) (e : Edit) (rs : List Replacement) : Type 0 where
-  pub stretch : Stretch
-  pub found_is : insertion (classed_lines t) e ≡ Some stretch
-  pub stands : StandsAt t stretch ((context_of stretch.above).prefix ∷ c) Class.Recipe
-  pub spans_are : new_line_span t e stretch ≡ rs
-
 -- a stretch between two lines of a rule, outside defines
 record IsInRule (t : List ℕ) (s : Stretch) : Type 0 where
   whole : classed_lines t ≡ s.above ++ s.below
   in_rule : (context_of s.above).flag ≡ flag.Rule
   no_define : (context_of s.above).defines ≡ 0
-
--- the new line of an accepted edit stands there
-stands-in_rule : (t c : List ℕ) (e : Edit) (rs : List Replacement) (s : Stretch) → IsAccepted t e rs → is_command c ≡ true → insertion (classed_lines t) e ≡ Some s → IsInRule t s
-    → flag_below_new e ≡ flag.Rule → where_found (new_line_span t e) (insertion (classed_lines t) e) ≡ spans_of t (classed_lines t) e → RecipeStands t c e rs
-stands-in_rule t c e rs s A k i R f w =
-    let C = context_of s.above in
-    let E = file_line_end t in
-    let can : CanBegin C.prefix = context-can_begin s.above (run-in_text t s.above [] s.below R.whole).above_classed in
-    let text = C.prefix ∷ c in
-    let leans_not : new_line_leans e (Some s) ≡ false = subst (λ (z : Option Stretch). new_line_leans e z ≡ false) i (or-left_false _ _ (where_holds-none _ Leans A.not_leaning)) in
-    record {
-      stretch = s;
-      found_is = i;
-      stands = record {
-        whole = R.whole;
-        not_open = subst (λ (z : Option Stretch). follows_open_line z ≡ false) i (where_holds-none _ OpenLine A.line_closed);
-        ended = new_line-clean text E (recipe-clean C.prefix c can k) (recipe-no_backslash C.prefix c can k) (file_line_end-some t);
-        class = recipe-class_in_rule C (text ++ line_end_bytes E) R.no_define R.in_rule (eq-eqb C.prefix C.prefix refl);
-        agrees = recipe-agrees C;
-        not_leaning = subst (λ (z : RuleFlag). leans C.prefix z C.flag s.below ≡ false) f leans_not;
-      };
-      spans_are = ap (where_found (new_line_span t e)) (sym i) ∙ (w ∙ A.spans_are);
-    }
 
 -- the place after a rule is one
 after_rule-in_rule : (t : List ℕ) (nth : Option ℕ) (g : List ℕ) → (F : FoundRule (classed_lines t) nth g) → IsInRule t (after_rule F.spot)
@@ -142,55 +105,46 @@ before_recipe-in_rule t s S =
     record { whole = S.whole; in_rule = S'.in_rule; no_define = S'.no_define }
 
 -- so each place for a new recipe line is one
-gap-in_rule : (t : List ℕ) (nth : Option ℕ) (g : List ℕ) (k : ℕ) (s : Stretch) → FoundRule (classed_lines t) nth g → recipe_gap (classed_lines t) nth g k ≡ Some s → IsInRule t s
-gap-in_rule t nth g k s F h =
-    let p = F.spot in
-    let e : nth_of k (recipe_gaps p) ≡ Some s = sym (ap (option_and_then (λ (q : StandingLine). nth_of k (recipe_gaps q))) F.found_is) ∙ h in
-    gap-is (IsInRule t) (recipe_spots p) (after_rule p) k (λ q j. before_recipe-in_rule t q (recipe_spot-is (classed_lines t) p k q F.whole j)) (after_rule-in_rule t nth g F) s e
+place-in_rule : (t : List ℕ) (nth : Option ℕ) (g : List ℕ) (p : RecipePlace) (s : Stretch) → FoundRule (classed_lines t) nth g → recipe_place (classed_lines t) nth g p ≡ Some s → IsInRule t s
+place-in_rule t nth g p s F h =
+    let q = F.spot in
+    place-is (IsInRule t) q p (λ k r j. before_recipe-in_rule t r (recipe_spot-is (classed_lines t) q (ByNumber k) r F.whole j)) (after_rule-in_rule t nth g F) s
+    (sym (ap (option_and_then (recipe_gap p)) F.found_is) ∙ h)
 
--- a line put after the recipe lines of a rule
-pub add_recipe-stands : (nth : Option ℕ) (g c t : List ℕ) (rs : List Replacement) → spans t (AddRecipe nth g c) ≡ Ok rs → RecipeStands t c (AddRecipe nth g c) rs
-add_recipe-stands nth g c t rs h =
-    let e = AddRecipe nth g c in
-    let A = accepted t e rs h in
-    let k : is_command c ≡ true = (two-passed field.Target field.Line (is_target g) (is_command c) A.arguments).1 in
-    let F = rule-found (classed_lines t) nth g (where_holds-none _ NoSuch A.is_there) (where_holds-none _ _ A.is_one) in
-    stands-in_rule t c e rs (after_rule F.spot) A k (ap (option_map after_rule) F.found_is) (after_rule-in_rule t nth g F) refl refl
-
--- one put at a place of a number
-pub insert_recipe-stands : (nth : Option ℕ) (g : List ℕ) (n : ℕ) (c t : List ℕ) (rs : List Replacement) → spans t (InsertRecipe nth g n c) ≡ Ok rs → RecipeStands t c (InsertRecipe nth g n c) rs
-insert_recipe-stands nth g n c t rs h =
-    let e = InsertRecipe nth g n c in
-    let A = accepted t e rs h in
-    let k : is_command c ≡ true = (two-passed field.Target field.Line (is_target g) (is_command c) A.arguments).1 in
-    let F = rule-found (classed_lines t) nth g (where_holds-none _ NoSuch A.is_there) (where_holds-none _ _ A.is_one) in
-    place A k F (recipe_gap (classed_lines t) nth g n) refl (where_holds-none _ Absent A.not_absent)
+-- an accepted new recipe line has a place
+place-there : (t : List ℕ) (nth : Option ℕ) (g : List ℕ) (p : RecipePlace) (c : List ℕ) → FoundRule (classed_lines t) nth g → absent (classed_lines t) (AddRecipe nth g p c) ≡ None
+    → (s : Stretch) × (recipe_place (classed_lines t) nth g p ≡ Some s)
+place-there t nth g Last c F h = (after_rule F.spot, ap (option_and_then (recipe_gap Last)) F.found_is)
+place-there t nth g (At k) c F h = some (recipe_place (classed_lines t) nth g (At k)) (where_holds-none _ Absent h)
   where
-    place : IsAccepted t (InsertRecipe nth g n c) rs → is_command c ≡ true → FoundRule (classed_lines t) nth g → (o : Option Stretch) → recipe_gap (classed_lines t) nth g n ≡ o → not (is_some o) ≡ false
-        → RecipeStands t c (InsertRecipe nth g n c) rs
-    place A k F None i u = absurd (cc)
-    place A k F (Some s) i u = stands-in_rule t c (InsertRecipe nth g n c) rs s A k i (gap-in_rule t nth g n s F i) refl refl
+    some : (o : Option Stretch) → not (is_some o) ≡ false → (s : Stretch) × (o ≡ Some s)
+    some None n = absurd (cc)
+    some (Some s) n = (s, refl)
 
--- the law of a new recipe line, wherever it goes
-put-reads : (t c : List ℕ) (e : Edit) (rs : List Replacement) → spans t e ≡ Ok rs → ((p : ℕ) → new_text p e ≡ p ∷ c) → change t e ≡ where_found (with_item (Recipe c)) (insertion (classed_lines t) e) → RecipeStands t c e rs
-    → reading (text_after t e) ≡ change t e
-put-reads t c e rs h n r S =
-    let s = S.stretch in
-    let x = (context_of s.above).prefix ∷ c in
-    let z : change t e ≡ with_item (Recipe c) s = r ∙ ap (where_found (with_item (Recipe c))) S.found_is in
-    ap (λ q. reading (text_by t q)) h
-    ∙ (ap (λ q. reading (replaced 0 t q)) (sym S.spans_are)
-    ∙ (ap reading (stands-span t e s x (n (context_of s.above).prefix))
-    ∙ (stands-reading t s x Class.Recipe S.stands
-    ∙ (ap (λ q. items s.above ++ Recipe (drop 1 q) ∷ items s.below) S.stands.ended.same_text ∙ sym z))))
-
-pub add_recipe-reads : (nth : Option ℕ) (g c t : List ℕ) (rs : List Replacement) → spans t (AddRecipe nth g c) ≡ Ok rs
-    → reading (text_after t (AddRecipe nth g c)) ≡ change t (AddRecipe nth g c)
-add_recipe-reads nth g c t rs h = put-reads t c (AddRecipe nth g c) rs h (λ p. refl) refl (add_recipe-stands nth g c t rs h)
-
-pub insert_recipe-reads : (nth : Option ℕ) (g : List ℕ) (n : ℕ) (c t : List ℕ) (rs : List Replacement) → spans t (InsertRecipe nth g n c) ≡ Ok rs
-    → reading (text_after t (InsertRecipe nth g n c)) ≡ change t (InsertRecipe nth g n c)
-insert_recipe-reads nth g n c t rs h = put-reads t c (InsertRecipe nth g n c) rs h (λ p. refl) refl (insert_recipe-stands nth g n c t rs h)
+-- the new line of an accepted new recipe line can stand at its place
+pub new_recipe-stands : (nth : Option ℕ) (g : List ℕ) (p : RecipePlace) (c t : List ℕ) (rs : List Replacement) → IsAccepted t (AddRecipe nth g p c) rs → NewStands t (AddRecipe nth g p c) (Recipe c)
+new_recipe-stands nth g p c t rs A =
+    let e = AddRecipe nth g p c in
+    let k : is_command c ≡ true = (two-passed field.Target field.Line (is_target g) (is_command c) A.arguments).1 in
+    let F = rule-found (classed_lines t) nth g (where_holds-none _ NoSuch A.is_there) (where_holds-none _ _ A.is_one) in
+    let P = place-there t nth g p c F A.not_absent in
+    let s = P.0 in
+    let R = place-in_rule t nth g p s F P.1 in
+    let C = context_of s.above in
+    let E = file_line_end t in
+    let can : CanBegin C.prefix = context-can_begin s.above (run-in_text t s.above [] s.below R.whole).above_classed in
+    let x = C.prefix ∷ c in
+    let ended : IsEnded x E = new_line-clean x E (recipe-clean C.prefix c can k) (recipe-no_backslash C.prefix c can k) (file_line_end-some t) in
+    record {
+      stretch = s;
+      found_is = P.1;
+      text = x;
+      text_is = refl;
+      class = Class.Recipe;
+      plain = refl;
+      item = ap (λ q. Recipe (drop 1 q) ∷ []) ended.same_text;
+      stands = accepted-stands t e rs s x Class.Recipe A P.1 R.whole ended (recipe-class_in_rule C (x ++ line_end_bytes E) R.no_define R.in_rule (eq-eqb C.prefix C.prefix refl)) (recipe-agrees C) refl;
+    }
 
 -- ---- a recipe line changed
 
@@ -269,16 +223,3 @@ set_recipe-line t s c w r k =
     let read : without_line_end m ≡ x = without_line_end-append x e (keeps-apart e x (clean-no_line_end x clean)) in
     replaced-same _ _ s.above s.below _ _ (sym text) refl
     (replaced-line t s.above s.line s.below m Class.Recipe (Recipe c) w one ends class context refl (ap (λ z. Recipe (drop 1 z) ∷ []) read))
-
--- the law of a recipe line changed
-pub set_recipe-reads : (nth : Option ℕ) (g : List ℕ) (k : ℕ) (c t : List ℕ) (rs : List Replacement) → spans t (SetRecipe nth g k c) ≡ Ok rs
-    → reading (text_after t (SetRecipe nth g k c)) ≡ change t (SetRecipe nth g k c)
-set_recipe-reads nth g k c t rs h =
-    let A = accepted t (SetRecipe nth g k c) rs h in
-    let u = two-passed field.Target field.Line (is_target g) (is_command c) A.arguments in
-    let F = recipe-found (classed_lines t) nth g k (where_holds-none _ Absent A.not_absent) in
-    let s = F.spot in
-    let y : recipe_span c s ≡ rs = subst (λ (z : Option StandingLine). where_found (recipe_span c) z ≡ rs) F.found_is A.spans_are in
-    let z : change t (SetRecipe nth g k c) ≡ with_items (Recipe c ∷ []) s = ap (where_found (with_items (Recipe c ∷ []))) F.found_is in
-    ap (λ q. reading (text_by t q)) h
-    ∙ (ap (λ q. reading (replaced 0 t q)) (sym y) ∙ ((set_recipe-line t s c F.whole F.is_recipe_line u.1).reads ∙ sym z))

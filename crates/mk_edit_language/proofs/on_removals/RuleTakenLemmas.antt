@@ -22,14 +22,14 @@ use Rattle.mk_tree.specs.Items
 use Rattle.mk_tree.specs.Items.{items, items_of_line, header_item}
 use Rattle.mk_tree.proofs.on_documents.LinesInText.{items-append}
 use Rattle.mk_tree.specs.LineTexts.{StandingLine}
-use Rattle.mk_edit_language.specs.Edits.{RemoveRule}
+use Rattle.mk_edit_language.specs.Edits.{OfRule, RemoveLines}
 use Rattle.mk_edit_language.specs.Addresses.{Rule, is_rule_for, found}
 use Rattle.mk_edit_language.specs.Stretches.{whole_rule}
 use Rattle.mk_edit_language.specs.RuleCauses.{class_found, targets_found, has_conditional}
 use Rattle.mk_edit_language.specs.Refusals.{spans}
 use Rattle.mk_edit_language.proofs.on_edits.Accepted.{accepted, where_holds-none}
 use Rattle.mk_edit_language.proofs.on_lines.SpotLemmas.{picked-is, rule-found}
-use Rattle.mk_edit_language.proofs.on_removals.RemovalLemmas.{removed-lines}
+use Rattle.mk_edit_language.proofs.on_edits.EditedLineLemmas.{removed-lines}
 use Rattle.mk_edit_language.specs.RuleTaken.{is_of_recipe, ends_in_recipe, recipe_goes_on, commands, is_recipe_item, TakesTheRuleAlone}
 use Rattle.mk_edit_language.specs.declared.refusal.Refusal.TheVariants.{NoSuch, Straddles}
 
@@ -166,9 +166,9 @@ next-item (l ∷ ls) h = go l.class h (next-item ls)
 
 -- ---- the law
 
-pub remove_rule-takes : (nth : Option ℕ) (g t : List ℕ) (rs : List Replacement) → spans t (RemoveRule nth g) ≡ Ok rs → TakesTheRuleAlone nth g t
+pub remove_rule-takes : (nth : Option ℕ) (g t : List ℕ) (rs : List Replacement) → spans t (RemoveLines (OfRule nth g)) ≡ Ok rs → TakesTheRuleAlone nth g t
 remove_rule-takes nth g t rs h =
-    let e = RemoveRule nth g in
+    let e = RemoveLines (OfRule nth g) in
     let ls = classed_lines t in
     let A = accepted t e rs h in
     let F = rule-found ls nth g (where_holds-none _ NoSuch A.is_there) (where_holds-none _ _ A.is_one) in

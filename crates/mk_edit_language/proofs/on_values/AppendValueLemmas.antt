@@ -1,8 +1,7 @@
 -- An accepted `AppendValue` changes the reading by this value alone.
-use Rattle.std.proofs.Common.{◌≡◌, refl, sym, ap, ◌∙◌, subst, ℕ, List, [], ◌∷◌, ◌++◌, map, Bool, true, false, not, ◌&&◌, Option, Some, None, length, ◌+◌, append_assoc, cond, arith, reverse, length-append}
+use Rattle.std.proofs.Common.{◌≡◌, refl, sym, ap, ◌∙◌, subst, ℕ, List, [], ◌∷◌, ◌++◌, map, Bool, true, false, Option, None, length, ◌+◌, append_assoc, cond, arith, reverse, length-append}
 use Rattle.std.proofs.lemmas.List.{map-append}
-use Rattle.std.proofs.lemmas.Bool.{and_parts}
-use Rattle.std.specs.Prelude.{nat_lt, Ok, if◌then◌else◌}
+use Rattle.std.specs.Prelude.{nat_lt, if◌then◌else◌}
 use Rattle.mk_lines.specs.Lists.{concat, Each, FirstFails, LastFails}
 use Rattle.mk_lines.proofs.on_lists.ListLemmas.{Each-append, Each-left, Each-right, leading-each}
 use Rattle.mk_lines.specs.PhysicalLines.{line_end, line_end_bytes}
@@ -18,7 +17,7 @@ use Rattle.mk_lines.specs.Units.{units, is_closed, unit_step, unit_begins}
 use Rattle.mk_lines.specs.Units.UnitState.{Between}
 use Rattle.mk_lines.proofs.on_units.UnitLemmas.{units-append, units-first, units-last, is_closed-append, is_closed-map, units-map}
 use Rattle.mk_lines.specs.Words.{is_gap}
-use Rattle.mk_lines.specs.Pieces.{Replacement, replaced}
+use Rattle.mk_lines.specs.Pieces.{replaced}
 use Rattle.mk_lines.proofs.on_lists.BoolLemmas.{or-left_false}
 use Rattle.mk_class.specs.ListTests.{is_empty, last_passes}
 use Rattle.mk_class.specs.Texts.{unit_text}
@@ -26,8 +25,7 @@ use Rattle.mk_class.specs.CutTexts.{is_no_hash}
 use Rattle.mk_class.specs.Assignments.{Assignment, before_value}
 use Rattle.mk_class.proofs.on_assignments.ValueLemmas.{IsValueText, value-text}
 use Rattle.mk_class.specs.RecipePrefix.{is_prefix_led, is_prefix_name}
-use Rattle.mk_class.specs.Arguments.{is_value, is_name}
-use Rattle.mk_class.specs.Classes.{Class}
+use Rattle.mk_class.specs.Arguments.{is_value}
 use Rattle.mk_class.specs.Classes.Class.{Assign}
 use Rattle.mk_class.specs.Contexts.{Context}
 use Rattle.mk_class.specs.ClassTable.{class_of}
@@ -37,26 +35,15 @@ use Rattle.mk_class.proofs.on_assignments.AssignmentLineLemmas.{AssignParts, ass
 use Rattle.mk_class.specs.ClassedLines.{ClassedLine, classed_lines}
 use Rattle.mk_class.specs.PartOffsets.{raw_width}
 use Rattle.mk_tree.specs.Documents.{text_of, context_of}
-use Rattle.mk_tree.specs.Readings.{reading}
 use Rattle.mk_tree.proofs.on_documents.LinesInText.{line-in_text, bytes_of}
-use Rattle.mk_tree.specs.LineTexts.{StandingLine}
-use Rattle.mk_edit_language.specs.Edits.{AppendValue}
-use Rattle.mk_edit_language.specs.Addresses.{Variable, found}
-use Rattle.mk_edit_language.specs.ValueSpans.{append_value_span, value_start, value_end}
-use Rattle.mk_edit_language.specs.RuleCauses.{class_found}
-use Rattle.mk_edit_language.specs.LineCauses.{has_open_value}
-use Rattle.mk_edit_language.specs.Refusals.{spans, text_by, text_after}
-use Rattle.mk_edit_language.specs.Changes.{change, item_with_value}
-use Rattle.mk_edit_language.specs.Changes
-use Rattle.mk_edit_language.proofs.on_edits.Accepted.{accepted, where_holds-none, two-passed}
+use Rattle.mk_edit_language.specs.ValueChanges.{value_start, value_end}
+use Rattle.mk_edit_language.specs.Changes.{item_with_value}
 use Rattle.mk_edit_language.proofs.on_values.BlankAdded.{add_blank, add_blank-append, raw_text-add_blank, add_blank-are_line_cells, has_stray-add_blank, joined-add_blank}
 use Rattle.mk_edit_language.proofs.on_values.ValueLines.{IsValue, IsValueLine, with_cells, cells_with, line_of, parts-units, value-line, text-ends}
-use Rattle.mk_edit_language.proofs.on_values.FoundAssignments.{FoundAssignment, assignment-found, no_prefix-set}
+use Rattle.mk_edit_language.proofs.on_values.FoundAssignments.{no_prefix-set}
 use Rattle.mk_edit_language.proofs.on_lines.LineReplaced.{IsLineReplaced, replaced-same}
 use Rattle.mk_edit_language.proofs.on_values.ValueEdits.{text-replaced_in_line, value-replaced}
-use Rattle.mk_edit_language.proofs.on_values.SetValueLemmas.{bytes-joined, unit_text-units, value-found, not_prefix}
-use Rattle.mk_edit_language.specs.declared.refusal.Field.TheVariants as field
-use Rattle.mk_edit_language.specs.declared.refusal.Refusal.TheVariants.{NoSuch, OpenValue}
+use Rattle.mk_edit_language.proofs.on_values.SetValueLemmas.{bytes-joined, unit_text-units}
 
 -- ---- units of cells, told by their joined bytes
 
@@ -277,8 +264,6 @@ line-appended c l below a sets b v u us some closed t h o n =
       value = unit_text-units V ∙ joined;
     }
 
--- ---- the law
-
 -- an assignment's line with a text appended to its value
 pub append_value-line : (t : List ℕ) (A : List ClassedLine) (l : ClassedLine) (B : List ClassedLine) (a : Assignment Cell) (b : ℕ) (v : List ℕ)
     → classed_lines t ≡ A ++ l ∷ B → l.class ≡ Assign a None → is_prefix_name (unit_text joined_byte a.name) ≡ false → is_value (b ∷ v) ≡ true → is_closed joined_byte (concat a.value) ≡ true
@@ -318,33 +303,3 @@ append_value-line t A l B a b v h k f i closed (u ∷ us) e =
     (value-replaced t A l B a (line_of (cells_with a V a.after w.parts.rest) (line_end_bytes (line_end l.bytes))) V a.after
     (unit_text joined_byte a.value ++ after_value (last_passes is_fold W) (b ∷ v)) h k w.line.one w.line.ends
     (w.line.class ∙ ap (Assign (with_cells a V a.after)) (no_prefix-set (nat_lt 0 c.conditionals) (with_cells a V a.after) f)) w.value)
-
--- the value that an accepted append is put after is closed
-pub closed-found : (t n : List ℕ) (nth : Option ℕ) (F : FoundAssignment t n nth) → has_open_value (class_found (found (classed_lines t) (Variable nth n))) ≡ false → is_closed joined_byte (concat F.assigned.value) ≡ true
-closed-found t n nth F h =
-    let x : has_open_value (Some F.spot.line.class) ≡ false = subst (λ (z : Option StandingLine). has_open_value (class_found z) ≡ false) F.found_is h in
-    let y : not (is_closed joined_byte (concat F.assigned.value)) ≡ false = subst (λ (z : Class Cell). has_open_value (Some z) ≡ false) F.class_is x in
-    go (is_closed joined_byte (concat F.assigned.value)) y
-  where
-    go : (b : Bool) → not b ≡ false → b ≡ true
-    go true e = refl
-    go false e = cc
-
-append_value-some : (t n : List ℕ) (nth : Option ℕ) (b : ℕ) (v : List ℕ) (rs : List Replacement) → spans t (AppendValue nth n (b ∷ v)) ≡ Ok rs
-    → reading (text_after t (AppendValue nth n (b ∷ v))) ≡ change t (AppendValue nth n (b ∷ v))
-append_value-some t n nth b v rs h =
-    let A = accepted t (AppendValue nth n (b ∷ v)) rs h in
-    let u = two-passed field.Name field.Value (is_name n) (is_value (b ∷ v) && true) A.arguments in
-    let F = assignment-found t n nth (where_holds-none _ NoSuch A.is_there) (where_holds-none _ _ A.is_one) (not_prefix n A.not_reserved) in
-    let closed = closed-found t n nth F (where_holds-none _ OpenValue A.value_closed) in
-    ap (λ z. reading (text_by t z)) h
-    ∙ value-found t n nth rs (append_value_span (b ∷ v)) (λ at. Changes.value_appended (b ∷ v)) F
-    (append_value-line t F.spot.above F.spot.line F.spot.below F.assigned b v F.whole F.class_is F.no_prefix (and_parts (is_value (b ∷ v)) true u.1).0 closed F.assigned.value refl) A.spans_are
-
--- the law
-pub append_value-reads : (nth : Option ℕ) (n v t : List ℕ) (rs : List Replacement) → spans t (AppendValue nth n v) ≡ Ok rs → reading (text_after t (AppendValue nth n v)) ≡ change t (AppendValue nth n v)
-append_value-reads nth n [] t rs h =
-    let A = accepted t (AppendValue nth n []) rs h in
-    let u = two-passed field.Name field.Value (is_name n) (is_value [] && not (is_empty {A = ℕ} [])) A.arguments in
-    absurd (let q : false ≡ true = (and_parts (is_value []) false u.1).1 in cc)
-append_value-reads nth n (b ∷ v) t rs h = append_value-some t n nth b v rs h

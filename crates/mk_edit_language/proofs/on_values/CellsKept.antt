@@ -30,7 +30,7 @@ use Rattle.mk_class.specs.Symbols.{is_hash}
 use Rattle.mk_class.specs.Arguments.{is_value, is_clean, is_backslash_byte}
 use Rattle.mk_class.proofs.on_assignments.AssignmentLineLemmas.{gap_cell-reset}
 use Rattle.mk_edit_language.specs.WordPieces.{is_word_of}
-use Rattle.mk_edit_language.specs.ValueWords.{LedWord, staying, led_units, from_first_word}
+use Rattle.mk_edit_language.specs.ValueChanges.{LedWord, staying, led_units, from_first_word}
 use Rattle.mk_edit_language.specs.LineCauses.{bares_end_among}
 use Rattle.mk_edit_language.proofs.on_lines.HeadUnits.{AllAre, BeginsSolid, EndsSolid, BeginsSolid-before, EndsSolid-after, line_cells-after_solid, line_cells-before_solid, ordinary-cell}
 use Rattle.mk_edit_language.proofs.on_values.WordParts.{IsPart, IsLedWord, led_texts, gap-closed}

@@ -3,7 +3,7 @@
 use Rattle.std.proofs.Common.{◌≡◌, refl, sym, ap, ◌∙◌, subst, ℕ, List, [], ◌∷◌, ◌++◌, map, Bool, true, false, not, ◌&&◌, ◌==◌, Option, Some, None, length, append_assoc, reverse, cond}
 use Rattle.std.proofs.lemmas.Bool.{eqb-true, or_from, and_parts}
 use Rattle.std.proofs.lemmas.List.{append-nil, reverse-append, reverse-reverse}
-use Rattle.std.specs.Prelude.{nat_lt, Ok}
+use Rattle.std.specs.Prelude.{nat_lt}
 use Rattle.mk_lines.specs.Lists.{concat, leading, Each}
 use Rattle.mk_lines.proofs.on_lists.ListLemmas.{concat-append, Each-append, Each-left, leading-each, leading-append_all}
 use Rattle.mk_lines.specs.Bytes.{ByteKind, byte_kind, is_blank_kind, is_backslash_kind}
@@ -23,7 +23,7 @@ use Rattle.mk_lines.specs.Units.{units, is_closed, is_between, next_unit_state}
 use Rattle.mk_lines.specs.Units.UnitState.{Between}
 use Rattle.mk_lines.proofs.on_units.UnitLemmas.{EndsPlain, EndsPlain-append, EndsPlain-closed, units-append, units-first}
 use Rattle.mk_lines.specs.Words.{is_gap}
-use Rattle.mk_lines.specs.Pieces.{Replacement, replaced}
+use Rattle.mk_lines.specs.Pieces.{replaced}
 use Rattle.mk_lines.proofs.on_lists.BoolLemmas.{or-left_false}
 use Rattle.mk_class.specs.ListTests.{is_empty, last_passes}
 use Rattle.mk_class.specs.Texts.{unit_text}
@@ -42,20 +42,15 @@ use Rattle.mk_class.specs.ClassTable.{class_of, plain_class, is_unreadable}
 use Rattle.mk_class.proofs.on_classes.ClassLemmas.{IsAssignLine, plain_class-assign, assign-plain_class, class_at-assign, has_stray-append, has_stray-left, assignment-filled}
 use Rattle.mk_class.specs.ClassedLines.{ClassedLine, classed_lines}
 use Rattle.mk_tree.specs.Documents.{text_of, context_of}
-use Rattle.mk_tree.specs.Readings.{reading}
 use Rattle.mk_tree.proofs.on_documents.LinesInText.{line-in_text, bytes_of}
-use Rattle.mk_edit_language.specs.Edits.{SetValue}
-use Rattle.mk_edit_language.specs.ValueSpans.{set_value_span}
-use Rattle.mk_edit_language.specs.Refusals.{spans, text_by, text_after}
-use Rattle.mk_edit_language.specs.Changes.{change, item_with_value, leaves_fold_last, value_set}
-use Rattle.mk_edit_language.proofs.on_edits.Accepted.{accepted, where_holds-none}
+use Rattle.mk_edit_language.specs.ValueChanges.{set_value_span}
+use Rattle.mk_edit_language.specs.Changes.{item_with_value, leaves_fold_last, value_set}
 use Rattle.mk_edit_language.proofs.on_values.ValueLines.{parts-units}
-use Rattle.mk_edit_language.proofs.on_values.FoundAssignments.{assignment-found, no_prefix-set}
+use Rattle.mk_edit_language.proofs.on_values.FoundAssignments.{no_prefix-set}
 use Rattle.mk_edit_language.proofs.on_values.FoldEnds.{escape_cells, fold-ends_escaped}
 use Rattle.mk_edit_language.proofs.on_lines.LineReplaced.{IsLineReplaced, replaced-line, replaced-same}
-use Rattle.mk_edit_language.proofs.on_values.SetValueLemmas.{value-found, not_prefix, set_value-line, set_value-some}
+use Rattle.mk_edit_language.proofs.on_values.SetValueLemmas.{set_value-line}
 use Rattle.mk_edit_language.proofs.on_values.SetValueEmptyLemmas.{line-emptied, text-emptied, set_value-emptied, last-same, last_of_reverse, last-append, last-line}
-use Rattle.mk_edit_language.specs.declared.refusal.Refusal.TheVariants.{NoSuch}
 
 -- ---- blanks and folds, and a lone backslash
 
@@ -378,19 +373,3 @@ pub set_value-replaced : (t : List ℕ) (A : List ClassedLine) (l : ClassedLine)
     → IsLineReplaced (replaced 0 t (set_value_span v (length (text_of A)) a ∷ [])) A B (item_with_value a (value_set t v (length (text_of A)) a))
 set_value-replaced t A l B a [] h k f i = set_value-to_nothing t A l B a h k f
 set_value-replaced t A l B a (b ∷ v) h k f i = set_value-line t A l B a b v h k f i
-
--- ---- the law
-
--- the law, of the empty value
-set_value-nothing : (t n : List ℕ) (nth : Option ℕ) (rs : List Replacement) → spans t (SetValue nth n []) ≡ Ok rs → reading (text_after t (SetValue nth n [])) ≡ change t (SetValue nth n [])
-set_value-nothing t n nth rs h =
-    let A = accepted t (SetValue nth n []) rs h in
-    let F = assignment-found t n nth (where_holds-none _ NoSuch A.is_there) (where_holds-none _ _ A.is_one) (not_prefix n A.not_reserved) in
-    let s = F.spot in
-    ap (λ z. reading (text_by t z)) h
-    ∙ value-found t n nth rs (set_value_span []) (value_set t []) F (set_value-to_nothing t s.above s.line s.below F.assigned F.whole F.class_is F.no_prefix) A.spans_are
-
--- the law, of each value
-pub set_value-reads : (nth : Option ℕ) (n v t : List ℕ) (rs : List Replacement) → spans t (SetValue nth n v) ≡ Ok rs → reading (text_after t (SetValue nth n v)) ≡ change t (SetValue nth n v)
-set_value-reads nth n [] t rs h = set_value-nothing t n nth rs h
-set_value-reads nth n (b ∷ v) t rs h = set_value-some t n nth b v rs h

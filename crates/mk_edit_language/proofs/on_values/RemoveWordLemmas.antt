@@ -1,12 +1,10 @@
 -- An accepted `RemoveWord` changes the reading by this value alone.
-use Rattle.std.proofs.Common.{◌≡◌, refl, sym, ap, ◌∙◌, subst, ℕ, List, [], ◌∷◌, ◌++◌, Bool, true, false, not, ◌&&◌, ◌||◌, cond, Option, Some, None, length, ◌+◌, append_assoc, reverse}
-use Rattle.std.proofs.lemmas.Bool.{and_parts}
+use Rattle.std.proofs.Common.{◌≡◌, refl, sym, ap, ◌∙◌, subst, ℕ, List, [], ◌∷◌, ◌++◌, Bool, true, false, not, cond, Option, None, length, ◌+◌, append_assoc, reverse}
 use Rattle.std.proofs.lemmas.List.{append-nil}
-use Rattle.std.specs.List.{list_any}
-use Rattle.std.specs.Prelude.{nat_lt, Ok}
+use Rattle.std.specs.Prelude.{nat_lt}
 use Rattle.mk_lines.specs.Lists.{concat, Each, FirstFails, LastFails}
 use Rattle.mk_lines.proofs.on_lists.ListLemmas.{concat-append}
-use Rattle.mk_lines.proofs.on_lists.BoolLemmas.{or-left_false, or-right_false}
+use Rattle.mk_lines.proofs.on_lists.BoolLemmas.{or-left_false}
 use Rattle.mk_lines.specs.PhysicalLines.{line_end, line_end_bytes, without_line_end}
 use Rattle.mk_lines.specs.Cells.{Cell, joined_byte, raw_text, line_cells}
 use Rattle.mk_lines.specs.CellFaults.{has_stray}
@@ -16,15 +14,14 @@ use Rattle.mk_lines.proofs.on_lines.LineEndLemmas.{KeepsApart, without_line_end-
 use Rattle.mk_lines.proofs.on_cells.LineCells.{EndLineBefore, line-ends, line-keeps_apart}
 use Rattle.mk_lines.specs.Units.{units, is_closed}
 use Rattle.mk_lines.specs.Words.{is_gap, IsWord}
-use Rattle.mk_lines.specs.Pieces.{Replacement, replaced, Piece, Keep, Replace, old_cells, new_cells, old_bytes, replacements}
+use Rattle.mk_lines.specs.Pieces.{replaced, Piece, Keep, Replace, old_cells, new_cells, old_bytes, replacements}
 use Rattle.mk_lines.proofs.on_lists.PieceLemmas.{raw_text-old_cells, raw_text-new_cells, old_cells-append, new_cells-append}
 use Rattle.mk_class.specs.ListTests.{is_empty}
 use Rattle.mk_class.specs.Texts.{unit_text}
 use Rattle.mk_class.specs.CutTexts.{is_no_hash}
 use Rattle.mk_class.specs.Assignments.{Assignment, before_value}
 use Rattle.mk_class.specs.RecipePrefix.{is_prefix_led, is_prefix_name}
-use Rattle.mk_class.specs.Arguments.{is_value, is_name}
-use Rattle.mk_class.specs.Classes.{Class}
+use Rattle.mk_class.specs.Arguments.{is_value}
 use Rattle.mk_class.specs.Classes.Class.{Assign}
 use Rattle.mk_class.specs.Contexts.{Context}
 use Rattle.mk_class.specs.ClassTable.{class_of}
@@ -32,34 +29,22 @@ use Rattle.mk_class.proofs.on_classes.ClassLemmas.{plain_class-assign, class_at-
 use Rattle.mk_class.proofs.on_assignments.AssignmentLineLemmas.{AssignParts, assign_parts}
 use Rattle.mk_class.specs.ClassedLines.{ClassedLine, classed_lines}
 use Rattle.mk_tree.specs.Documents.{text_of, context_of}
-use Rattle.mk_tree.specs.Readings.{reading}
-use Rattle.mk_tree.specs.LineTexts.{StandingLine}
 use Rattle.mk_tree.proofs.on_documents.LinesInText.{line-in_text, bytes_of}
 use Rattle.mk_tree.proofs.on_changes.SpansInLines.{text-pieces_replaced}
-use Rattle.mk_edit_language.specs.Edits.{RemoveWord}
-use Rattle.mk_edit_language.specs.Addresses.{Variable, found}
-use Rattle.mk_edit_language.specs.ValueSpans.{value_start, set_value_span}
+use Rattle.mk_edit_language.specs.ValueChanges.{value_start, set_value_span, LedWord, led_words, staying, led_units, from_first_word, first_gaps, pieces_after, remove_word_pieces, remove_word_spans}
 use Rattle.mk_edit_language.specs.WordPieces.{is_word_of}
-use Rattle.mk_edit_language.specs.ValueWords.{assignment_passes, LedWord, led_words, staying, led_units, from_first_word, first_gaps, pieces_after, remove_word_pieces, remove_word_spans}
-use Rattle.mk_edit_language.specs.ArgumentCauses.{is_value_word}
-use Rattle.mk_edit_language.specs.RuleCauses.{class_found}
-use Rattle.mk_edit_language.specs.LineCauses.{has_open_value, bares_end, bares_end_among}
-use Rattle.mk_edit_language.specs.Refusals.{spans, text_by, text_after}
-use Rattle.mk_edit_language.specs.Changes.{change, item_with_value, value_without, value_set}
-use Rattle.mk_edit_language.proofs.on_edits.Accepted.{IsAccepted, accepted, where_holds-none, two-passed}
+use Rattle.mk_edit_language.specs.LineCauses.{bares_end, bares_end_among}
+use Rattle.mk_edit_language.specs.Changes.{item_with_value, value_without, value_set}
 use Rattle.mk_edit_language.proofs.on_lines.HeadUnits.{AllAre}
 use Rattle.mk_edit_language.proofs.on_lines.LineReplaced.{IsLineReplaced, replaced-same}
-use Rattle.mk_edit_language.proofs.on_values.FoundAssignments.{FoundAssignment, assignment-found, no_prefix-set}
+use Rattle.mk_edit_language.proofs.on_values.FoundAssignments.{no_prefix-set}
 use Rattle.mk_edit_language.proofs.on_values.ValueLines.{IsValue, IsValueLine, with_cells, cells_with, line_of, value-line}
 use Rattle.mk_edit_language.proofs.on_values.ValueEdits.{value-replaced}
-use Rattle.mk_edit_language.proofs.on_values.SetValueLemmas.{values-found, not_prefix}
 use Rattle.mk_edit_language.proofs.on_values.SetValueEmptyLemmas.{before-resets}
 use Rattle.mk_edit_language.proofs.on_values.LastFoldLemmas.{set_value-to_nothing}
-use Rattle.mk_edit_language.proofs.on_values.AppendValueLemmas.{value-units, closed-found}
+use Rattle.mk_edit_language.proofs.on_values.AppendValueLemmas.{value-units}
 use Rattle.mk_edit_language.proofs.on_values.WordParts.{IsPart, IsLedWord, value-led, staying-all, from_first-part, from_first-first, from_first-last}
 use Rattle.mk_edit_language.proofs.on_values.CellsKept.{FitsLine, led_cells, led-cells, front-kept}
-use Rattle.mk_edit_language.specs.declared.refusal.Field.TheVariants as field
-use Rattle.mk_edit_language.specs.declared.refusal.Refusal.TheVariants.{NoSuch, OpenValue}
 
 -- ---- the pieces of a value
 
@@ -222,38 +207,3 @@ remove_word-line t A l B a w h k f v closed bared = go (is_empty (staying w (led
         replaced-same _ _ A B _ _ (sym (value_pieces-replaced t A l B a (remove_word_pieces w ls) V Q h cells (remove_word-new w ls))) refl
         (value-replaced t A l B a (line_of (cells_with a V a.after m.parts.rest) (line_end_bytes (line_end l.bytes))) V a.after (unit_text joined_byte (kept_units w a)) h k m.line.one m.line.ends
         (m.line.class ∙ ap (Assign (with_cells a V a.after)) (no_prefix-set (nat_lt 0 c.conditionals) (with_cells a V a.after) f)) (ap (unit_text joined_byte) m.units_are))
-
--- ---- the law
-
--- what is known of an accepted removal: the word is a value; the value that it is taken out of is found and closed, and no end of a
--- word is bared
-pub record IsWordRemoved (t n w : List ℕ) (nth : Option ℕ) : Type 0 where
-  pub value : is_value w ≡ true
-  pub found_value : FoundAssignment t n nth
-  pub closed : is_closed joined_byte (concat found_value.assigned.value) ≡ true
-  pub not_bared : bares_end w found_value.assigned ≡ false
-
-pub word-removed : (t n w : List ℕ) (nth : Option ℕ) (rs : List Replacement) → IsAccepted t (RemoveWord nth n w) rs → IsWordRemoved t n w nth
-word-removed t n w nth rs A =
-    let k = class_found (found (classed_lines t) (Variable nth n)) in
-    let word = (two-passed field.Name field.Word (is_name n) (is_value_word w) A.arguments).1 in
-    let F = assignment-found t n nth (where_holds-none _ NoSuch A.is_there) (where_holds-none _ _ A.is_one) (not_prefix n A.not_reserved) in
-    let o : (has_open_value k || assignment_passes (bares_end w) k) ≡ false = where_holds-none _ OpenValue A.value_closed in
-    let x : assignment_passes (bares_end w) (Some F.spot.line.class) ≡ false =
-    subst (λ (z : Option StandingLine). assignment_passes (bares_end w) (class_found z) ≡ false) F.found_is (or-right_false (has_open_value k) (assignment_passes (bares_end w) k) o) in
-    record {
-      value = (and_parts (is_value w) (not (is_empty w) && not (list_any (is_gap (λ b. b)) (units (λ b. b) w))) word).0;
-      found_value = F;
-      closed = closed-found t n nth F (or-left_false (has_open_value k) (assignment_passes (bares_end w) k) o);
-      not_bared = subst (λ (z : Class Cell). assignment_passes (bares_end w) (Some z) ≡ false) F.class_is x;
-    }
-
--- the law
-pub remove_word-reads : (nth : Option ℕ) (n w t : List ℕ) (rs : List Replacement) → spans t (RemoveWord nth n w) ≡ Ok rs → reading (text_after t (RemoveWord nth n w)) ≡ change t (RemoveWord nth n w)
-remove_word-reads nth n w t rs h =
-    let A = accepted t (RemoveWord nth n w) rs h in
-    let W = word-removed t n w nth rs A in
-    let F = W.found_value in
-    ap (λ z. reading (text_by t z)) h
-    ∙ values-found t n nth rs (remove_word_spans w) (value_without t w) F (remove_word-line t F.spot.above F.spot.line F.spot.below F.assigned w F.whole F.class_is F.no_prefix W.value W.closed W.not_bared)
-    A.spans_are

@@ -43,7 +43,7 @@ use Rattle.mk_class.specs.ClassedLines.{ClassedLine, classed_lines}
 use Rattle.mk_class.specs.PartOffsets.{raw_width}
 use Rattle.mk_tree.specs.Documents.{text_of, context_of}
 use Rattle.mk_tree.proofs.on_documents.LinesInText.{line-in_text, bytes_of}
-use Rattle.mk_edit_language.specs.ValueSpans.{set_value_span, value_start, blanks_end}
+use Rattle.mk_edit_language.specs.ValueChanges.{set_value_span, value_start, blanks_end}
 use Rattle.mk_edit_language.specs.Changes.{item_with_value, leaves_fold_last}
 use Rattle.mk_edit_language.proofs.on_values.ValueLines.{IsValue, IsValueLine, with_cells, cells_with, line_of, parts-cells, value-line_of, line_of-some}
 use Rattle.mk_edit_language.proofs.on_values.FoundAssignments.{no_prefix-set}

@@ -16,7 +16,7 @@ use Rattle.mk_class.specs.CutTexts.{is_no_hash}
 use Rattle.mk_class.proofs.on_symbols.SymbolLemmas.{gap-plain}
 use Rattle.mk_class.proofs.on_classes.ClassLemmas.{has_stray-append, has_stray-left, has_stray-right}
 use Rattle.mk_edit_language.specs.WordPieces.{is_word_of}
-use Rattle.mk_edit_language.specs.ValueWords.{LedWord, led_words_among, led_words, staying, led_units, from_first_word, first_gaps}
+use Rattle.mk_edit_language.specs.ValueChanges.{LedWord, led_words_among, led_words, staying, led_units, from_first_word, first_gaps}
 use Rattle.mk_edit_language.proofs.on_lines.HeadUnits.{AllAre}
 
 -- ---- units that may be a part of a value

@@ -1,6 +1,6 @@
 //! What an edit leaves as it was: the bytes outside its spans, and the lines that its spans do not
 //! touch.
-ghost use Rattle.mk_edit_language.specs.OutsideLaws.{EditedLinesStand, EditsKeepOthers, LengthsAddUp, OnlySpansAreReplaced, SpansTouchFewLines};
+ghost use Rattle.mk_edit_language.specs.EditLaws.{EditedLinesStand, EditsKeepOthers, LengthsAddUp, OnlySpansAreReplaced, SpansTouchFewLines};
 
 /// The spans of an accepted edit stand in the text in order and apart, and the bytes outside them
 /// are as before: the text after the edit is the text before it with each span replaced.

@@ -5,13 +5,13 @@ use Rattle.std.specs.Prelude.{Err}
 use Rattle.mk_class.specs.Keywords.{is_reserved_word}
 use Rattle.mk_class.specs.RecipePrefix.{is_prefix_name}
 use Rattle.mk_class.specs.ClassedLines.{ClassedLine, classed_lines}
-use Rattle.mk_edit_language.specs.Edits.{Edit, SetValue, AppendValue, AddWord, RemoveWord, ChangeValues, AddAssign, RemoveAssign, AddRule, RemoveRule, AddPrereq, RemovePrereq, AddRecipe, SetRecipe, RemoveRecipe, InsertRecipe, SetRecipeByText, RemoveRecipeByText, RenameTarget}
+use Rattle.mk_edit_language.specs.Edits.{One, Every, OfAssign, OfRule, OfRecipe, Edit, ChangeValue, ChangePrereqs, AddLine, AddRecipe, SetRecipe, RemoveLines, RenameTarget}
 use Rattle.mk_edit_language.specs.Addresses.{address}
 use Rattle.mk_edit_language.specs.Causes.{where_holds}
 use Rattle.mk_edit_language.specs.ArgumentCauses.{bad_argument, reserved, names, targets}
 use Rattle.mk_edit_language.specs.AddressCauses.{is_unread_prefix, unread_prefix, no_such, no_such_line, ambiguous}
 use Rattle.mk_edit_language.specs.Refusals.{first_cause, spans}
-use Rattle.mk_edit_language.specs.TouchedLines.{IsOfOnePlace}
+use Rattle.mk_edit_language.specs.KeptLines.{IsOfOnePlace}
 use Rattle.mk_edit_language.specs.declared.refusal.Refusal.{Refusal}
 use Rattle.mk_edit_language.specs.declared.refusal.Refusal.TheVariants.{Reserved, RecipePrefix}
 use Rattle.mk_edit_parts.specs.Found.{IsNotPicked}
@@ -26,23 +26,15 @@ unread-holds ls b h = ap (λ z. where_holds z RecipePrefix) (sym h)
 
 -- for an edit of one place, whether there is no such line is told by its address
 same-no_such : (ls : List ClassedLine) (e : Edit) → IsOfOnePlace e → no_such ls e ≡ no_such_line ls (address e)
-same-no_such ls (SetValue nth n v) h = refl
-same-no_such ls (AppendValue nth n v) h = refl
-same-no_such ls (AddWord nth n w) h = refl
-same-no_such ls (RemoveWord nth n w) h = refl
-same-no_such ls (RemoveAssign nth n) h = refl
-same-no_such ls (AddAssign p n f v) h = refl
-same-no_such ls (AddRule p ts c ws) h = refl
-same-no_such ls (RemoveRule nth g) h = refl
-same-no_such ls (AddPrereq o nth g w) h = refl
-same-no_such ls (RemovePrereq nth g w) h = refl
-same-no_such ls (AddRecipe nth g c) h = refl
-same-no_such ls (SetRecipe nth g k c) h = refl
-same-no_such ls (RemoveRecipe nth g k) h = refl
-same-no_such ls (InsertRecipe nth g k c) h = refl
-same-no_such ls (SetRecipeByText nth g o c) h = refl
-same-no_such ls (RemoveRecipeByText nth g o) h = refl
-same-no_such ls (ChangeValues n c) h = absurd h
+same-no_such ls (ChangeValue (One nth) n c) h = refl
+same-no_such ls (ChangeValue Every n c) h = absurd h
+same-no_such ls (ChangePrereqs nth g c) h = refl
+same-no_such ls (AddLine p l) h = refl
+same-no_such ls (AddRecipe nth g p c) h = refl
+same-no_such ls (SetRecipe nth g w c) h = refl
+same-no_such ls (RemoveLines (OfAssign nth n)) h = refl
+same-no_such ls (RemoveLines (OfRule nth g)) h = refl
+same-no_such ls (RemoveLines (OfRecipe nth g w)) h = refl
 same-no_such ls (RenameTarget o n) h = absurd h
 
 -- the two causes of an address, among others

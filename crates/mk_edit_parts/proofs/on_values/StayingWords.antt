@@ -13,7 +13,7 @@ use Rattle.mk_class.specs.ListTests.{is_empty}
 use Rattle.mk_class.specs.LocatedClasses.{width}
 use Rattle.mk_class.specs.PartOffsets.{IsPart}
 use Rattle.mk_edit_language.specs.WordPieces.{is_word_of}
-use Rattle.mk_edit_language.specs.ValueWords.{LedWord, led_words_among, led_words, staying, pieces_after, first_gaps, remove_word_pieces}
+use Rattle.mk_edit_language.specs.ValueChanges.{LedWord, led_words_among, led_words, staying, pieces_after, first_gaps, remove_word_pieces}
 use Rattle.mk_edit_parts.specs.WordCuts.{raw_between, staying_words, some_stays}
 use Rattle.mk_edit_parts.proofs.on_prerequisites.WordRangeLemmas.{IsCut, cut-gap, cut-word, part-cut, part-ranges}
 

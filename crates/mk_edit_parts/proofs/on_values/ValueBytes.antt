@@ -12,7 +12,7 @@ use Rattle.mk_class.specs.declared.assignment.Assignment as assignment
 use Rattle.mk_class.proofs.on_classes.PartOffsetLemmas.{width-append}
 use Rattle.mk_tree.specs.LocatedLines.{LocatedLine, text_of_line}
 use Rattle.mk_lines.specs.Ranges.{text_at, word_ranges}
-use Rattle.mk_edit_language.specs.ValueWords.{led_words, staying, remove_word_pieces}
+use Rattle.mk_edit_language.specs.ValueChanges.{led_words, staying, remove_word_pieces}
 use Rattle.mk_edit_parts.specs.SeenAssignments.{IsAssignmentSeen}
 use Rattle.mk_edit_parts.specs.ValuePieces.{value_without_pieces, line_without_pieces}
 use Rattle.mk_edit_parts.specs.WordCuts.{raw_between, staying_words, some_stays}

@@ -5,7 +5,7 @@ use Rattle.bstr.specs.Text.{line_len, lines_from}
 use Rattle.mk_class.specs.declared.assignment.Flavor.TheVariants.{Recursive, Simple, PosixSimple, Immediate, Conditional, Append, Shell}
 use Rattle.mk_edit_language.specs.declared.edit.RuleSeparator.TheVariants.{Single, Double}
 use Rattle.mk_edit_language.specs.Edits.{Bottom, BeforeVar, AfterVar, BeforeRule}
-use Rattle.mk_edit_language.specs.Edits.{SetValue, AppendValue, RemoveAssign, RemoveRule, AddPrereq, RemovePrereq, AddRecipe, SetRecipe, RemoveRecipe, ChangeValues, AddAssign, AddRule, RenameTarget}
+use Rattle.mk_edit_language.specs.Edits.{One, Every, NewAssign, NewRule, AddPrereq, RemovePrereq, ByNumber, Last, OfAssign, OfRule, OfRecipe, ChangeValue, ChangePrereqs, AddLine, AddRecipe, SetRecipe, RemoveLines, RenameTarget}
 use Rattle.mk_edit_language.specs.Edits as edits
 use Rattle.mk_history.specs.Machine.{Apply, Undo, Redo, Begin, End, Cancel}
 use Rattle.mk_script.specs.Scripts.{Step, Chain}
@@ -13,13 +13,13 @@ use Rattle.mk_rows.proofs.scripts.ScriptReader.{on_line, edit_on, tried_on, read
 
 abbrev rows_1 : List (List ℕ × Result (List Step) ℕ)
 rows_1 =
-    (codes "set X \"a b\"", Ok (on_line 1 (Apply (SetValue None (codes "X") (codes "a b"))) ∷ [])) ∷  -- a-quoted-blank
-    (codes "set X \"a\\\"b\"", Ok (on_line 1 (Apply (SetValue None (codes "X") (codes "a\"b"))) ∷ [])) ∷  -- an-escaped-quote
-    (codes "set X \"a\\\\b\"", Ok (on_line 1 (Apply (SetValue None (codes "X") (codes "a\\b"))) ∷ [])) ∷  -- an-escaped-backslash
-    (codes "set X \"\\\\\\\"\"", Ok (on_line 1 (Apply (SetValue None (codes "X") (codes "\\\""))) ∷ [])) ∷  -- both-escapes
-    (codes "set X \"a\\\\\"", Ok (on_line 1 (Apply (SetValue None (codes "X") (codes "a\\"))) ∷ [])) ∷  -- an-escaped-backslash-at-the-end
-    (codes "set X \"\"", Ok (on_line 1 (Apply (SetValue None (codes "X") [])) ∷ [])) ∷  -- the-empty-field
-    (codes "set \"\" v", Ok (on_line 1 (Apply (SetValue None [] (codes "v"))) ∷ [])) ∷  -- an-empty-name
+    (codes "set X \"a b\"", Ok (on_line 1 (Apply (ChangeValue (One None) (codes "X") (edits.Set (codes "a b")))) ∷ [])) ∷  -- a-quoted-blank
+    (codes "set X \"a\\\"b\"", Ok (on_line 1 (Apply (ChangeValue (One None) (codes "X") (edits.Set (codes "a\"b")))) ∷ [])) ∷  -- an-escaped-quote
+    (codes "set X \"a\\\\b\"", Ok (on_line 1 (Apply (ChangeValue (One None) (codes "X") (edits.Set (codes "a\\b")))) ∷ [])) ∷  -- an-escaped-backslash
+    (codes "set X \"\\\\\\\"\"", Ok (on_line 1 (Apply (ChangeValue (One None) (codes "X") (edits.Set (codes "\\\"")))) ∷ [])) ∷  -- both-escapes
+    (codes "set X \"a\\\\\"", Ok (on_line 1 (Apply (ChangeValue (One None) (codes "X") (edits.Set (codes "a\\")))) ∷ [])) ∷  -- an-escaped-backslash-at-the-end
+    (codes "set X \"\"", Ok (on_line 1 (Apply (ChangeValue (One None) (codes "X") (edits.Set []))) ∷ [])) ∷  -- the-empty-field
+    (codes "set \"\" v", Ok (on_line 1 (Apply (ChangeValue (One None) [] (edits.Set (codes "v")))) ∷ [])) ∷  -- an-empty-name
     (codes "set X \"a\"b", Err 1) ∷  -- a-quote-ends-within-a-field
     (codes "set X \"\"\"", Err 1) ∷  -- a-quote-directly-after-a-quote
     (codes "set X \"a\"\"b\"", Err 1) ∷  -- two-quoted-fields-without-a-blank
@@ -29,23 +29,23 @@ rows_1 =
     (codes "set X \"a\\\"", Err 1) ∷  -- an-escaped-quote-without-an-end
     (codes "set X \"a\\", Err 1) ∷  -- a-backslash-at-the-end-of-a-line
     (codes "undo \"", Err 1) ∷  -- a-bad-quote-after-a-whole-command
-    (codes "set X \"a\"\t ", Ok (on_line 1 (Apply (SetValue None (codes "X") (codes "a"))) ∷ [])) ∷  -- a-blank-after-a-quote
-    (codes "set X \"#\"", Ok (on_line 1 (Apply (SetValue None (codes "X") (codes "#"))) ∷ [])) ∷  -- a-quoted-hash
-    (codes "set X \"\t\"", Ok (on_line 1 (Apply (SetValue None (codes "X") (codes "\t"))) ∷ [])) ∷  -- a-quoted-tab
-    (codes "set X a\"b", Ok (on_line 1 (Apply (SetValue None (codes "X") (codes "a\"b"))) ∷ [])) ∷  -- a-quote-in-a-bare-field
-    (codes "set X a\"", Ok (on_line 1 (Apply (SetValue None (codes "X") (codes "a\""))) ∷ [])) ∷  -- a-bare-field-ends-in-a-quote
-    (codes "set X a\\b", Ok (on_line 1 (Apply (SetValue None (codes "X") (codes "a\\b"))) ∷ [])) ∷  -- a-backslash-in-a-bare-field
-    (codes "set X \\\"", Ok (on_line 1 (Apply (SetValue None (codes "X") (codes "\\\""))) ∷ [])) ∷  -- a-bare-field-begins-with-a-backslash
-    (codes "set X #", Ok (on_line 1 (Apply (SetValue None (codes "X") (codes "#"))) ∷ [])) ∷  -- a-hash-in-a-bare-field
-    (codes "set X \0", Ok (on_line 1 (Apply (SetValue None (codes "X") (codes "\0"))) ∷ [])) ∷  -- a-zero-byte
-    (codes "set é ÿ", Ok (on_line 1 (Apply (SetValue None (codes "é") (codes "ÿ"))) ∷ [])) ∷  -- bytes-above-127
+    (codes "set X \"a\"\t ", Ok (on_line 1 (Apply (ChangeValue (One None) (codes "X") (edits.Set (codes "a")))) ∷ [])) ∷  -- a-blank-after-a-quote
+    (codes "set X \"#\"", Ok (on_line 1 (Apply (ChangeValue (One None) (codes "X") (edits.Set (codes "#")))) ∷ [])) ∷  -- a-quoted-hash
+    (codes "set X \"\t\"", Ok (on_line 1 (Apply (ChangeValue (One None) (codes "X") (edits.Set (codes "\t")))) ∷ [])) ∷  -- a-quoted-tab
+    (codes "set X a\"b", Ok (on_line 1 (Apply (ChangeValue (One None) (codes "X") (edits.Set (codes "a\"b")))) ∷ [])) ∷  -- a-quote-in-a-bare-field
+    (codes "set X a\"", Ok (on_line 1 (Apply (ChangeValue (One None) (codes "X") (edits.Set (codes "a\"")))) ∷ [])) ∷  -- a-bare-field-ends-in-a-quote
+    (codes "set X a\\b", Ok (on_line 1 (Apply (ChangeValue (One None) (codes "X") (edits.Set (codes "a\\b")))) ∷ [])) ∷  -- a-backslash-in-a-bare-field
+    (codes "set X \\\"", Ok (on_line 1 (Apply (ChangeValue (One None) (codes "X") (edits.Set (codes "\\\"")))) ∷ [])) ∷  -- a-bare-field-begins-with-a-backslash
+    (codes "set X #", Ok (on_line 1 (Apply (ChangeValue (One None) (codes "X") (edits.Set (codes "#")))) ∷ [])) ∷  -- a-hash-in-a-bare-field
+    (codes "set X \0", Ok (on_line 1 (Apply (ChangeValue (One None) (codes "X") (edits.Set (codes "\0")))) ∷ [])) ∷  -- a-zero-byte
+    (codes "set é ÿ", Ok (on_line 1 (Apply (ChangeValue (One None) (codes "é") (edits.Set (codes "ÿ")))) ∷ [])) ∷  -- bytes-above-127
     (codes "set\u{c}X 1", Err 1) ∷  -- a-form-feed-is-no-blank
     (codes "set X\u{b}1", Err 1) ∷  -- a-vertical-tab-is-no-blank
-    (codes " \tset\t\tX \t 1 \t", Ok (on_line 1 (Apply (SetValue None (codes "X") (codes "1"))) ∷ [])) ∷  -- blanks-of-both-kinds
-    (codes "\"set\" X 2", Ok (on_line 1 (Apply (SetValue None (codes "X") (codes "2"))) ∷ [])) ∷  -- quoted-words
+    (codes " \tset\t\tX \t 1 \t", Ok (on_line 1 (Apply (ChangeValue (One None) (codes "X") (edits.Set (codes "1")))) ∷ [])) ∷  -- blanks-of-both-kinds
+    (codes "\"set\" X 2", Ok (on_line 1 (Apply (ChangeValue (One None) (codes "X") (edits.Set (codes "2")))) ∷ [])) ∷  -- quoted-words
     (codes "\"undo\"", Ok (on_line 1 Undo ∷ [])) ∷  -- a-quoted-call
-    (codes "nth \"1\" set X 2", Ok (on_line 1 (Apply (SetValue (Some 1) (codes "X") (codes "2"))) ∷ [])) ∷  -- a-quoted-number
-    (codes "assign \"bottom\" Y \"=\" 1", Ok (on_line 1 (Apply (AddAssign Bottom (codes "Y") Recursive (codes "1"))) ∷ [])) ∷  -- a-quoted-place-and-operator
+    (codes "nth \"1\" set X 2", Ok (on_line 1 (Apply (ChangeValue (One (Some 1)) (codes "X") (edits.Set (codes "2")))) ∷ [])) ∷  -- a-quoted-number
+    (codes "assign \"bottom\" Y \"=\" 1", Ok (on_line 1 (Apply (AddLine Bottom (NewAssign (codes "Y") Recursive (codes "1")))) ∷ [])) ∷  -- a-quoted-place-and-operator
     (codes "\"s\\\\et\" X 2", Err 1) ∷  -- an-escape-in-a-keyword
     (codes "nth \"1\\\"\" set X 2", Err 1) ∷  -- an-escape-in-a-number
     ([], Ok []) ∷  -- no-line
@@ -59,7 +59,7 @@ rows_1 =
     (codes "undo\n\n# c\n \nredo\n", Ok (on_line 1 Undo ∷ on_line 5 Redo ∷ [])) ∷  -- lines-are-counted-from-1
     (codes "undo\n\nx\ny\n", Err 3) ∷  -- the-first-line-that-is-no-command
     (codes "#\n\n#\nset\n", Err 4) ∷  -- a-fault-after-skipped-lines
-    (codes "set X 1\r\nundo\r\n", Ok (on_line 1 (Apply (SetValue None (codes "X") (codes "1"))) ∷ on_line 2 Undo ∷ [])) ∷  -- lines-end-in-crlf
+    (codes "set X 1\r\nundo\r\n", Ok (on_line 1 (Apply (ChangeValue (One None) (codes "X") (edits.Set (codes "1")))) ∷ on_line 2 Undo ∷ [])) ∷  -- lines-end-in-crlf
     (codes "\r\n", Ok []) ∷  -- an-empty-line-with-crlf
     (codes "# c\r\nundo\r\n", Ok (on_line 2 Undo ∷ [])) ∷  -- a-comment-with-crlf
     (codes "\r", Err 1) ∷  -- one-return
@@ -71,17 +71,17 @@ answers_1 = refl
 
 abbrev rows_2 : List (List ℕ × Result (List Step) ℕ)
 rows_2 =
-    (codes "set X 1\r", Ok (on_line 1 (Apply (SetValue None (codes "X") (codes "1\r"))) ∷ [])) ∷  -- a-return-at-the-end-of-the-script
+    (codes "set X 1\r", Ok (on_line 1 (Apply (ChangeValue (One None) (codes "X") (edits.Set (codes "1\r")))) ∷ [])) ∷  -- a-return-at-the-end-of-the-script
     (codes "set X \"1\"\r", Err 1) ∷  -- a-return-after-a-quote
-    (codes "set X 1\r\r\n", Ok (on_line 1 (Apply (SetValue None (codes "X") (codes "1\r"))) ∷ [])) ∷  -- two-returns-before-a-line-feed
-    (codes "set X\r1 2\n", Ok (on_line 1 (Apply (SetValue None (codes "X\r1") (codes "2"))) ∷ [])) ∷  -- a-return-within-a-line
+    (codes "set X 1\r\r\n", Ok (on_line 1 (Apply (ChangeValue (One None) (codes "X") (edits.Set (codes "1\r")))) ∷ [])) ∷  -- two-returns-before-a-line-feed
+    (codes "set X\r1 2\n", Ok (on_line 1 (Apply (ChangeValue (One None) (codes "X\r1") (edits.Set (codes "2")))) ∷ [])) ∷  -- a-return-within-a-line
     (codes "undo\r", Err 1) ∷  -- a-call-and-a-return
-    (codes "nth 0000000012 set X 2", Ok (on_line 1 (Apply (SetValue (Some 12) (codes "X") (codes "2"))) ∷ [])) ∷  -- nth-of-ten-digits
+    (codes "nth 0000000012 set X 2", Ok (on_line 1 (Apply (ChangeValue (One (Some 12)) (codes "X") (edits.Set (codes "2")))) ∷ [])) ∷  -- nth-of-ten-digits
     (codes "nth 00000000012 set X 2", Err 1) ∷  -- nth-of-eleven-digits
-    (codes "nth 4294967295 set X 2", Ok (on_line 1 (Apply (SetValue (Some 4294967295) (codes "X") (codes "2"))) ∷ [])) ∷  -- the-greatest-nth
+    (codes "nth 4294967295 set X 2", Ok (on_line 1 (Apply (ChangeValue (One (Some 4294967295)) (codes "X") (edits.Set (codes "2")))) ∷ [])) ∷  -- the-greatest-nth
     (codes "nth 4294967296 set X 2", Err 1) ∷  -- one-more-than-the-greatest-nth
     (codes "nth 9999999999 set X 2", Err 1) ∷  -- the-greatest-ten-digits
-    (codes "nth 0 set X 2", Ok (on_line 1 (Apply (SetValue (Some 0) (codes "X") (codes "2"))) ∷ [])) ∷  -- nth-0
+    (codes "nth 0 set X 2", Ok (on_line 1 (Apply (ChangeValue (One (Some 0)) (codes "X") (edits.Set (codes "2")))) ∷ [])) ∷  -- nth-0
     (codes "nth \"\" set X 2", Err 1) ∷  -- an-empty-number
     (codes "nth +1 set X 2", Err 1) ∷  -- a-number-with-a-sign
     (codes "nth -1 set X 2", Err 1) ∷  -- a-number-below-0
@@ -90,9 +90,9 @@ rows_2 =
     (codes "nth 1\r set X 2", Err 1) ∷  -- a-number-with-a-return
     (codes "nth / set X 2", Err 1) ∷  -- the-byte-before-0
     (codes "nth : set X 2", Err 1) ∷  -- the-byte-after-9
-    (codes "recipe-set a 0 b", Ok (on_line 1 (Apply (SetRecipe None (codes "a") 0 (codes "b"))) ∷ [])) ∷  -- recipe-line-0
-    (codes "recipe-del a 01", Ok (on_line 1 (Apply (RemoveRecipe None (codes "a") 1)) ∷ [])) ∷  -- a-recipe-line-with-a-leading-zero
-    (codes "recipe-del a 4294967295", Ok (on_line 1 (Apply (RemoveRecipe None (codes "a") 4294967295)) ∷ [])) ∷  -- the-greatest-recipe-line
+    (codes "recipe-set a 0 b", Ok (on_line 1 (Apply (SetRecipe None (codes "a") (ByNumber 0) (codes "b"))) ∷ [])) ∷  -- recipe-line-0
+    (codes "recipe-del a 01", Ok (on_line 1 (Apply (RemoveLines (OfRecipe None (codes "a") (ByNumber 1)))) ∷ [])) ∷  -- a-recipe-line-with-a-leading-zero
+    (codes "recipe-del a 4294967295", Ok (on_line 1 (Apply (RemoveLines (OfRecipe None (codes "a") (ByNumber 4294967295)))) ∷ [])) ∷  -- the-greatest-recipe-line
     (codes "recipe-set a 4294967296 b", Err 1) ∷  -- one-more-than-the-greatest-recipe-line
     (codes "recipe-del a x", Err 1) ∷  -- a-recipe-line-that-is-no-number
     (codes "nth", Err 1) ∷  -- nth-alone
@@ -104,13 +104,13 @@ rows_2 =
     (codes "nth 1 assign bottom X = 1", Err 1) ∷  -- nth-before-bottom
     (codes "nth 1 rule bottom a : b", Err 1) ∷  -- nth-before-a-rule-at-the-bottom
     (codes "nth set X 2", Err 1) ∷  -- nth-without-a-number
-    (codes "nth 1 set X a\nnth 2 append X a\nnth 3 unset X\nnth 4 unrule t\nnth 5 depend t a\nnth 6 depend-order t a\nnth 7 undepend t a\nnth 8 recipe t a\nnth 9 recipe-set t 1 a\nnth 10 recipe-del t 1\n", Ok (on_line 1 (Apply (SetValue (Some 1) (codes "X") (codes "a"))) ∷ on_line 2 (Apply (AppendValue (Some 2) (codes "X") (codes "a"))) ∷ on_line 3 (Apply (RemoveAssign (Some 3) (codes "X"))) ∷ on_line 4 (Apply (RemoveRule (Some 4) (codes "t"))) ∷ on_line 5 (Apply (AddPrereq false (Some 5) (codes "t") (codes "a"))) ∷ on_line 6 (Apply (AddPrereq true (Some 6) (codes "t") (codes "a"))) ∷ on_line 7 (Apply (RemovePrereq (Some 7) (codes "t") (codes "a"))) ∷ on_line 8 (Apply (AddRecipe (Some 8) (codes "t") (codes "a"))) ∷ on_line 9 (Apply (SetRecipe (Some 9) (codes "t") 1 (codes "a"))) ∷ on_line 10 (Apply (RemoveRecipe (Some 10) (codes "t") 1)) ∷ [])) ∷  -- nth-of-each-edit
-    (codes "nth 2 assign after-var X Y = 1\nnth 3 rule before-rule a b : c\n", Ok (on_line 1 (Apply (AddAssign (AfterVar (Some 2) (codes "X")) (codes "Y") Recursive (codes "1"))) ∷ on_line 2 (Apply (AddRule (BeforeRule (Some 3) (codes "a")) (codes "b") Single (codes "c"))) ∷ [])) ∷  -- nth-of-a-place
-    (codes "set X a\nappend X a\nunset X\nunrule t\ndepend t a\ndepend-order t a\nundepend t a\nrecipe t \"a b\"\nrecipe-set t 1 a\nrecipe-del t 2\nrename a b\n", Ok (on_line 1 (Apply (SetValue None (codes "X") (codes "a"))) ∷ on_line 2 (Apply (AppendValue None (codes "X") (codes "a"))) ∷ on_line 3 (Apply (RemoveAssign None (codes "X"))) ∷ on_line 4 (Apply (RemoveRule None (codes "t"))) ∷ on_line 5 (Apply (AddPrereq false None (codes "t") (codes "a"))) ∷ on_line 6 (Apply (AddPrereq true None (codes "t") (codes "a"))) ∷ on_line 7 (Apply (RemovePrereq None (codes "t") (codes "a"))) ∷ on_line 8 (Apply (AddRecipe None (codes "t") (codes "a b"))) ∷ on_line 9 (Apply (SetRecipe None (codes "t") 1 (codes "a"))) ∷ on_line 10 (Apply (RemoveRecipe None (codes "t") 2)) ∷ on_line 11 (Apply (RenameTarget (codes "a") (codes "b"))) ∷ [])) ∷  -- each-edit
+    (codes "nth 1 set X a\nnth 2 append X a\nnth 3 unset X\nnth 4 unrule t\nnth 5 depend t a\nnth 6 depend-order t a\nnth 7 undepend t a\nnth 8 recipe t a\nnth 9 recipe-set t 1 a\nnth 10 recipe-del t 1\n", Ok (on_line 1 (Apply (ChangeValue (One (Some 1)) (codes "X") (edits.Set (codes "a")))) ∷ on_line 2 (Apply (ChangeValue (One (Some 2)) (codes "X") (edits.Append (codes "a")))) ∷ on_line 3 (Apply (RemoveLines (OfAssign (Some 3) (codes "X")))) ∷ on_line 4 (Apply (RemoveLines (OfRule (Some 4) (codes "t")))) ∷ on_line 5 (Apply (ChangePrereqs (Some 5) (codes "t") (AddPrereq false (codes "a")))) ∷ on_line 6 (Apply (ChangePrereqs (Some 6) (codes "t") (AddPrereq true (codes "a")))) ∷ on_line 7 (Apply (ChangePrereqs (Some 7) (codes "t") (RemovePrereq (codes "a")))) ∷ on_line 8 (Apply (AddRecipe (Some 8) (codes "t") Last (codes "a"))) ∷ on_line 9 (Apply (SetRecipe (Some 9) (codes "t") (ByNumber 1) (codes "a"))) ∷ on_line 10 (Apply (RemoveLines (OfRecipe (Some 10) (codes "t") (ByNumber 1)))) ∷ [])) ∷  -- nth-of-each-edit
+    (codes "nth 2 assign after-var X Y = 1\nnth 3 rule before-rule a b : c\n", Ok (on_line 1 (Apply (AddLine (AfterVar (Some 2) (codes "X")) (NewAssign (codes "Y") Recursive (codes "1")))) ∷ on_line 2 (Apply (AddLine (BeforeRule (Some 3) (codes "a")) (NewRule (codes "b") Single (codes "c")))) ∷ [])) ∷  -- nth-of-a-place
+    (codes "set X a\nappend X a\nunset X\nunrule t\ndepend t a\ndepend-order t a\nundepend t a\nrecipe t \"a b\"\nrecipe-set t 1 a\nrecipe-del t 2\nrename a b\n", Ok (on_line 1 (Apply (ChangeValue (One None) (codes "X") (edits.Set (codes "a")))) ∷ on_line 2 (Apply (ChangeValue (One None) (codes "X") (edits.Append (codes "a")))) ∷ on_line 3 (Apply (RemoveLines (OfAssign None (codes "X")))) ∷ on_line 4 (Apply (RemoveLines (OfRule None (codes "t")))) ∷ on_line 5 (Apply (ChangePrereqs None (codes "t") (AddPrereq false (codes "a")))) ∷ on_line 6 (Apply (ChangePrereqs None (codes "t") (AddPrereq true (codes "a")))) ∷ on_line 7 (Apply (ChangePrereqs None (codes "t") (RemovePrereq (codes "a")))) ∷ on_line 8 (Apply (AddRecipe None (codes "t") Last (codes "a b"))) ∷ on_line 9 (Apply (SetRecipe None (codes "t") (ByNumber 1) (codes "a"))) ∷ on_line 10 (Apply (RemoveLines (OfRecipe None (codes "t") (ByNumber 2)))) ∷ on_line 11 (Apply (RenameTarget (codes "a") (codes "b"))) ∷ [])) ∷  -- each-edit
     (codes "begin\nend\nundo\nredo\nbegin\ncancel\n", Ok (on_line 1 Begin ∷ on_line 2 End ∷ on_line 3 Undo ∷ on_line 4 Redo ∷ on_line 5 Begin ∷ on_line 6 Cancel ∷ [])) ∷  -- each-call
-    (codes "assign bottom A = 1\nassign bottom A := 1\nassign bottom A ::= 1\nassign bottom A :::= 1\nassign bottom A ?= 1\nassign bottom A += 1\nassign bottom A != 1\n", Ok (on_line 1 (Apply (AddAssign Bottom (codes "A") Recursive (codes "1"))) ∷ on_line 2 (Apply (AddAssign Bottom (codes "A") Simple (codes "1"))) ∷ on_line 3 (Apply (AddAssign Bottom (codes "A") PosixSimple (codes "1"))) ∷ on_line 4 (Apply (AddAssign Bottom (codes "A") Immediate (codes "1"))) ∷ on_line 5 (Apply (AddAssign Bottom (codes "A") Conditional (codes "1"))) ∷ on_line 6 (Apply (AddAssign Bottom (codes "A") Append (codes "1"))) ∷ on_line 7 (Apply (AddAssign Bottom (codes "A") Shell (codes "1"))) ∷ [])) ∷  -- each-operator
-    (codes "assign bottom A = 1\nassign before-var X A = 1\nassign after-var X A = 1\nassign before-rule t A = 1\nrule bottom a : b\nrule before-var X a : b\nrule after-var X a : b\nrule before-rule t a : b\n", Ok (on_line 1 (Apply (AddAssign Bottom (codes "A") Recursive (codes "1"))) ∷ on_line 2 (Apply (AddAssign (BeforeVar None (codes "X")) (codes "A") Recursive (codes "1"))) ∷ on_line 3 (Apply (AddAssign (AfterVar None (codes "X")) (codes "A") Recursive (codes "1"))) ∷ on_line 4 (Apply (AddAssign (BeforeRule None (codes "t")) (codes "A") Recursive (codes "1"))) ∷ on_line 5 (Apply (AddRule Bottom (codes "a") Single (codes "b"))) ∷ on_line 6 (Apply (AddRule (BeforeVar None (codes "X")) (codes "a") Single (codes "b"))) ∷ on_line 7 (Apply (AddRule (AfterVar None (codes "X")) (codes "a") Single (codes "b"))) ∷ on_line 8 (Apply (AddRule (BeforeRule None (codes "t")) (codes "a") Single (codes "b"))) ∷ [])) ∷  -- each-place
-    (codes "rule bottom \"a b\" : \"c d\"\nrule bottom a :: \"\"\n", Ok (on_line 1 (Apply (AddRule Bottom (codes "a b") Single (codes "c d"))) ∷ on_line 2 (Apply (AddRule Bottom (codes "a") Double [])) ∷ [])) ∷  -- both-separators
+    (codes "assign bottom A = 1\nassign bottom A := 1\nassign bottom A ::= 1\nassign bottom A :::= 1\nassign bottom A ?= 1\nassign bottom A += 1\nassign bottom A != 1\n", Ok (on_line 1 (Apply (AddLine Bottom (NewAssign (codes "A") Recursive (codes "1")))) ∷ on_line 2 (Apply (AddLine Bottom (NewAssign (codes "A") Simple (codes "1")))) ∷ on_line 3 (Apply (AddLine Bottom (NewAssign (codes "A") PosixSimple (codes "1")))) ∷ on_line 4 (Apply (AddLine Bottom (NewAssign (codes "A") Immediate (codes "1")))) ∷ on_line 5 (Apply (AddLine Bottom (NewAssign (codes "A") Conditional (codes "1")))) ∷ on_line 6 (Apply (AddLine Bottom (NewAssign (codes "A") Append (codes "1")))) ∷ on_line 7 (Apply (AddLine Bottom (NewAssign (codes "A") Shell (codes "1")))) ∷ [])) ∷  -- each-operator
+    (codes "assign bottom A = 1\nassign before-var X A = 1\nassign after-var X A = 1\nassign before-rule t A = 1\nrule bottom a : b\nrule before-var X a : b\nrule after-var X a : b\nrule before-rule t a : b\n", Ok (on_line 1 (Apply (AddLine Bottom (NewAssign (codes "A") Recursive (codes "1")))) ∷ on_line 2 (Apply (AddLine (BeforeVar None (codes "X")) (NewAssign (codes "A") Recursive (codes "1")))) ∷ on_line 3 (Apply (AddLine (AfterVar None (codes "X")) (NewAssign (codes "A") Recursive (codes "1")))) ∷ on_line 4 (Apply (AddLine (BeforeRule None (codes "t")) (NewAssign (codes "A") Recursive (codes "1")))) ∷ on_line 5 (Apply (AddLine Bottom (NewRule (codes "a") Single (codes "b")))) ∷ on_line 6 (Apply (AddLine (BeforeVar None (codes "X")) (NewRule (codes "a") Single (codes "b")))) ∷ on_line 7 (Apply (AddLine (AfterVar None (codes "X")) (NewRule (codes "a") Single (codes "b")))) ∷ on_line 8 (Apply (AddLine (BeforeRule None (codes "t")) (NewRule (codes "a") Single (codes "b")))) ∷ [])) ∷  -- each-place
+    (codes "rule bottom \"a b\" : \"c d\"\nrule bottom a :: \"\"\n", Ok (on_line 1 (Apply (AddLine Bottom (NewRule (codes "a b") Single (codes "c d")))) ∷ on_line 2 (Apply (AddLine Bottom (NewRule (codes "a") Double []))) ∷ [])) ∷  -- both-separators
     (codes "assign bottom X Y = 1", Err 1) ∷  -- a-place-after-the-bottom
     (codes "assign bottom X == 1", Err 1) ∷  -- no-operator
     (codes "rule bottom a &: b", Err 1) ∷  -- no-separator
@@ -119,7 +119,7 @@ rows_2 =
     (codes "assign after-rule t X = 1", Err 1) ∷  -- a-place-after-a-rule
     (codes "rule bottom a = b", Err 1) ∷  -- an-operator-where-a-separator-stands
     (codes "assign bottom X =", Err 1) ∷  -- no-value
-    (codes "assign bottom X = \"\"", Ok (on_line 1 (Apply (AddAssign Bottom (codes "X") Recursive [])) ∷ [])) ∷  -- an-empty-value
+    (codes "assign bottom X = \"\"", Ok (on_line 1 (Apply (AddLine Bottom (NewAssign (codes "X") Recursive []))) ∷ [])) ∷  -- an-empty-value
     (codes "rule bottom a :", Err 1) ∷  -- no-prerequisites
     []
 
@@ -143,14 +143,14 @@ rows_3 =
     (codes "Set X 1", Err 1) ∷  -- a-word-in-capitals
     (codes "\"\" X 1", Err 1) ∷  -- an-empty-word
     (codes "bottom", Err 1) ∷  -- a-place-as-a-word
-    (codes "try set X 1", Ok (tried_on 1 (SetValue None (codes "X") (codes "1")) ∷ [])) ∷  -- an-edit-behind-try
-    (codes "try nth 2 set X 1", Ok (tried_on 1 (SetValue (Some 2) (codes "X") (codes "1")) ∷ [])) ∷  -- try-before-nth
-    (codes "\"try\" unset X", Ok (tried_on 1 (RemoveAssign None (codes "X")) ∷ [])) ∷  -- try-between-quotes
-    (codes "set X 1\nor assign bottom X = 1", Ok (Chain (edit_on 1 (SetValue None (codes "X") (codes "1"))) (edit_on 2 (AddAssign Bottom (codes "X") Recursive (codes "1"))) [] ∷ [])) ∷  -- an-edit-and-an-alternative
-    (codes "set X 1\nor set Y 1\nor set Z 1\nor set W 1", Ok (Chain (edit_on 1 (SetValue None (codes "X") (codes "1"))) (edit_on 2 (SetValue None (codes "Y") (codes "1"))) ((edit_on 3 (SetValue None (codes "Z") (codes "1"))) ∷ (edit_on 4 (SetValue None (codes "W") (codes "1"))) ∷ []) ∷ [])) ∷  -- three-alternatives
-    (codes "set X 1\n# c\n\n \t\nor nth 2 unset X\n", Ok (Chain (edit_on 1 (SetValue None (codes "X") (codes "1"))) (edit_on 5 (RemoveAssign (Some 2) (codes "X"))) [] ∷ [])) ∷  -- comments-and-blank-lines-in-a-chain
-    (codes "unset X\n\"or\" unset Y", Ok (Chain (edit_on 1 (RemoveAssign None (codes "X"))) (edit_on 2 (RemoveAssign None (codes "Y"))) [] ∷ [])) ∷  -- or-between-quotes
-    (codes "unset A\nor unset B\nunset C\nor unset D\ntry unset E", Ok (Chain (edit_on 1 (RemoveAssign None (codes "A"))) (edit_on 2 (RemoveAssign None (codes "B"))) [] ∷ Chain (edit_on 3 (RemoveAssign None (codes "C"))) (edit_on 4 (RemoveAssign None (codes "D"))) [] ∷ tried_on 5 (RemoveAssign None (codes "E")) ∷ [])) ∷  -- two-chains
+    (codes "try set X 1", Ok (tried_on 1 (ChangeValue (One None) (codes "X") (edits.Set (codes "1"))) ∷ [])) ∷  -- an-edit-behind-try
+    (codes "try nth 2 set X 1", Ok (tried_on 1 (ChangeValue (One (Some 2)) (codes "X") (edits.Set (codes "1"))) ∷ [])) ∷  -- try-before-nth
+    (codes "\"try\" unset X", Ok (tried_on 1 (RemoveLines (OfAssign None (codes "X"))) ∷ [])) ∷  -- try-between-quotes
+    (codes "set X 1\nor assign bottom X = 1", Ok (Chain (edit_on 1 (ChangeValue (One None) (codes "X") (edits.Set (codes "1")))) (edit_on 2 (AddLine Bottom (NewAssign (codes "X") Recursive (codes "1")))) [] ∷ [])) ∷  -- an-edit-and-an-alternative
+    (codes "set X 1\nor set Y 1\nor set Z 1\nor set W 1", Ok (Chain (edit_on 1 (ChangeValue (One None) (codes "X") (edits.Set (codes "1")))) (edit_on 2 (ChangeValue (One None) (codes "Y") (edits.Set (codes "1")))) ((edit_on 3 (ChangeValue (One None) (codes "Z") (edits.Set (codes "1")))) ∷ (edit_on 4 (ChangeValue (One None) (codes "W") (edits.Set (codes "1")))) ∷ []) ∷ [])) ∷  -- three-alternatives
+    (codes "set X 1\n# c\n\n \t\nor nth 2 unset X\n", Ok (Chain (edit_on 1 (ChangeValue (One None) (codes "X") (edits.Set (codes "1")))) (edit_on 5 (RemoveLines (OfAssign (Some 2) (codes "X")))) [] ∷ [])) ∷  -- comments-and-blank-lines-in-a-chain
+    (codes "unset X\n\"or\" unset Y", Ok (Chain (edit_on 1 (RemoveLines (OfAssign None (codes "X")))) (edit_on 2 (RemoveLines (OfAssign None (codes "Y")))) [] ∷ [])) ∷  -- or-between-quotes
+    (codes "unset A\nor unset B\nunset C\nor unset D\ntry unset E", Ok (Chain (edit_on 1 (RemoveLines (OfAssign None (codes "A")))) (edit_on 2 (RemoveLines (OfAssign None (codes "B")))) [] ∷ Chain (edit_on 3 (RemoveLines (OfAssign None (codes "C")))) (edit_on 4 (RemoveLines (OfAssign None (codes "D")))) [] ∷ tried_on 5 (RemoveLines (OfAssign None (codes "E"))) ∷ [])) ∷  -- two-chains
     (codes "rename a b\nor rename c b", Ok (Chain (edit_on 1 (RenameTarget (codes "a") (codes "b"))) (edit_on 2 (RenameTarget (codes "c") (codes "b"))) [] ∷ [])) ∷  -- an-alternative-below-rename
     (codes "or set X 1", Err 1) ∷  -- or-in-the-first-line
     (codes "# c\n\nor set X 1", Err 3) ∷  -- or-below-a-comment-alone
@@ -177,7 +177,7 @@ rows_3 =
     (codes "nth 1 try set X 1", Err 1) ∷  -- nth-before-try
     (codes "set X 1\nnth 1 or set X 1", Err 2) ∷  -- nth-before-or
     (codes "try set X \"a", Err 1) ∷  -- a-bad-quote-behind-try
-    (codes "unrule or\nor unrule try", Ok (Chain (edit_on 1 (RemoveRule None (codes "or"))) (edit_on 2 (RemoveRule None (codes "try"))) [] ∷ [])) ∷  -- a-target-called-or
+    (codes "unrule or\nor unrule try", Ok (Chain (edit_on 1 (RemoveLines (OfRule None (codes "or")))) (edit_on 2 (RemoveLines (OfRule None (codes "try")))) [] ∷ [])) ∷  -- a-target-called-or
     (codes "Try set X 1", Err 1) ∷  -- try-in-capitals
     []
 
@@ -187,18 +187,18 @@ answers_3 = refl
 
 abbrev rows_4 : List (List ℕ × Result (List Step) ℕ)
 rows_4 =
-    (codes "all set X 1", Ok (on_line 1 (Apply (ChangeValues (codes "X") (edits.Set (codes "1")))) ∷ [])) ∷  -- all-before-set
+    (codes "all set X 1", Ok (on_line 1 (Apply (ChangeValue Every (codes "X") (edits.Set (codes "1")))) ∷ [])) ∷  -- all-before-set
     (codes "all append X a b", Err 1) ∷  -- all-before-append
-    (codes "all append X \"a b\"", Ok (on_line 1 (Apply (ChangeValues (codes "X") (edits.Append (codes "a b")))) ∷ [])) ∷  -- all-before-append-of-a-quoted-text
-    (codes "\"all\" \"add\" X -g", Ok (on_line 1 (Apply (ChangeValues (codes "X") (edits.Add (codes "-g")))) ∷ [])) ∷  -- all-before-add-in-quotes
-    (codes "\tall  drop\tX -g ", Ok (on_line 1 (Apply (ChangeValues (codes "X") (edits.Remove (codes "-g")))) ∷ [])) ∷  -- all-before-drop
-    (codes "all set X \"\"", Ok (on_line 1 (Apply (ChangeValues (codes "X") (edits.Set []))) ∷ [])) ∷  -- all-with-an-empty-value
+    (codes "all append X \"a b\"", Ok (on_line 1 (Apply (ChangeValue Every (codes "X") (edits.Append (codes "a b")))) ∷ [])) ∷  -- all-before-append-of-a-quoted-text
+    (codes "\"all\" \"add\" X -g", Ok (on_line 1 (Apply (ChangeValue Every (codes "X") (edits.Add (codes "-g")))) ∷ [])) ∷  -- all-before-add-in-quotes
+    (codes "\tall  drop\tX -g ", Ok (on_line 1 (Apply (ChangeValue Every (codes "X") (edits.Remove (codes "-g")))) ∷ [])) ∷  -- all-before-drop
+    (codes "all set X \"\"", Ok (on_line 1 (Apply (ChangeValue Every (codes "X") (edits.Set []))) ∷ [])) ∷  -- all-with-an-empty-value
     (codes "all set X", Err 1) ∷  -- all-without-a-value
     (codes "set X 1\nall", Err 2) ∷  -- all-alone
     (codes "All set X 1", Err 1) ∷  -- all-in-capitals
     (codes "alls set X 1", Err 1) ∷  -- all-and-a-letter
-    (codes "set all all\nall drop all all", Ok (on_line 1 (Apply (SetValue None (codes "all") (codes "all"))) ∷ on_line 2 (Apply (ChangeValues (codes "all") (edits.Remove (codes "all")))) ∷ [])) ∷  -- a-variable-called-all
-    (codes "unrule all\nrule bottom all : all", Ok (on_line 1 (Apply (RemoveRule None (codes "all"))) ∷ on_line 2 (Apply (AddRule Bottom (codes "all") Single (codes "all"))) ∷ [])) ∷  -- a-target-called-all
+    (codes "set all all\nall drop all all", Ok (on_line 1 (Apply (ChangeValue (One None) (codes "all") (edits.Set (codes "all")))) ∷ on_line 2 (Apply (ChangeValue Every (codes "all") (edits.Remove (codes "all")))) ∷ [])) ∷  -- a-variable-called-all
+    (codes "unrule all\nrule bottom all : all", Ok (on_line 1 (Apply (RemoveLines (OfRule None (codes "all")))) ∷ on_line 2 (Apply (AddLine Bottom (NewRule (codes "all") Single (codes "all")))) ∷ [])) ∷  -- a-target-called-all
     (codes "all unset X", Err 1) ∷  -- all-before-unset
     (codes "all assign bottom X = 1", Err 1) ∷  -- all-before-assign
     (codes "all depend a b", Err 1) ∷  -- all-before-depend
@@ -210,9 +210,9 @@ rows_4 =
     (codes "all try set X 1", Err 1) ∷  -- all-before-try
     (codes "set X 1\nall or set X 2", Err 2) ∷  -- all-before-or
     (codes "set all X 1", Err 1) ∷  -- all-behind-the-edit
-    (codes "try all set X 1", Ok (tried_on 1 (ChangeValues (codes "X") (edits.Set (codes "1"))) ∷ [])) ∷  -- all-behind-try
-    (codes "all add X a\nor all set X b\nor set Y c", Ok (Chain (edit_on 1 (ChangeValues (codes "X") (edits.Add (codes "a")))) (edit_on 2 (ChangeValues (codes "X") (edits.Set (codes "b")))) ((edit_on 3 (SetValue None (codes "Y") (codes "c"))) ∷ []) ∷ [])) ∷  -- all-in-a-chain
-    (codes "all append X +=\nassign bottom X += 1", Ok (on_line 1 (Apply (ChangeValues (codes "X") (edits.Append (codes "+=")))) ∷ on_line 2 (Apply (AddAssign Bottom (codes "X") Append (codes "1"))) ∷ [])) ∷  -- all-of-an-operator-called-append
+    (codes "try all set X 1", Ok (tried_on 1 (ChangeValue Every (codes "X") (edits.Set (codes "1"))) ∷ [])) ∷  -- all-behind-try
+    (codes "all add X a\nor all set X b\nor set Y c", Ok (Chain (edit_on 1 (ChangeValue Every (codes "X") (edits.Add (codes "a")))) (edit_on 2 (ChangeValue Every (codes "X") (edits.Set (codes "b")))) ((edit_on 3 (ChangeValue (One None) (codes "Y") (edits.Set (codes "c")))) ∷ []) ∷ [])) ∷  -- all-in-a-chain
+    (codes "all append X +=\nassign bottom X += 1", Ok (on_line 1 (Apply (ChangeValue Every (codes "X") (edits.Append (codes "+=")))) ∷ on_line 2 (Apply (AddLine Bottom (NewAssign (codes "X") Append (codes "1")))) ∷ [])) ∷  -- all-of-an-operator-called-append
     []
 
 answers_4 : map (λ row. read_script row.0) rows_4 ≡ map (λ row. row.1) rows_4

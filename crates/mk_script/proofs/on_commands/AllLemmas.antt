@@ -3,7 +3,7 @@ use Rattle.std.proofs.Common.{◌≡◌, ℕ, true, false, List, [], ◌∷◌, 
 use Rattle.std.specs.Prelude.{◌↔◌, Option, Some, None}
 use Rattle.std.specs.Str.{bytes_eq}
 use Rattle.mk_class.specs.OperatorTexts.{operator_text}
-use Rattle.mk_edit_language.specs.Edits.{Edit, SetValue, AppendValue, AddWord, RemoveWord, AddAssign, RemoveAssign, AddRule, RemoveRule, AddPrereq, RemovePrereq, AddRecipe, SetRecipe, RemoveRecipe, InsertRecipe, SetRecipeByText, RemoveRecipeByText, RenameTarget, ChangeValues}
+use Rattle.mk_edit_language.specs.Edits.{NewAssign, NewRule, One, Every, Set, Append, Add, Remove, AddPrereq, RemovePrereq, ByNumber, ByText, Last, At, OfAssign, OfRule, OfRecipe, Edit, ChangeValue, ChangePrereqs, AddLine, AddRecipe, SetRecipe, RemoveLines, RenameTarget}
 use Rattle.mk_edit_language.specs.NewLines.{rule_separator_text}
 use Rattle.mk_history.specs.Machine.{Apply, Undo, Redo, Begin, End, Cancel}
 use Rattle.mk_script.specs.CommandTable.{IsAfterNth, place_words, nth_of_place, IsCommand}
@@ -23,27 +23,27 @@ other : (nth : Option ℕ) (fields others : List (List ℕ)) (word : List ℕ) �
 other nth fields others word differs is = (λ h. begin-otherwise nth fields others word differs is h, λ h. absurd h)
 
 edit-begins : (fields : List (List ℕ)) (e : Edit) → IsCommand fields (Apply e) → BeginWith (codes "all") fields ↔ IsOfEveryLine (Apply e)
-edit-begins fields (SetValue nth name value) is = other nth fields (name ∷ value ∷ []) (codes "set") refl is
-edit-begins fields (AppendValue nth name value) is = other nth fields (name ∷ value ∷ []) (codes "append") refl is
-edit-begins fields (AddWord nth name word) is = other nth fields (name ∷ word ∷ []) (codes "add") refl is
-edit-begins fields (RemoveWord nth name word) is = other nth fields (name ∷ word ∷ []) (codes "drop") refl is
-edit-begins fields (AddAssign place name flavor value) is =
+edit-begins fields (ChangeValue (One nth) name (Set value)) is = other nth fields (name ∷ value ∷ []) (codes "set") refl is
+edit-begins fields (ChangeValue (One nth) name (Append value)) is = other nth fields (name ∷ value ∷ []) (codes "append") refl is
+edit-begins fields (ChangeValue (One nth) name (Add word)) is = other nth fields (name ∷ word ∷ []) (codes "add") refl is
+edit-begins fields (ChangeValue (One nth) name (Remove word)) is = other nth fields (name ∷ word ∷ []) (codes "drop") refl is
+edit-begins fields (AddLine place (NewAssign name flavor value)) is =
     other (nth_of_place place) fields (place_words place ++ name ∷ operator_text flavor ∷ value ∷ []) (codes "assign") refl is
-edit-begins fields (RemoveAssign nth name) is = other nth fields (name ∷ []) (codes "unset") refl is
-edit-begins fields (AddRule place targets colons prereqs) is =
+edit-begins fields (RemoveLines (OfAssign nth name)) is = other nth fields (name ∷ []) (codes "unset") refl is
+edit-begins fields (AddLine place (NewRule targets colons prereqs)) is =
     other (nth_of_place place) fields (place_words place ++ targets ∷ rule_separator_text colons ∷ prereqs ∷ []) (codes "rule") refl is
-edit-begins fields (RemoveRule nth target) is = other nth fields (target ∷ []) (codes "unrule") refl is
-edit-begins fields (AddPrereq false nth target word) is = other nth fields (target ∷ word ∷ []) (codes "depend") refl is
-edit-begins fields (AddPrereq true nth target word) is = other nth fields (target ∷ word ∷ []) (codes "depend-order") refl is
-edit-begins fields (RemovePrereq nth target word) is = other nth fields (target ∷ word ∷ []) (codes "undepend") refl is
-edit-begins fields (AddRecipe nth target line) is = other nth fields (target ∷ line ∷ []) (codes "recipe") refl is
-edit-begins fields (SetRecipe nth target number line) is = other nth fields (target ∷ is.0 ∷ line ∷ []) (codes "recipe-set") refl is.2
-edit-begins fields (RemoveRecipe nth target number) is = other nth fields (target ∷ is.0 ∷ []) (codes "recipe-del") refl is.2
-edit-begins fields (InsertRecipe nth target number line) is = other nth fields (target ∷ is.0 ∷ line ∷ []) (codes "recipe-insert") refl is.2
-edit-begins fields (SetRecipeByText nth target old line) is = other nth fields (target ∷ old ∷ line ∷ []) (codes "recipe-replace") refl is
-edit-begins fields (RemoveRecipeByText nth target old) is = other nth fields (target ∷ old ∷ []) (codes "recipe-remove") refl is
+edit-begins fields (RemoveLines (OfRule nth target)) is = other nth fields (target ∷ []) (codes "unrule") refl is
+edit-begins fields (ChangePrereqs nth target (AddPrereq false word)) is = other nth fields (target ∷ word ∷ []) (codes "depend") refl is
+edit-begins fields (ChangePrereqs nth target (AddPrereq true word)) is = other nth fields (target ∷ word ∷ []) (codes "depend-order") refl is
+edit-begins fields (ChangePrereqs nth target (RemovePrereq word)) is = other nth fields (target ∷ word ∷ []) (codes "undepend") refl is
+edit-begins fields (AddRecipe nth target Last line) is = other nth fields (target ∷ line ∷ []) (codes "recipe") refl is
+edit-begins fields (SetRecipe nth target (ByNumber number) line) is = other nth fields (target ∷ is.0 ∷ line ∷ []) (codes "recipe-set") refl is.2
+edit-begins fields (RemoveLines (OfRecipe nth target (ByNumber number))) is = other nth fields (target ∷ is.0 ∷ []) (codes "recipe-del") refl is.2
+edit-begins fields (AddRecipe nth target (At number) line) is = other nth fields (target ∷ is.0 ∷ line ∷ []) (codes "recipe-insert") refl is.2
+edit-begins fields (SetRecipe nth target (ByText old) line) is = other nth fields (target ∷ old ∷ line ∷ []) (codes "recipe-replace") refl is
+edit-begins fields (RemoveLines (OfRecipe nth target (ByText old))) is = other nth fields (target ∷ old ∷ []) (codes "recipe-remove") refl is
 edit-begins fields (RenameTarget old new) is = other None fields (old ∷ new ∷ []) (codes "rename") refl is
-edit-begins fields (ChangeValues name change) is = (λ h. tt, λ h. subst (λ f. BeginWith (codes "all") f) (sym is) refl)
+edit-begins fields (ChangeValue Every name change) is = (λ h. tt, λ h. subst (λ f. BeginWith (codes "all") f) (sym is) refl)
 
 pub all-begins : AllBeginsItsEdits
 all-begins fields (Apply e) is = edit-begins fields e is

@@ -5,7 +5,7 @@ use Rattle.std.specs.Str.{bytes_eq}
 use Rattle.mk_class.specs.declared.assignment.Flavor.{Flavor}
 use Rattle.mk_class.specs.OperatorTexts.{operator_text}
 use Rattle.mk_edit_language.specs.declared.edit.RuleSeparator.{RuleSeparator}
-use Rattle.mk_edit_language.specs.Edits.{Place, Bottom, BeforeVar, AfterVar, BeforeRule, Edit, SetValue, AppendValue, AddWord, RemoveWord, AddAssign, RemoveAssign, AddRule, RemoveRule, AddPrereq, RemovePrereq, AddRecipe, SetRecipe, RemoveRecipe, InsertRecipe, SetRecipeByText, RemoveRecipeByText, RenameTarget, ChangeValues, Set, Append, Add, Remove}
+use Rattle.mk_edit_language.specs.Edits.{Place, Bottom, BeforeVar, AfterVar, BeforeRule, NewAssign, NewRule, One, Every, Set, Append, Add, Remove, AddPrereq, RemovePrereq, ByNumber, ByText, Last, At, OfAssign, OfRule, OfRecipe, Edit, ChangeValue, ChangePrereqs, AddLine, AddRecipe, SetRecipe, RemoveLines, RenameTarget}
 use Rattle.mk_edit_language.specs.NewLines.{rule_separator_text}
 use Rattle.mk_history.specs.Machine.{Command, Apply, Undo, Redo, Begin, End, Cancel}
 use Rattle.mk_script.specs.Fields.{HasFields}
@@ -15,7 +15,7 @@ use Rattle.mk_script.specs.FieldReading.{first_field, one_field, two_fields, thr
 use Rattle.mk_script.specs.WordReading.{named, calls, value_words}
 use Rattle.mk_script.specs.declared.word.ChangeWord.{ChangeWord}
 use Rattle.mk_script.specs.declared.word.ChangeWord.TheVariants as change
-use Rattle.mk_script.specs.CommandReading.{place_at_front, place_after, add_assign_after, add_assign_at, add_assign_of, add_rule_after, add_rule_at, add_rule_of, numbered_line_after, numbered_line_of, remove_recipe_after, remove_recipe_of, edit, change_with, change_by_word, edit_after_all, edit_after_nth, edit_after_number, numbered_edit, call_or_edit, command_after, command}
+use Rattle.mk_script.specs.CommandReading.{place_at_front, place_after, add_assign_after, add_assign_at, add_assign_of, add_rule_after, add_rule_at, add_rule_of, numbered_line_after, numbered_line_of, remove_recipe_after, remove_recipe_of, value_edit, remove_assign, remove_rule, add_prereq, remove_prereq, add_recipe, insert_recipe, set_recipe, replace_recipe, remove_recipe, edit, change_by_word, edit_after_all, edit_after_nth, edit_after_number, numbered_edit, call_or_edit, command_after, command}
 use Rattle.mk_script.proofs.on_fields.BlankLemmas.{is-blank}
 use Rattle.mk_script.proofs.on_fields.FirstLemmas.{begins-read, one-read, two-read, three-read}
 use Rattle.mk_script.proofs.on_fields.NumberLemmas.{is-number}
@@ -75,7 +75,7 @@ place-read (BeforeRule nth target) text others h =
     }
 
 add_assign-read : (place : Place) (name value text : List ℕ) (flavor : Flavor) → HasFields text (place_words place ++ name ∷ operator_text flavor ∷ value ∷ [])
-    → add_assign_after (place_at_front (nth_of_place place) text) ≡ Some (AddAssign place name flavor value)
+    → add_assign_after (place_at_front (nth_of_place place) text) ≡ Some (AddLine place (NewAssign name flavor value))
 add_assign-read place name value text flavor h =
     let p = place-read place text (name ∷ operator_text flavor ∷ value ∷ []) h in
     ap (λ o. add_assign_after o) p.read
@@ -83,7 +83,7 @@ add_assign-read place name value text flavor h =
     ∙ ap (λ o. add_assign_of place o name value) (operator-named flavor))
 
 add_rule-read : (place : Place) (targets prereqs text : List ℕ) (colons : RuleSeparator) → HasFields text (place_words place ++ targets ∷ rule_separator_text colons ∷ prereqs ∷ [])
-    → add_rule_after (place_at_front (nth_of_place place) text) ≡ Some (AddRule place targets colons prereqs)
+    → add_rule_after (place_at_front (nth_of_place place) text) ≡ Some (AddLine place (NewRule targets colons prereqs))
 add_rule-read place targets prereqs text colons h =
     let p = place-read place text (targets ∷ rule_separator_text colons ∷ prereqs ∷ []) h in
     ap (λ o. add_rule_after o) p.read
@@ -96,7 +96,7 @@ numbered_line-read make target digits line text n is h =
     ap (λ o. numbered_line_after make o) (three-read text target digits line h) ∙ ap (λ o. numbered_line_of make target o line) (is-number digits n is)
 
 remove_recipe-read : (nth : Option ℕ) (target digits text : List ℕ) (n : ℕ) → IsNumber digits n → HasFields text (target ∷ digits ∷ [])
-    → remove_recipe_after nth (two_fields text) ≡ Some (RemoveRecipe nth target n)
+    → remove_recipe_after nth (two_fields text) ≡ Some (RemoveLines (OfRecipe nth target (ByNumber n)))
 remove_recipe-read nth target digits text n is h =
     ap (λ o. remove_recipe_after nth o) (two-read text target digits h) ∙ ap (λ o. remove_recipe_of nth target o) (is-number digits n is)
 
@@ -114,63 +114,63 @@ edit_word word a b c = record { no_call = a; no_nth = b; no_all = c }
 
 -- an edit of every assignment of a name, by the word after `all`
 all-read : (line word name text : List ℕ) (fields : List (List ℕ)) (k : ChangeWord) → named value_words word ≡ Some k → HasFields line fields
-    → fields ≡ codes "all" ∷ word ∷ name ∷ text ∷ [] → command line ≡ Some (Apply (ChangeValues name (change_with k text)))
+    → fields ≡ codes "all" ∷ word ∷ name ∷ text ∷ [] → command line ≡ Some (Apply (value_edit Every k name text))
 all-read line word name text fields k named_so h is =
     let fs : HasFields line (codes "all" ∷ word ∷ name ∷ text ∷ []) = subst (λ x. HasFields line x) is h in
     ap (λ o. command_after o) (begins-read line (codes "all") fs.0 fs.1)
     ∙ ap (λ o. option_map Apply o)
     (ap (λ o. edit_after_all o) (begins-read fs.0 word fs.2.0 fs.2.1)
     ∙ (ap (λ o. change_by_word o fs.2.0) named_so
-    ∙ of_two-read (λ n t. ChangeValues n (change_with k t)) name text fs.2.0 fs.2.2))
+    ∙ of_two-read (value_edit Every k) name text fs.2.0 fs.2.2))
 
 edit-read : (line : List ℕ) (fields : List (List ℕ)) (e : Edit) → HasFields line fields → IsCommand fields (Apply e) → command line ≡ Some (Apply e)
-edit-read line fields (SetValue nth name value) h is =
-    addressed-read nth line (codes "set") (name ∷ value ∷ []) fields _ (edit_word (codes "set") refl refl refl) h is (of_two-read (SetValue nth) name value)
-edit-read line fields (AppendValue nth name value) h is =
-    addressed-read nth line (codes "append") (name ∷ value ∷ []) fields _ (edit_word (codes "append") refl refl refl) h is (of_two-read (AppendValue nth) name value)
-edit-read line fields (AddWord nth name word) h is =
-    addressed-read nth line (codes "add") (name ∷ word ∷ []) fields _ (edit_word (codes "add") refl refl refl) h is (of_two-read (AddWord nth) name word)
-edit-read line fields (RemoveWord nth name word) h is =
-    addressed-read nth line (codes "drop") (name ∷ word ∷ []) fields _ (edit_word (codes "drop") refl refl refl) h is (of_two-read (RemoveWord nth) name word)
-edit-read line fields (AddAssign place name flavor value) h is =
+edit-read line fields (ChangeValue (One nth) name (Set value)) h is =
+    addressed-read nth line (codes "set") (name ∷ value ∷ []) fields _ (edit_word (codes "set") refl refl refl) h is (of_two-read (value_edit (One nth) change.Set) name value)
+edit-read line fields (ChangeValue (One nth) name (Append value)) h is =
+    addressed-read nth line (codes "append") (name ∷ value ∷ []) fields _ (edit_word (codes "append") refl refl refl) h is (of_two-read (value_edit (One nth) change.Append) name value)
+edit-read line fields (ChangeValue (One nth) name (Add word)) h is =
+    addressed-read nth line (codes "add") (name ∷ word ∷ []) fields _ (edit_word (codes "add") refl refl refl) h is (of_two-read (value_edit (One nth) change.Add) name word)
+edit-read line fields (ChangeValue (One nth) name (Remove word)) h is =
+    addressed-read nth line (codes "drop") (name ∷ word ∷ []) fields _ (edit_word (codes "drop") refl refl refl) h is (of_two-read (value_edit (One nth) change.Drop) name word)
+edit-read line fields (AddLine place (NewAssign name flavor value)) h is =
     addressed-read (nth_of_place place) line (codes "assign") (place_words place ++ name ∷ operator_text flavor ∷ value ∷ []) fields _
     (edit_word (codes "assign") refl refl refl) h is (λ rest. add_assign-read place name value rest flavor)
-edit-read line fields (RemoveAssign nth name) h is =
-    addressed-read nth line (codes "unset") (name ∷ []) fields _ (edit_word (codes "unset") refl refl refl) h is (of_one-read (RemoveAssign nth) name)
-edit-read line fields (AddRule place targets colons prereqs) h is =
+edit-read line fields (RemoveLines (OfAssign nth name)) h is =
+    addressed-read nth line (codes "unset") (name ∷ []) fields _ (edit_word (codes "unset") refl refl refl) h is (of_one-read (remove_assign nth) name)
+edit-read line fields (AddLine place (NewRule targets colons prereqs)) h is =
     addressed-read (nth_of_place place) line (codes "rule") (place_words place ++ targets ∷ rule_separator_text colons ∷ prereqs ∷ []) fields _
     (edit_word (codes "rule") refl refl refl) h is (λ rest. add_rule-read place targets prereqs rest colons)
-edit-read line fields (RemoveRule nth target) h is =
-    addressed-read nth line (codes "unrule") (target ∷ []) fields _ (edit_word (codes "unrule") refl refl refl) h is (of_one-read (RemoveRule nth) target)
-edit-read line fields (AddPrereq false nth target word) h is =
-    addressed-read nth line (codes "depend") (target ∷ word ∷ []) fields _ (edit_word (codes "depend") refl refl refl) h is (of_two-read (AddPrereq false nth) target word)
-edit-read line fields (AddPrereq true nth target word) h is =
+edit-read line fields (RemoveLines (OfRule nth target)) h is =
+    addressed-read nth line (codes "unrule") (target ∷ []) fields _ (edit_word (codes "unrule") refl refl refl) h is (of_one-read (remove_rule nth) target)
+edit-read line fields (ChangePrereqs nth target (AddPrereq false word)) h is =
+    addressed-read nth line (codes "depend") (target ∷ word ∷ []) fields _ (edit_word (codes "depend") refl refl refl) h is (of_two-read (add_prereq false nth) target word)
+edit-read line fields (ChangePrereqs nth target (AddPrereq true word)) h is =
     addressed-read nth line (codes "depend-order") (target ∷ word ∷ []) fields _ (edit_word (codes "depend-order") refl refl refl) h is
-    (of_two-read (AddPrereq true nth) target word)
-edit-read line fields (RemovePrereq nth target word) h is =
-    addressed-read nth line (codes "undepend") (target ∷ word ∷ []) fields _ (edit_word (codes "undepend") refl refl refl) h is (of_two-read (RemovePrereq nth) target word)
-edit-read line fields (AddRecipe nth target text) h is =
-    addressed-read nth line (codes "recipe") (target ∷ text ∷ []) fields _ (edit_word (codes "recipe") refl refl refl) h is (of_two-read (AddRecipe nth) target text)
-edit-read line fields (SetRecipe nth target n text) h is =
+    (of_two-read (add_prereq true nth) target word)
+edit-read line fields (ChangePrereqs nth target (RemovePrereq word)) h is =
+    addressed-read nth line (codes "undepend") (target ∷ word ∷ []) fields _ (edit_word (codes "undepend") refl refl refl) h is (of_two-read (remove_prereq nth) target word)
+edit-read line fields (AddRecipe nth target Last text) h is =
+    addressed-read nth line (codes "recipe") (target ∷ text ∷ []) fields _ (edit_word (codes "recipe") refl refl refl) h is (of_two-read (add_recipe nth) target text)
+edit-read line fields (SetRecipe nth target (ByNumber n) text) h is =
     addressed-read nth line (codes "recipe-set") (target ∷ is.0 ∷ text ∷ []) fields _ (edit_word (codes "recipe-set") refl refl refl) h is.2
-    (λ rest. numbered_line-read (SetRecipe nth) target is.0 text rest n is.1)
-edit-read line fields (RemoveRecipe nth target n) h is =
+    (λ rest. numbered_line-read (set_recipe nth) target is.0 text rest n is.1)
+edit-read line fields (RemoveLines (OfRecipe nth target (ByNumber n))) h is =
     addressed-read nth line (codes "recipe-del") (target ∷ is.0 ∷ []) fields _ (edit_word (codes "recipe-del") refl refl refl) h is.2
     (λ rest. remove_recipe-read nth target is.0 rest n is.1)
-edit-read line fields (InsertRecipe nth target n text) h is =
+edit-read line fields (AddRecipe nth target (At n) text) h is =
     addressed-read nth line (codes "recipe-insert") (target ∷ is.0 ∷ text ∷ []) fields _ (edit_word (codes "recipe-insert") refl refl refl) h is.2
-    (λ rest. numbered_line-read (InsertRecipe nth) target is.0 text rest n is.1)
-edit-read line fields (SetRecipeByText nth target old text) h is =
+    (λ rest. numbered_line-read (insert_recipe nth) target is.0 text rest n is.1)
+edit-read line fields (SetRecipe nth target (ByText old) text) h is =
     addressed-read nth line (codes "recipe-replace") (target ∷ old ∷ text ∷ []) fields _ (edit_word (codes "recipe-replace") refl refl refl) h is
-    (of_three-read (SetRecipeByText nth) target old text)
-edit-read line fields (RemoveRecipeByText nth target old) h is =
-    addressed-read nth line (codes "recipe-remove") (target ∷ old ∷ []) fields _ (edit_word (codes "recipe-remove") refl refl refl) h is (of_two-read (RemoveRecipeByText nth) target old)
+    (of_three-read (replace_recipe nth) target old text)
+edit-read line fields (RemoveLines (OfRecipe nth target (ByText old))) h is =
+    addressed-read nth line (codes "recipe-remove") (target ∷ old ∷ []) fields _ (edit_word (codes "recipe-remove") refl refl refl) h is (of_two-read (remove_recipe nth) target old)
 edit-read line fields (RenameTarget old new) h is =
     addressed-read None line (codes "rename") (old ∷ new ∷ []) fields _ (edit_word (codes "rename") refl refl refl) h is (of_two-read RenameTarget old new)
-edit-read line fields (ChangeValues name (Set value)) h is = all-read line (codes "set") name value fields change.Set refl h is
-edit-read line fields (ChangeValues name (Append value)) h is = all-read line (codes "append") name value fields change.Append refl h is
-edit-read line fields (ChangeValues name (Add word)) h is = all-read line (codes "add") name word fields change.Add refl h is
-edit-read line fields (ChangeValues name (Remove word)) h is = all-read line (codes "drop") name word fields change.Drop refl h is
+edit-read line fields (ChangeValue Every name (Set value)) h is = all-read line (codes "set") name value fields change.Set refl h is
+edit-read line fields (ChangeValue Every name (Append value)) h is = all-read line (codes "append") name value fields change.Append refl h is
+edit-read line fields (ChangeValue Every name (Add word)) h is = all-read line (codes "add") name word fields change.Add refl h is
+edit-read line fields (ChangeValue Every name (Remove word)) h is = all-read line (codes "drop") name word fields change.Drop refl h is
 
 call-read : (line word : List ℕ) (fields : List (List ℕ)) (c : Command Edit) → named calls word ≡ Some c → HasFields line fields → fields ≡ word ∷ [] → command line ≡ Some c
 call-read line word fields c name h is =

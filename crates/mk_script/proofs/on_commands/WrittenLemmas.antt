@@ -6,7 +6,7 @@ use Rattle.std.proofs.lemmas.Slice.Eq.{bytes_eq-Decides}
 use Rattle.mk_class.specs.declared.assignment.Flavor.{Flavor}
 use Rattle.mk_class.specs.OperatorTexts.{operator_text}
 use Rattle.mk_edit_language.specs.declared.edit.RuleSeparator.{RuleSeparator}
-use Rattle.mk_edit_language.specs.Edits.{Place, Bottom, BeforeVar, AfterVar, BeforeRule, Edit, SetValue, AppendValue, AddWord, RemoveWord, AddAssign, RemoveAssign, AddRule, RemoveRule, AddPrereq, RemovePrereq, AddRecipe, SetRecipe, RemoveRecipe, InsertRecipe, SetRecipeByText, RemoveRecipeByText, RenameTarget, ChangeValues}
+use Rattle.mk_edit_language.specs.Edits.{Place, Bottom, BeforeVar, AfterVar, BeforeRule, NewAssign, NewRule, One, Every, ByNumber, OfRecipe, Edit, AddLine, RemoveLines, RenameTarget}
 use Rattle.mk_edit_language.specs.NewLines.{rule_separator_text}
 use Rattle.mk_history.specs.Machine.{Command, Apply}
 use Rattle.mk_script.specs.Numbers.{IsNumber}
@@ -16,7 +16,7 @@ use Rattle.mk_script.specs.Lines.{HasCommand}
 use Rattle.mk_script.specs.FieldReading.{is_blank, first_field, one_field, two_fields, three_fields}
 use Rattle.mk_script.specs.NumberReading.{number}
 use Rattle.mk_script.specs.WordReading.{named, calls, edit_words, value_words, places, operators, separators}
-use Rattle.mk_script.specs.CommandReading.{placed_at, bottom, place_by_word, place_at_front, place_after, of_one, of_two, of_three, add_assign_after, add_assign_at, add_assign_of, add_rule_after, add_rule_at, add_rule_of, numbered_line_after, numbered_line_of, remove_recipe_after, remove_recipe_of, rename_target_of, edit_by_word, edit, change_with, change_by_word, edit_after_all, edit_after_nth, edit_after_number, numbered_edit, addressed_edit, call_or_edit, command_after, command}
+use Rattle.mk_script.specs.CommandReading.{placed_at, bottom, place_by_word, place_at_front, place_after, of_one, of_two, of_three, add_assign_after, add_assign_at, add_assign_of, add_rule_after, add_rule_at, add_rule_of, numbered_line_after, numbered_line_of, remove_recipe_after, remove_recipe_of, rename_target_of, value_edit, remove_assign, remove_rule, add_prereq, remove_prereq, add_recipe, insert_recipe, set_recipe, replace_recipe, remove_recipe, edit_by_word, edit, change_by_word, edit_after_all, edit_after_nth, edit_after_number, numbered_edit, addressed_edit, call_or_edit, command_after, command}
 use Rattle.mk_script.specs.declared.word.ChangeWord.{ChangeWord}
 use Rattle.mk_script.specs.declared.word.ChangeWord.TheVariants as change
 use Rattle.mk_script.specs.declared.word.EditWord.{EditWord}
@@ -136,7 +136,7 @@ add_assign-written nth rest e h = go (place_at_front nth rest) refl h
     of_fields p k q m None n x = absurd (cc)
     of_fields p k q m (Some flavor) n x =
         let w = front-written nth rest p.0 p.1 k in
-        let same : AddAssign p.0 q.0 flavor q.2 ≡ e = cc in
+        let same : AddLine p.0 (NewAssign q.0 flavor q.2) ≡ e = cc in
         let fields_are : HasFields p.1 (q.0 ∷ operator_text flavor ∷ q.2 ∷ []) = subst (λ z. HasFields p.1 (q.0 ∷ z ∷ q.2 ∷ [])) (named-operator q.1 flavor n) (three-is p.1 q.0 q.1 q.2 m) in
         record {
           args = place_words p.0 ++ q.0 ∷ operator_text flavor ∷ q.2 ∷ [];
@@ -163,7 +163,7 @@ add_rule-written nth rest e h = go (place_at_front nth rest) refl h
     of_fields p k q m None n x = absurd (cc)
     of_fields p k q m (Some colons) n x =
         let w = front-written nth rest p.0 p.1 k in
-        let same : AddRule p.0 q.0 colons q.2 ≡ e = cc in
+        let same : AddLine p.0 (NewRule q.0 colons q.2) ≡ e = cc in
         let fields_are : HasFields p.1 (q.0 ∷ rule_separator_text colons ∷ q.2 ∷ []) = subst (λ z. HasFields p.1 (q.0 ∷ z ∷ q.2 ∷ [])) (named-separator q.1 colons n) (three-is p.1 q.0 q.1 q.2 m) in
         record {
           args = place_words p.0 ++ q.0 ∷ rule_separator_text colons ∷ q.2 ∷ [];
@@ -223,7 +223,7 @@ remove_recipe-written nth rest e h = go (two_fields rest) refl h
         → IsWrittenEdit nth (codes "recipe-del") rest e
     of_number q k None n x = absurd (cc)
     of_number q k (Some i) n x =
-        let same : RemoveRecipe nth q.0 i ≡ e = cc in
+        let same : RemoveLines (OfRecipe nth q.0 (ByNumber i)) ≡ e = cc in
         record {
           args = q.0 ∷ q.1 ∷ [];
           args_are = two-is rest q.0 q.1 k;
@@ -239,23 +239,23 @@ rename_target-written None rest e h = two-written None (codes "rename") rest e R
 rename_target-written (Some n) rest e h = absurd (cc)
 
 by_word-written : (nth : Option ℕ) (k : EditWord) (rest : List ℕ) (e : Edit) → edit_by_word nth (Some k) rest ≡ Some e → IsWrittenEdit nth (word_text k) rest e
-by_word-written nth word.Set rest e h = two-written nth (codes "set") rest e (SetValue nth) h (λ a b fields k. k)
-by_word-written nth word.Append rest e h = two-written nth (codes "append") rest e (AppendValue nth) h (λ a b fields k. k)
-by_word-written nth word.Add rest e h = two-written nth (codes "add") rest e (AddWord nth) h (λ a b fields k. k)
-by_word-written nth word.Drop rest e h = two-written nth (codes "drop") rest e (RemoveWord nth) h (λ a b fields k. k)
-by_word-written nth word.Unset rest e h = one-written nth (codes "unset") rest e (RemoveAssign nth) h (λ a fields k. k)
+by_word-written nth word.Set rest e h = two-written nth (codes "set") rest e (value_edit (One nth) change.Set) h (λ a b fields k. k)
+by_word-written nth word.Append rest e h = two-written nth (codes "append") rest e (value_edit (One nth) change.Append) h (λ a b fields k. k)
+by_word-written nth word.Add rest e h = two-written nth (codes "add") rest e (value_edit (One nth) change.Add) h (λ a b fields k. k)
+by_word-written nth word.Drop rest e h = two-written nth (codes "drop") rest e (value_edit (One nth) change.Drop) h (λ a b fields k. k)
+by_word-written nth word.Unset rest e h = one-written nth (codes "unset") rest e (remove_assign nth) h (λ a fields k. k)
 by_word-written nth word.Assign rest e h = add_assign-written nth rest e h
 by_word-written nth word.Rule rest e h = add_rule-written nth rest e h
-by_word-written nth word.Unrule rest e h = one-written nth (codes "unrule") rest e (RemoveRule nth) h (λ a fields k. k)
-by_word-written nth word.Depend rest e h = two-written nth (codes "depend") rest e (AddPrereq false nth) h (λ a b fields k. k)
-by_word-written nth word.DependOrder rest e h = two-written nth (codes "depend-order") rest e (AddPrereq true nth) h (λ a b fields k. k)
-by_word-written nth word.Undepend rest e h = two-written nth (codes "undepend") rest e (RemovePrereq nth) h (λ a b fields k. k)
-by_word-written nth word.Recipe rest e h = two-written nth (codes "recipe") rest e (AddRecipe nth) h (λ a b fields k. k)
-by_word-written nth word.RecipeSet rest e h = numbered_line-written nth (codes "recipe-set") rest e (SetRecipe nth) h (λ target digits line n fields i a. (digits, i, a))
+by_word-written nth word.Unrule rest e h = one-written nth (codes "unrule") rest e (remove_rule nth) h (λ a fields k. k)
+by_word-written nth word.Depend rest e h = two-written nth (codes "depend") rest e (add_prereq false nth) h (λ a b fields k. k)
+by_word-written nth word.DependOrder rest e h = two-written nth (codes "depend-order") rest e (add_prereq true nth) h (λ a b fields k. k)
+by_word-written nth word.Undepend rest e h = two-written nth (codes "undepend") rest e (remove_prereq nth) h (λ a b fields k. k)
+by_word-written nth word.Recipe rest e h = two-written nth (codes "recipe") rest e (add_recipe nth) h (λ a b fields k. k)
+by_word-written nth word.RecipeSet rest e h = numbered_line-written nth (codes "recipe-set") rest e (set_recipe nth) h (λ target digits line n fields i a. (digits, i, a))
 by_word-written nth word.RecipeDel rest e h = remove_recipe-written nth rest e h
-by_word-written nth word.RecipeInsert rest e h = numbered_line-written nth (codes "recipe-insert") rest e (InsertRecipe nth) h (λ target digits line n fields i a. (digits, i, a))
-by_word-written nth word.RecipeReplace rest e h = three-written nth (codes "recipe-replace") rest e (SetRecipeByText nth) h (λ a b c fields k. k)
-by_word-written nth word.RecipeRemove rest e h = two-written nth (codes "recipe-remove") rest e (RemoveRecipeByText nth) h (λ a b fields k. k)
+by_word-written nth word.RecipeInsert rest e h = numbered_line-written nth (codes "recipe-insert") rest e (insert_recipe nth) h (λ target digits line n fields i a. (digits, i, a))
+by_word-written nth word.RecipeReplace rest e h = three-written nth (codes "recipe-replace") rest e (replace_recipe nth) h (λ a b c fields k. k)
+by_word-written nth word.RecipeRemove rest e h = two-written nth (codes "recipe-remove") rest e (remove_recipe nth) h (λ a b fields k. k)
 by_word-written nth word.Rename rest e h = rename_target-written nth rest e h
 
 edit-written : (nth : Option ℕ) (first rest : List ℕ) (e : Edit) → edit nth first rest ≡ Some e → IsWrittenEdit nth first rest e
@@ -290,7 +290,7 @@ numbered-written line first rest e begins is h = of_digits (first_field rest) re
     of_digits (Some p) k m = of_number p k (number p.0) refl m
 
 -- `all`, and the words of a change
-all-command : (k : ChangeWord) (name text : List ℕ) → IsCommand (codes "all" ∷ change_text k ∷ name ∷ text ∷ []) (Apply (ChangeValues name (change_with k text)))
+all-command : (k : ChangeWord) (name text : List ℕ) → IsCommand (codes "all" ∷ change_text k ∷ name ∷ text ∷ []) (Apply (value_edit Every k name text))
 all-command change.Set name text = refl
 all-command change.Append name text = refl
 all-command change.Add name text = refl
@@ -300,10 +300,10 @@ all-written : (line first rest : List ℕ) (e : Edit) → BeginsWithField line f
 all-written line first rest e begins is h = of_first (first_field rest) refl h
   where
     of_fields : (p : List ℕ × List ℕ) → first_field rest ≡ Some p → (k : ChangeWord) → named value_words p.0 ≡ Some k → (o : Option (List ℕ × List ℕ)) → two_fields p.1 ≡ o
-        → option_map (λ (q : List ℕ × List ℕ). ChangeValues q.0 (change_with k q.1)) o ≡ Some e → HasCommand line (Apply e)
+        → option_map (λ (q : List ℕ × List ℕ). value_edit Every k q.0 q.1) o ≡ Some e → HasCommand line (Apply e)
     of_fields p m k n None x y = absurd (cc)
     of_fields p m k n (Some q) x y =
-        let same : ChangeValues q.0 (change_with k q.1) ≡ e = cc in (
+        let same : value_edit Every k q.0 q.1 ≡ e = cc in (
           codes "all" ∷ change_text k ∷ q.0 ∷ q.1 ∷ [],
           (
             rest,

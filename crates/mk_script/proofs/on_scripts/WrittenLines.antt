@@ -7,7 +7,7 @@ use Rattle.std.proofs.lemmas.Fmt.{decimal_is_IsNumeral, length-decimal-le}
 use Rattle.mk_lines.specs.Lists.{Each}
 use Rattle.mk_lines.specs.Bytes.{is_blank_byte}
 use Rattle.mk_class.specs.OperatorTexts.{operator_text}
-use Rattle.mk_edit_language.specs.Edits.{Edit, SetValue, AppendValue, AddWord, RemoveWord, AddAssign, RemoveAssign, AddRule, RemoveRule, AddPrereq, RemovePrereq, AddRecipe, SetRecipe, RemoveRecipe, InsertRecipe, SetRecipeByText, RemoveRecipeByText, RenameTarget, ChangeValues}
+use Rattle.mk_edit_language.specs.Edits.{NewAssign, NewRule, One, Every, AddPrereq, RemovePrereq, ByNumber, ByText, Last, At, OfAssign, OfRule, OfRecipe, Edit, ChangeValue, ChangePrereqs, AddLine, AddRecipe, SetRecipe, RemoveLines, RenameTarget}
 use Rattle.mk_edit_language.specs.NewLines.{rule_separator_text}
 use Rattle.mk_history.specs.Machine.{Command, Apply, Undo, Redo, Begin, End, Cancel}
 use Rattle.mk_script.specs.Fields.{quoted, HasFields}
@@ -81,29 +81,26 @@ fields-command nth words c h is =
     (line_of w.fields, (w.fields, written-read w.fields, is w.fields w.are))
 
 edit-line : (e : Edit) → HasNumbersOfScripts e → (line : List ℕ) × HasCommand line (Apply e)
-edit-line (SetValue nth name value) h = fields-command nth (codes "set" ∷ name ∷ value ∷ []) (Apply (SetValue nth name value)) h (λ fields k. k)
-edit-line (AppendValue nth name value) h = fields-command nth (codes "append" ∷ name ∷ value ∷ []) (Apply (AppendValue nth name value)) h (λ fields k. k)
-edit-line (AddWord nth name word) h = fields-command nth (codes "add" ∷ name ∷ word ∷ []) (Apply (AddWord nth name word)) h (λ fields k. k)
-edit-line (RemoveWord nth name word) h = fields-command nth (codes "drop" ∷ name ∷ word ∷ []) (Apply (RemoveWord nth name word)) h (λ fields k. k)
-edit-line (AddAssign place name flavor value) h =
-    fields-command (nth_of_place place) (codes "assign" ∷ (place_words place ++ name ∷ operator_text flavor ∷ value ∷ [])) (Apply (AddAssign place name flavor value)) h (λ fields k. k)
-edit-line (RemoveAssign nth name) h = fields-command nth (codes "unset" ∷ name ∷ []) (Apply (RemoveAssign nth name)) h (λ fields k. k)
-edit-line (AddRule place targets colons prereqs) h =
-    fields-command (nth_of_place place) (codes "rule" ∷ (place_words place ++ targets ∷ rule_separator_text colons ∷ prereqs ∷ [])) (Apply (AddRule place targets colons prereqs)) h (λ fields k. k)
-edit-line (RemoveRule nth target) h = fields-command nth (codes "unrule" ∷ target ∷ []) (Apply (RemoveRule nth target)) h (λ fields k. k)
-edit-line (AddPrereq order nth target word) h = fields-command nth (depend_word order ∷ target ∷ word ∷ []) (Apply (AddPrereq order nth target word)) h (λ fields k. k)
-edit-line (RemovePrereq nth target word) h = fields-command nth (codes "undepend" ∷ target ∷ word ∷ []) (Apply (RemovePrereq nth target word)) h (λ fields k. k)
-edit-line (AddRecipe nth target line) h = fields-command nth (codes "recipe" ∷ target ∷ line ∷ []) (Apply (AddRecipe nth target line)) h (λ fields k. k)
-edit-line (SetRecipe nth target number line) h =
-    fields-command nth (codes "recipe-set" ∷ target ∷ decimal number ∷ line ∷ []) (Apply (SetRecipe nth target number line)) h.0 (λ fields k. (decimal number, decimal-number number h.1, k))
-edit-line (RemoveRecipe nth target number) h =
-    fields-command nth (codes "recipe-del" ∷ target ∷ decimal number ∷ []) (Apply (RemoveRecipe nth target number)) h.0 (λ fields k. (decimal number, decimal-number number h.1, k))
-edit-line (InsertRecipe nth target number line) h =
-    fields-command nth (codes "recipe-insert" ∷ target ∷ decimal number ∷ line ∷ []) (Apply (InsertRecipe nth target number line)) h.0 (λ fields k. (decimal number, decimal-number number h.1, k))
-edit-line (SetRecipeByText nth target old line) h = fields-command nth (codes "recipe-replace" ∷ target ∷ old ∷ line ∷ []) (Apply (SetRecipeByText nth target old line)) h (λ fields k. k)
-edit-line (RemoveRecipeByText nth target old) h = fields-command nth (codes "recipe-remove" ∷ target ∷ old ∷ []) (Apply (RemoveRecipeByText nth target old)) h (λ fields k. k)
+edit-line (ChangeValue (One nth) name change) h = fields-command nth (change_words name change) (Apply (ChangeValue (One nth) name change)) h (λ fields k. k)
+edit-line (ChangeValue Every name change) h = fields-command None (codes "all" ∷ change_words name change) (Apply (ChangeValue Every name change)) tt (λ fields k. k)
+edit-line (AddLine place (NewAssign name flavor value)) h =
+    fields-command (nth_of_place place) (codes "assign" ∷ (place_words place ++ name ∷ operator_text flavor ∷ value ∷ [])) (Apply (AddLine place (NewAssign name flavor value))) h (λ fields k. k)
+edit-line (RemoveLines (OfAssign nth name)) h = fields-command nth (codes "unset" ∷ name ∷ []) (Apply (RemoveLines (OfAssign nth name))) h (λ fields k. k)
+edit-line (AddLine place (NewRule targets colons prereqs)) h =
+    fields-command (nth_of_place place) (codes "rule" ∷ (place_words place ++ targets ∷ rule_separator_text colons ∷ prereqs ∷ [])) (Apply (AddLine place (NewRule targets colons prereqs))) h (λ fields k. k)
+edit-line (RemoveLines (OfRule nth target)) h = fields-command nth (codes "unrule" ∷ target ∷ []) (Apply (RemoveLines (OfRule nth target))) h (λ fields k. k)
+edit-line (ChangePrereqs nth target (AddPrereq order word)) h = fields-command nth (depend_word order ∷ target ∷ word ∷ []) (Apply (ChangePrereqs nth target (AddPrereq order word))) h (λ fields k. k)
+edit-line (ChangePrereqs nth target (RemovePrereq word)) h = fields-command nth (codes "undepend" ∷ target ∷ word ∷ []) (Apply (ChangePrereqs nth target (RemovePrereq word))) h (λ fields k. k)
+edit-line (AddRecipe nth target Last line) h = fields-command nth (codes "recipe" ∷ target ∷ line ∷ []) (Apply (AddRecipe nth target Last line)) h (λ fields k. k)
+edit-line (AddRecipe nth target (At number) line) h =
+    fields-command nth (codes "recipe-insert" ∷ target ∷ decimal number ∷ line ∷ []) (Apply (AddRecipe nth target (At number) line)) h.0 (λ fields k. (decimal number, decimal-number number h.1, k))
+edit-line (SetRecipe nth target (ByNumber number) line) h =
+    fields-command nth (codes "recipe-set" ∷ target ∷ decimal number ∷ line ∷ []) (Apply (SetRecipe nth target (ByNumber number) line)) h.0 (λ fields k. (decimal number, decimal-number number h.1, k))
+edit-line (SetRecipe nth target (ByText old) line) h = fields-command nth (codes "recipe-replace" ∷ target ∷ old ∷ line ∷ []) (Apply (SetRecipe nth target (ByText old) line)) h (λ fields k. k)
+edit-line (RemoveLines (OfRecipe nth target (ByNumber number))) h =
+    fields-command nth (codes "recipe-del" ∷ target ∷ decimal number ∷ []) (Apply (RemoveLines (OfRecipe nth target (ByNumber number)))) h.0 (λ fields k. (decimal number, decimal-number number h.1, k))
+edit-line (RemoveLines (OfRecipe nth target (ByText old))) h = fields-command nth (codes "recipe-remove" ∷ target ∷ old ∷ []) (Apply (RemoveLines (OfRecipe nth target (ByText old)))) h (λ fields k. k)
 edit-line (RenameTarget old new) h = fields-command None (codes "rename" ∷ old ∷ new ∷ []) (Apply (RenameTarget old new)) tt (λ fields k. k)
-edit-line (ChangeValues name change) h = fields-command None (codes "all" ∷ change_words name change) (Apply (ChangeValues name change)) tt (λ fields k. k)
 
 command-line : (c : Command Edit) → HasNumbers c → (line : List ℕ) × HasCommand line c
 command-line (Apply e) h = edit-line e h

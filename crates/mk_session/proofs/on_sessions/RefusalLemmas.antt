@@ -7,14 +7,14 @@ use Rattle.mk_history.specs.Machine as machine
 use Rattle.mk_history.specs.Machine.{Command, Apply, Undo, Redo, Begin, End, Cancel}
 use Rattle.mk_history.specs.Shown.{Shown, shown_edited, shown_ended, shown_back, shown_forward}
 use Rattle.mk_session.specs.Sessions.{answer, edited, text_with, session_refusal}
-use Rattle.mk_edit_language.specs.Edits.{Place, Bottom, Add, Remove, Edit, AppendValue, AddWord, RemoveWord, ChangeValues, AddAssign, AddRule, RemoveRule, AddPrereq, RemovePrereq, AddRecipe, SetRecipe, RemoveRecipe, InsertRecipe, SetRecipeByText, RemoveRecipeByText, RenameTarget}
+use Rattle.mk_edit_language.specs.Edits.{Place, Bottom, Every, Add, Remove, AddPrereq, RemovePrereq, RecipeLine, ByNumber, ByText, At, OfRule, OfRecipe, Edit, ChangeValue, ChangePrereqs, AddLine, AddRecipe, SetRecipe, RemoveLines, RenameTarget}
 use Rattle.mk_tree.specs.LineTexts.{StandingLine}
 use Rattle.mk_edit_language.specs.Addresses.{Address, address}
 use Rattle.mk_edit_language.specs.EditSpans.{spans_of}
 use Rattle.mk_edit_language.specs.Causes.{where_holds}
 use Rattle.mk_edit_language.specs.ArgumentCauses.{FieldTest, Tested, first_failed, field_tests, bad_argument, reserved}
 use Rattle.mk_edit_language.specs.AddressCauses.{unread_prefix, no_such, no_such_line, ambiguous, ambiguous_line, prefix_led}
-use Rattle.mk_edit_language.specs.RuleCauses.{not_one, absent, already, taken, shared_rule, straddles}
+use Rattle.mk_edit_language.specs.RuleCauses.{not_one, no_recipe, absent, already, taken, shared_rule, straddles}
 use Rattle.mk_edit_language.specs.LineCauses.{open_value, open_line, open_define, open_define_at, leaning, too_long}
 use Rattle.mk_edit_language.specs.Refusals.{first_cause, unless_refused, causes, spans}
 use Rattle.mk_edit_language.specs.declared.refusal.Refusal.{Refusal}
@@ -47,7 +47,7 @@ no_such_line-other ls None h = absurd (cc)
 no_such_line-other ls (Some a) h = where_holds-other _ NoSuch (λ k. absurd (cc)) h
 
 no_such-other : (ls : List ClassedLine) (e : Edit) → IsOther (no_such ls e)
-no_such-other ls (ChangeValues n c) h = where_holds-other _ NoSuch (λ k. absurd (cc)) h
+no_such-other ls (ChangeValue Every n c) h = where_holds-other _ NoSuch (λ k. absurd (cc)) h
 no_such-other ls (RenameTarget o n) h = where_holds-other _ NoSuch (λ k. absurd (cc)) h
 no_such-other ls e h = no_such_line-other ls (address e) h
 
@@ -56,8 +56,7 @@ ambiguous_line-other ls None h = absurd (cc)
 ambiguous_line-other ls (Some a) h = where_holds-other _ (Ambiguous _) (λ k. absurd (cc)) h
 
 prefix_led-other : (ls : List ClassedLine) (e : Edit) → IsOther (prefix_led ls e)
-prefix_led-other ls (AddAssign p n f v) h = where_holds-other _ RecipePrefix (λ k. absurd (cc)) h
-prefix_led-other ls (AddRule p ts c ws) h = where_holds-other _ RecipePrefix (λ k. absurd (cc)) h
+prefix_led-other ls (AddLine p l) h = where_holds-other _ RecipePrefix (λ k. absurd (cc)) h
 prefix_led-other ls (RenameTarget o n) h = where_holds-other _ RecipePrefix (λ k. absurd (cc)) h
 prefix_led-other ls e h = nothing-other h
 
@@ -66,22 +65,21 @@ not_one-other [] h = absurd (cc)
 not_one-other (s ∷ []) h = absurd (cc)
 not_one-other (s ∷ r ∷ ss) h = absurd (cc)
 
+no_recipe-other : (ls : List ClassedLine) (nth : Option ℕ) (t : List ℕ) (w : RecipeLine) → IsOther (no_recipe ls nth t w)
+no_recipe-other ls nth t (ByNumber k) h = where_holds-other _ Absent (λ j. absurd (cc)) h
+no_recipe-other ls nth t (ByText o) h = not_one-other _ h
+
 absent-other : (ls : List ClassedLine) (e : Edit) → IsOther (absent ls e)
-absent-other ls (RemoveWord nth n w) h = where_holds-other _ Absent (λ k. absurd (cc)) h
-absent-other ls (ChangeValues n (Remove w)) h = where_holds-other _ Absent (λ k. absurd (cc)) h
-absent-other ls (RemovePrereq nth t w) h = where_holds-other _ Absent (λ k. absurd (cc)) h
-absent-other ls (SetRecipe nth t k c) h = where_holds-other _ Absent (λ k. absurd (cc)) h
-absent-other ls (RemoveRecipe nth t k) h = where_holds-other _ Absent (λ k. absurd (cc)) h
-absent-other ls (InsertRecipe nth t k c) h = where_holds-other _ Absent (λ k. absurd (cc)) h
-absent-other ls (SetRecipeByText nth t o c) h = not_one-other _ h
-absent-other ls (RemoveRecipeByText nth t o) h = not_one-other _ h
+absent-other ls (ChangeValue w n (Remove x)) h = where_holds-other _ Absent (λ k. absurd (cc)) h
+absent-other ls (ChangePrereqs nth t (RemovePrereq w)) h = where_holds-other _ Absent (λ k. absurd (cc)) h
+absent-other ls (AddRecipe nth t (At k) c) h = where_holds-other _ Absent (λ j. absurd (cc)) h
+absent-other ls (SetRecipe nth t w c) h = no_recipe-other ls nth t w h
+absent-other ls (RemoveLines (OfRecipe nth t w)) h = no_recipe-other ls nth t w h
 absent-other ls e h = nothing-other h
 
 already-other : (ls : List ClassedLine) (e : Edit) → IsOther (already ls e)
-already-other ls (AddWord nth n w) h = where_holds-other _ Already (λ k. absurd (cc)) h
-already-other ls (ChangeValues n (Add w)) h = where_holds-other _ Already (λ k. absurd (cc)) h
-already-other ls (AddPrereq true nth t w) h = where_holds-other _ Already (λ k. absurd (cc)) h
-already-other ls (AddPrereq false nth t w) h = where_holds-other _ Already (λ k. absurd (cc)) h
+already-other ls (ChangeValue w n (Add x)) h = where_holds-other _ Already (λ k. absurd (cc)) h
+already-other ls (ChangePrereqs nth t (AddPrereq o w)) h = where_holds-other _ Already (λ k. absurd (cc)) h
 already-other ls e h = nothing-other h
 
 taken-other : (ls : List ClassedLine) (e : Edit) → IsOther (taken ls e)
@@ -89,20 +87,16 @@ taken-other ls (RenameTarget o n) h = where_holds-other _ Taken (λ k. absurd (c
 taken-other ls e h = nothing-other h
 
 shared_rule-other : (ls : List ClassedLine) (e : Edit) → IsOther (shared_rule ls e)
-shared_rule-other ls (RemoveRule nth t) h = where_holds-other _ (SharedRule _) (λ k. absurd (cc)) h
+shared_rule-other ls (RemoveLines (OfRule nth t)) h = where_holds-other _ (SharedRule _) (λ k. absurd (cc)) h
 shared_rule-other ls e h = nothing-other h
 
 straddles-other : (ls : List ClassedLine) (e : Edit) → IsOther (straddles ls e)
-straddles-other ls (RemoveRule nth t) h = where_holds-other _ Straddles (λ k. absurd (cc)) h
-straddles-other ls (AddRecipe nth t c) h = where_holds-other _ Straddles (λ k. absurd (cc)) h
-straddles-other ls (InsertRecipe nth t k c) h = where_holds-other _ Straddles (λ k. absurd (cc)) h
+straddles-other ls (RemoveLines (OfRule nth t)) h = where_holds-other _ Straddles (λ k. absurd (cc)) h
+straddles-other ls (AddRecipe nth t p c) h = where_holds-other _ Straddles (λ k. absurd (cc)) h
 straddles-other ls e h = nothing-other h
 
 open_value-other : (ls : List ClassedLine) (e : Edit) → IsOther (open_value ls e)
-open_value-other ls (AppendValue nth n v) h = where_holds-other _ OpenValue (λ k. absurd (cc)) h
-open_value-other ls (AddWord nth n w) h = where_holds-other _ OpenValue (λ k. absurd (cc)) h
-open_value-other ls (RemoveWord nth n w) h = where_holds-other _ OpenValue (λ k. absurd (cc)) h
-open_value-other ls (ChangeValues n c) h = where_holds-other _ OpenValue (λ k. absurd (cc)) h
+open_value-other ls (ChangeValue w n c) h = where_holds-other _ OpenValue (λ k. absurd (cc)) h
 open_value-other ls e h = nothing-other h
 
 open_define_at-other : (ls : List ClassedLine) (p : Place) → IsOther (open_define_at ls p)
@@ -110,8 +104,7 @@ open_define_at-other ls Bottom h = where_holds-other _ OpenDefine (λ k. absurd 
 open_define_at-other ls p h = nothing-other h
 
 open_define-other : (ls : List ClassedLine) (e : Edit) → IsOther (open_define ls e)
-open_define-other ls (AddAssign p n f v) h = open_define_at-other ls p h
-open_define-other ls (AddRule p ts c ws) h = open_define_at-other ls p h
+open_define-other ls (AddLine p l) h = open_define_at-other ls p h
 open_define-other ls e h = nothing-other h
 
 -- ---- the first of them

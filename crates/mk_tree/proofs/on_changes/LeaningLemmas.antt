@@ -53,10 +53,6 @@ leans-same p f ls = ap (λ z. not z && is_led_first p ls) (same_flag-self f)
 
 -- ---- contexts that agree
 
--- a context agrees with itself
-pub agrees-self : (c : Context) → AgreeButForFlag c c
-agrees-self c = record { defines = refl; conditionals = refl; prefix = refl }
-
 -- a context agrees with a context that is the same
 pub agrees-same : (c d : Context) → c ≡ d → AgreeButForFlag c d
 agrees-same c d h = record { defines = ap (λ z. z.defines) h; conditionals = ap (λ z. z.conditionals) h; prefix = ap (λ z. z.prefix) h }
@@ -64,10 +60,6 @@ agrees-same c d h = record { defines = ap (λ z. z.defines) h; conditionals = ap
 -- contexts that agree do so the other way round
 pub agrees-back : (c d : Context) → AgreeButForFlag c d → AgreeButForFlag d c
 agrees-back c d h = record { defines = sym h.defines; conditionals = sym h.conditionals; prefix = sym h.prefix }
-
--- one after the other
-pub agrees-then : (c d e : Context) → AgreeButForFlag c d → AgreeButForFlag d e → AgreeButForFlag c e
-agrees-then c d e h k = record { defines = h.defines ∙ k.defines; conditionals = h.conditionals ∙ k.conditionals; prefix = h.prefix ∙ k.prefix }
 
 context_with : RuleFlag → ℕ → ℕ → ℕ → Context
 context_with f n k p = record { flag = f; defines = n; conditionals = k; prefix = p }

@@ -1,6 +1,6 @@
 -- A new line put between lines: it is one line there. If it comes last, the line above it gets a line end if it has none, and is
 -- otherwise as it was.
-use Rattle.std.proofs.Common.{◌≡◌, refl, sym, ap, ◌∙◌, subst, ℕ, List, [], ◌∷◌, ◌++◌, append_assoc, Bool, true, false, not, ◌&&◌, ◌||◌, if◌then◌else◌, reverse, length, map}
+use Rattle.std.proofs.Common.{◌≡◌, refl, sym, ap, ◌∙◌, subst, ℕ, List, [], ◌∷◌, ◌++◌, append_assoc, Bool, true, false, not, ◌&&◌, ◌||◌, if◌then◌else◌, reverse, map}
 use Rattle.std.specs.List.{list_any}
 use Rattle.std.specs.Prelude.{nat_lt, ◌==◌}
 use Rattle.std.proofs.lemmas.List.{append-nil, reverse-append, map-append}
@@ -16,7 +16,6 @@ use Rattle.mk_lines.proofs.on_lines.LineLemmas.{OneLine, OneLine-of, Ends}
 use Rattle.mk_lines.proofs.on_lines.LineEndLemmas.{FirstIsNot, without_line_end-append, line_end-append, without_line_end-line_end, ends_line-ends}
 use Rattle.mk_lines.proofs.on_cells.LineCells.{HasNoLineEnd, is_no_line_end_kind, one_line-not_empty}
 use Rattle.mk_lines.proofs.on_lines.LineEndAdded.{IsEnded, line_end-added, not_open-ends_line}
-use Rattle.mk_lines.specs.Pieces.{replaced}
 use Rattle.mk_lines.specs.declared.ends.End.{End}
 use Rattle.mk_lines.specs.declared.ends.End.TheVariants.{None, Lf, CrLf}
 use Rattle.mk_class.specs.ListTests.{is_empty, last_passes}
@@ -28,11 +27,10 @@ use Rattle.mk_class.specs.ClassTable.{is_unreadable, class_of, class_at}
 use Rattle.mk_class.specs.ClassedLines.{ClassedLine, classed_lines}
 use Rattle.mk_tree.specs.LineTexts.{text_of, context_of}
 use Rattle.mk_tree.specs.Items.{items, items_of_line}
-use Rattle.mk_tree.specs.Readings.{reading}
 use Rattle.mk_tree.specs.Leaning.{AgreeButForFlag, leans}
-use Rattle.mk_tree.proofs.on_documents.LinesInText.{text_of-append, items-append, context_of-last, LineInText, line-in_text, reading-line}
+use Rattle.mk_tree.proofs.on_documents.LinesInText.{text_of-append, items-append, context_of-last, LineInText, line-in_text}
 use Rattle.mk_tree.specs.NewLineEnds.{lacks_line_end, with_line_end, line_ended, last_ended, above_ended, missing_line_end}
-use Rattle.mk_tree.proofs.on_changes.RunsReplaced.{Ends-append, text-inserted, line-inserted, line-replaced}
+use Rattle.mk_tree.proofs.on_changes.RunsReplaced.{Ends-append, line-inserted, line-replaced}
 
 -- ---- the line end of a file
 
@@ -344,16 +342,3 @@ pub items-above_ended : (t : List ℕ) (above below : List ClassedLine) (e : End
     → (is_empty below && last_passes (λ l. is_open l.bytes) above) ≡ false → has_no_line_end e ≡ false → items (above_ended e above below) ≡ items above
 items-above_ended t above (b ∷ below) e h o n = refl
 items-above_ended t above [] e h o n = (last-ended t above e (h ∙ append-nil above) o n).same_items
-
--- A new line put in by its span: the reading gets its item there, and no other item changes.
-pub reading-line_added : (t : List ℕ) (above below : List ClassedLine) (x : List ℕ) (e : End) (k : Class Cell) → classed_lines t ≡ above ++ below
-    → (is_empty below && last_passes (λ l. is_open l.bytes) above) ≡ false → has_no_line_end e ≡ false → IsEnded x e
-    → class_of (context_of above) (x ++ line_end_bytes e) ≡ k
-    → AgreeButForFlag (context_of above) (context_after (context_of above) k)
-    → leans (context_of above).prefix (flag_after (context_of above).flag k) (context_of above).flag below ≡ false
-    → reading (replaced 0 t (record { start = length (text_of above); end = length (text_of above); new = missing_line_end e above below ++ (x ++ line_end_bytes e) } ∷ []))
-    ≡ items above ++ (items_of_line k (x ++ line_end_bytes e) ++ items below)
-reading-line_added t above below x e k h o n m q agree free =
-    ap reading (text-inserted t above below (missing_line_end e above below ++ (x ++ line_end_bytes e)) h)
-    ∙ (reading-line (text_of above ++ ((missing_line_end e above below ++ (x ++ line_end_bytes e)) ++ text_of below)) (above_ended e above below) (record { bytes = x ++ line_end_bytes e; class = k }) below (line-added t above below x e k h o n m q agree free)
-    ∙ ap (λ z. z ++ (items_of_line k (x ++ line_end_bytes e) ++ items below)) (items-above_ended t above below e h o n))

@@ -57,7 +57,7 @@ most_conditionals-unconditional n (l ∷ ls) h =
     ap (λ z. max n (most_conditionals z ls)) (conditionals-kept n l.class h.0) ∙ (ap (max n) (most_conditionals-unconditional n ls h.1) ∙ e)
 
 -- The most that are open is the same with and without lines of no conditional.
-pub most_conditionals-without : (c : Context) (above run below : List ClassedLine) → AreUnconditional run
+most_conditionals-without : (c : Context) (above run below : List ClassedLine) → AreUnconditional run
     → most_conditionals c.conditionals (above ++ (run ++ below)) ≡ most_conditionals c.conditionals (above ++ below)
 most_conditionals-without c above run below h =
     let d = context_after_lines c above in

@@ -144,12 +144,9 @@ line-in_text t above line below h =
 
 -- ---- the reading of lines taken apart
 
--- the reading of a text whose lines are those of two lists, or of three, or a line among others
-pub reading-two : (t : List ℕ) (a b : List ClassedLine) → classed_lines t ≡ a ++ b → reading t ≡ items a ++ items b
+-- the reading of a text whose lines are those of two lists, or of three
+reading-two : (t : List ℕ) (a b : List ClassedLine) → classed_lines t ≡ a ++ b → reading t ≡ items a ++ items b
 reading-two t a b h = ap items h ∙ items-append a b
 
 pub reading-three : (t : List ℕ) (a b c : List ClassedLine) → classed_lines t ≡ a ++ (b ++ c) → reading t ≡ items a ++ (items b ++ items c)
 reading-three t a b c h = reading-two t a (b ++ c) h ∙ ap (λ z. items a ++ z) (items-append b c)
-
-pub reading-line : (t : List ℕ) (a : List ClassedLine) (l : ClassedLine) (b : List ClassedLine) → classed_lines t ≡ a ++ l ∷ b → reading t ≡ items a ++ (items_of_line l.class l.bytes ++ items b)
-reading-line t a l b h = reading-two t a (l ∷ b) h

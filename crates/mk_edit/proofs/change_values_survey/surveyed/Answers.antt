@@ -1,7 +1,7 @@
 use Rattle.std.proofs.Common.{◌≡◌, ◌∙◌, ◌+◌, refl, sym, ap, subst, arith}
 use Rattle.mk_class.specs.Contexts.{Admits, context_after_located}
 use Rattle.mk_tree.specs.Trees.{line_view}
-use Rattle.mk_edit_language.specs.EditViews.{value_change_of}
+use Rattle.mk_edit.specs.ValueChangeLines.{change_view}
 use Rattle.mk_edit.proofs.on_value_changes.WindowsWalked.{line-walked, walked-all, walked-first, walked-last}
 use Rattle.mk_edit.proofs.change_values_survey.surveyed.Goals as goal
 use Rattle.mk_edit.proofs.change_values_survey.surveyed.Goals.{in-None, in-Some+then-at-end, then-is_changed, else-is_changed}
@@ -16,12 +16,12 @@ lines-init g c = (
 
 pub changes_line-is_changed-requires : goal.changes_line-is_changed-requires
 changes_line-is_changed-requires g c =
-    let W = line-walked (λ p. p.items) c.args.name.now (value_change_of c.args.change.now) c.args.doc.now c.args.window.place c.lines.at c.lines.context (line_view c.in-Some.line.now) c.lines.line-iterator c.next.new.self c.lines.findings c.lines.places c.in-Some.ensures.steps c.lines.invariant.3 in
+    let W = line-walked (λ p. p.items) c.args.name.now (change_view c.args.change) c.args.doc.now c.args.window.place c.lines.at c.lines.context (line_view c.in-Some.line.now) c.lines.line-iterator c.next.new.self c.lines.findings c.lines.places c.in-Some.ensures.steps c.lines.invariant.3 in
     record { classed = W.classed; class = c.class-class.ensures }
 
 pub found-findings-requires : goal.found-findings-requires
 found-findings-requires g c =
-    let W = line-walked (λ p. p.items) c.args.name.now (value_change_of c.args.change.now) c.args.doc.now c.args.window.place c.lines.at c.lines.context (line_view c.in-Some.line.now) c.lines.line-iterator c.next.new.self c.lines.findings c.lines.places c.in-Some.ensures.steps c.lines.invariant.3 in
+    let W = line-walked (λ p. p.items) c.args.name.now (change_view c.args.change) c.args.doc.now c.args.window.place c.lines.at c.lines.context (line_view c.in-Some.line.now) c.lines.line-iterator c.next.new.self c.lines.findings c.lines.places c.in-Some.ensures.steps c.lines.invariant.3 in
     record {
       classed = W.classed;
       class = c.class-class.ensures;
@@ -32,12 +32,12 @@ found-findings-requires g c =
 
 pub step-context-requires : goal.step-context-requires
 step-context-requires g c =
-    let W = line-walked (λ p. p.items) c.args.name.now (value_change_of c.args.change.now) c.args.doc.now c.args.window.place c.lines.at c.lines.context (line_view c.in-Some.line.now) c.lines.line-iterator c.next.new.self c.lines.findings c.lines.places c.in-Some.ensures.steps c.lines.invariant.3 in
+    let W = line-walked (λ p. p.items) c.args.name.now (change_view c.args.change) c.args.doc.now c.args.window.place c.lines.at c.lines.context (line_view c.in-Some.line.now) c.lines.line-iterator c.next.new.self c.lines.findings c.lines.places c.in-Some.ensures.steps c.lines.invariant.3 in
     subst (Admits c.lines.context) (sym c.class-class.ensures) W.admits
 
 pub lines-preserved : goal.lines-preserved
 lines-preserved g c =
-    let W = line-walked (λ p. p.items) c.args.name.now (value_change_of c.args.change.now) c.args.doc.now c.args.window.place c.lines.at c.lines.context (line_view c.in-Some.line.now) c.lines.line-iterator c.next.new.self c.lines.findings c.lines.places c.in-Some.ensures.steps c.lines.invariant.3 in
+    let W = line-walked (λ p. p.items) c.args.name.now (change_view c.args.change) c.args.doc.now c.args.window.place c.lines.at c.lines.context (line_view c.in-Some.line.now) c.lines.line-iterator c.next.new.self c.lines.findings c.lines.places c.in-Some.ensures.steps c.lines.invariant.3 in
     let k = c.step-context.ensures.located ∙ ap (context_after_located c.lines.context) c.class-class.ensures in
     let e = c.found-findings.ensures in
     let told = sym c.changes_line-is_changed.ensures in (

@@ -1,18 +1,14 @@
-use Rattle.std.proofs.Common.{◌∙◌, ◌++◌, refl, sym, ap, subst, arith, length, ℕ}
-use Rattle.std.specs.Prelude.{◌==◌, take, drop}
-use Rattle.mk_lines.specs.PhysicalLines.{line_end, line_end_bytes}
+use Rattle.std.proofs.Common.{◌∙◌, refl, sym, ap, subst, arith, length}
 use Rattle.mk_lines.specs.Cells.{joined_byte}
-use Rattle.mk_lines.specs.Pieces.{new_bytes}
 use Rattle.mk_class.specs.Contexts.{Context}
 use Rattle.mk_class.specs.LocatedClasses.{located_class}
 use Rattle.mk_tree.specs.LocatedLines.{LocatedLine}
 use Rattle.mk_tree.specs.Trees.{line_view}
 use Rattle.mk_edit_language.specs.Edits.{ValueChange, Set, Append, Add, Remove}
-use Rattle.mk_edit_language.specs.EditViews.{value_change_of}
 use Rattle.mk_edit_parts.specs.LineRanges.{value_range_located}
 use Rattle.mk_edit_parts.specs.LocatedParts.{IsClassed}
-use Rattle.mk_edit_parts.specs.ValuePieces.{line_without_pieces}
-use Rattle.mk_edit.specs.ValueChangeLines.{IsOwnLine, bytes_changed, bytes_put}
+use Rattle.mk_edit.specs.ValueChangeLines.{IsOwnLine, bytes_changed, change_view}
+use Rattle.mk_edit.specs.declared.value_change.Change.{Change}
 use Rattle.mk_edit.proofs.on_value_changes.ChangedBytes.{mapped, own-has, put-bytes, put-within, remove-changed, set-changed, set-ranged}
 use Rattle.mk_edit.proofs.value_change.bytes_changed.Goals as goal
 
@@ -25,27 +21,22 @@ value_range-range-requires g c = classed _ _ _ c.requires
 
 pub with_replaced-requires : goal.with_replaced-requires
 with_replaced-requires g c =
+    let x = c.args.place.now.context in
     let l = line_view c.args.line.now in
-    let v = c.in-Set.value.items in
-    let O : IsOwnLine (Set v) c.args.place.context l = subst (λ (z : ValueChange). IsOwnLine z c.args.place.context l) (ap value_change_of c.in-Set.is) c.requires in
-    let empty = c.is_empty.ensures ∙ ap (λ (n : ℕ). n == 0) (sym c.deref.ensures.len ∙ ap length c.deref.ensures.value) in
-    let R = set-ranged c.args.place.context l v c.value_range-range.result O (c.value_range-range.ensures ∙ ap (λ b. value_range_located b l) empty) in
+    let v = c.in-Set.value.now in
+    let O : IsOwnLine (Set v) x l = subst (λ (z : Change). IsOwnLine (change_view z) x l) c.in-Set.is c.requires in
+    let R = set-ranged x l v c.value_range-range.result O (c.value_range-range.ensures ∙ ap (λ b. value_range_located b l) c.is_empty.ensures) in
     record { rises = R.rises; within = omega (arith, R.within, ap length c.bytes.ensures.bytes) }
 
 pub returns-in-Set : goal.returns-in-Set
 returns-in-Set g c =
-    let x = c.args.place.context in
+    let x = c.args.place.now.context in
     let l = line_view c.args.line.now in
-    let v = c.in-Set.value.items in
-    let r = c.value_range-range.result in
-    let bytes = c.bytes.result.now in
-    let O : IsOwnLine (Set v) x l = subst (λ (z : ValueChange). IsOwnLine z x l) (ap value_change_of c.in-Set.is) c.requires in
-    let empty = c.is_empty.ensures ∙ ap (λ (n : ℕ). n == 0) (sym c.deref.ensures.len ∙ ap length c.deref.ensures.value) in
-    let k = c.value_range-range.ensures ∙ ap (λ b. value_range_located b l) empty in
+    let v = c.in-Set.value.now in
+    let O : IsOwnLine (Set v) x l = subst (λ (z : Change). IsOwnLine (change_view z) x l) c.in-Set.is c.requires in
+    let k = c.value_range-range.ensures ∙ ap (λ b. value_range_located b l) c.is_empty.ensures in
     mapped _ _ c.with_replaced.result
-    (λ all e.
-    set-changed x l v bytes all.items r O k c.bytes.ensures.bytes (e ∙ ap (λ z. take r.start bytes ++ (z ++ drop r.end bytes)) c.deref.ensures.value)
-    ∙ ap (λ (z : ValueChange). bytes_changed z x l) (sym (ap value_change_of c.in-Set.is)))
+    (λ all e. set-changed x l v c.bytes.result.now all.items c.value_range-range.result O k c.bytes.ensures.bytes e ∙ ap (λ (z : Change). bytes_changed (change_view z) x l) (sym c.in-Set.is))
     c.with_replaced.ensures
 
 pub with_text_after-requires : goal.with_text_after-requires
@@ -56,26 +47,22 @@ with_text_after-requires-in-Add g c = record { classed = classed _ _ _ c.require
 
 pub returns-in-Append : goal.returns-in-Append
 returns-in-Append g c =
-    let x = c.args.place.context in
+    let x = c.args.place.now.context in
     let l = line_view c.args.line.now in
-    let v = c.in-Append.text.items in
-    let O : IsOwnLine (Append v) x l = subst (λ (z : ValueChange). IsOwnLine z x l) (ap value_change_of c.in-Append.is) c.requires in
+    let v = c.in-Append.text.now in
+    let O : IsOwnLine (Append v) x l = subst (λ (z : Change). IsOwnLine (change_view z) x l) c.in-Append.is c.requires in
     mapped _ _ c.with_text_after.result
-    (λ bytes e.
-    e ∙ (ap (λ z. bytes_put z l) c.deref-in-Append.ensures.value
-    ∙ (sym (put-bytes (Append v) x l v (λ a. refl) O) ∙ ap (λ (z : ValueChange). bytes_changed z x l) (sym (ap value_change_of c.in-Append.is)))))
+    (λ bytes e. e ∙ (sym (put-bytes (Append v) x l v (λ a. refl) O) ∙ ap (λ (z : Change). bytes_changed (change_view z) x l) (sym c.in-Append.is)))
     c.with_text_after.ensures
 
 pub returns-in-Add : goal.returns-in-Add
 returns-in-Add g c =
-    let x = c.args.place.context in
+    let x = c.args.place.now.context in
     let l = line_view c.args.line.now in
-    let w = c.in-Add.word.items in
-    let O : IsOwnLine (Add w) x l = subst (λ (z : ValueChange). IsOwnLine z x l) (ap value_change_of c.in-Add.is) c.requires in
+    let w = c.in-Add.word.now in
+    let O : IsOwnLine (Add w) x l = subst (λ (z : Change). IsOwnLine (change_view z) x l) c.in-Add.is c.requires in
     mapped _ _ c.with_text_after-in-Add.result
-    (λ bytes e.
-    e ∙ (ap (λ z. bytes_put z l) c.deref-in-Add.ensures.value
-    ∙ (sym (put-bytes (Add w) x l w (λ a. refl) O) ∙ ap (λ (z : ValueChange). bytes_changed z x l) (sym (ap value_change_of c.in-Add.is)))))
+    (λ bytes e. e ∙ (sym (put-bytes (Add w) x l w (λ a. refl) O) ∙ ap (λ (z : Change). bytes_changed (change_view z) x l) (sym c.in-Add.is)))
     c.with_text_after-in-Add.ensures
 
 pub without_word-requires : goal.without_word-requires
@@ -83,13 +70,10 @@ without_word-requires g c = own-has _ _ _ _ c.requires c.assignment_of.ensures
 
 pub returns-in-Remove : goal.returns-in-Remove
 returns-in-Remove g c =
-    let x = c.args.place.context in
+    let x = c.args.place.now.context in
     let l = line_view c.args.line.now in
-    let w = c.in-Remove.word.items in
-    let O : IsOwnLine (Remove w) x l = subst (λ (z : ValueChange). IsOwnLine z x l) (ap value_change_of c.in-Remove.is) c.requires in
+    let w = c.in-Remove.word.now in
+    let O : IsOwnLine (Remove w) x l = subst (λ (z : Change). IsOwnLine (change_view z) x l) c.in-Remove.is c.requires in
     mapped _ _ c.without_word.result
-    (λ bytes e.
-    remove-changed x l w bytes.items c.assignment_of.result O c.assignment_of.ensures
-    (λ a r s. e a r s ∙ ap (λ z. new_bytes (line_without_pieces z a r) ++ line_end_bytes (line_end l.bytes)) c.deref-in-Remove.ensures.value)
-    ∙ ap (λ (z : ValueChange). bytes_changed z x l) (sym (ap value_change_of c.in-Remove.is)))
+    (λ bytes e. remove-changed x l w bytes.items c.assignment_of.result O c.assignment_of.ensures e ∙ ap (λ (z : Change). bytes_changed (change_view z) x l) (sym c.in-Remove.is))
     c.without_word.ensures

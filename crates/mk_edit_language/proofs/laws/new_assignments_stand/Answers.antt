@@ -1,5 +1,5 @@
-use Rattle.mk_edit_language.proofs.on_new_lines.AddAssignLemmas.{add_assign-lines}
+use Rattle.mk_edit_language.proofs.on_edits.EditedLineLemmas.{new_assign-lines}
 use Rattle.mk_edit_language.proofs.laws.new_assignments_stand.Goals as goal
 
 pub returns : goal.returns
-returns c = add_assign-lines
+returns c = new_assign-lines

@@ -9,24 +9,24 @@ use Rattle.mk_written.proofs.line.line_of_rule_edit.Goals as goal
 pub returns-in-AddRule : goal.returns-in-AddRule
 returns-in-AddRule g c =
     let e = c.in-AddRule in
-    rw (e.is) (result-of (edits.AddRule (place_of e.place) e.targets.items e.separator e.prereqs.items) (nth_of_place (place_of e.place)) (codes "rule") (place_words (place_of e.place) ++ e.targets.items ∷ rule_separator_text e.separator ∷ e.prereqs.items ∷ []) c.said_at.result refl (λ fields k. k) (rw (c.deref.ensures.value, c.deref-in-AddRule.ensures.value, c.colons.ensures) at c.said_at.ensures))
+    rw (e.is) (result-of (edits.AddLine (place_of e.place) (edits.NewRule e.targets.items e.separator e.prereqs.items)) (nth_of_place (place_of e.place)) (codes "rule") (place_words (place_of e.place) ++ e.targets.items ∷ rule_separator_text e.separator ∷ e.prereqs.items ∷ []) c.said_at.result refl (λ fields k. k) (rw (c.deref.ensures.value, c.deref-in-AddRule.ensures.value, c.colons.ensures) at c.said_at.ensures))
 
 pub returns-in-RemoveRule : goal.returns-in-RemoveRule
 returns-in-RemoveRule g c =
     let e = c.in-RemoveRule in
-    rw (e.is) (result-of (edits.RemoveRule e.nth e.target.items) e.nth (codes "unrule") (e.target.items ∷ []) c.said.result refl (λ fields k. k) (rw (c.deref-in-RemoveRule.ensures.value) at c.said.ensures))
+    rw (e.is) (result-of (edits.RemoveLines (edits.OfRule e.nth e.target.items)) e.nth (codes "unrule") (e.target.items ∷ []) c.said.result refl (λ fields k. k) (rw (c.deref-in-RemoveRule.ensures.value) at c.said.ensures))
 
 pub returns-in-AddPrereq : goal.returns-in-AddPrereq
 returns-in-AddPrereq g c =
     let e = c.in-AddPrereq in
     rw e.is
-    (result-of (edits.AddPrereq e.order e.nth e.target.items e.word.items) e.nth (depend_word e.order) (e.target.items ∷ e.word.items ∷ []) c.said-in-AddPrereq.result refl (λ fields k. k)
+    (result-of (edits.ChangePrereqs e.nth e.target.items (edits.AddPrereq e.order e.word.items)) e.nth (depend_word e.order) (e.target.items ∷ e.word.items ∷ []) c.said-in-AddPrereq.result refl (λ fields k. k)
     (rw (c.depend.ensures.text, c.deref-in-AddPrereq.ensures.value, c.deref-in-AddPrereq-2.ensures.value) at c.said-in-AddPrereq.ensures))
 
 pub returns-in-RemovePrereq : goal.returns-in-RemovePrereq
 returns-in-RemovePrereq g c =
     let e = c.in-RemovePrereq in
-    rw (e.is) (result-of (edits.RemovePrereq e.nth e.target.items e.word.items) e.nth (codes "undepend") (e.target.items ∷ e.word.items ∷ []) c.said-in-RemovePrereq.result refl (λ fields k. k) (rw (c.deref-in-RemovePrereq.ensures.value, c.deref-in-RemovePrereq-2.ensures.value) at c.said-in-RemovePrereq.ensures))
+    rw (e.is) (result-of (edits.ChangePrereqs e.nth e.target.items (edits.RemovePrereq e.word.items)) e.nth (codes "undepend") (e.target.items ∷ e.word.items ∷ []) c.said-in-RemovePrereq.result refl (λ fields k. k) (rw (c.deref-in-RemovePrereq.ensures.value, c.deref-in-RemovePrereq-2.ensures.value) at c.said-in-RemovePrereq.ensures))
 
 pub returns-in-RenameTarget : goal.returns-in-RenameTarget
 returns-in-RenameTarget g c =

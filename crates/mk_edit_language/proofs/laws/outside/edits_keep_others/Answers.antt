@@ -1,4 +1,4 @@
-use Rattle.mk_edit_language.proofs.on_edits.KeptLemmas.{edits-keep}
+use Rattle.mk_edit_language.proofs.on_edits.EditLemmas.{edits-keep}
 use Rattle.mk_edit_language.proofs.laws.outside.edits_keep_others.Goals as goal
 
 pub returns : goal.returns

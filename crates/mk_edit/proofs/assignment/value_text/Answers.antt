@@ -1,7 +1,7 @@
 use Rattle.std.proofs.Common.{◌∙◌, ap, sym, arith, length}
 use Rattle.mk_tree.specs.Trees.{line_view}
 use Rattle.mk_edit_parts.proofs.on_finding.PartLemmas.{seen-assign, text-length}
-use Rattle.mk_edit.proofs.append_value.value_text.Goals as goal
+use Rattle.mk_edit.proofs.assignment.value_text.Goals as goal
 
 pub part-requires-clause-rises : goal.part-requires-clause-rises
 part-requires-clause-rises g c = (seen-assign (line_view c.args.line.now) c.requires _ _ (sym c.class.ensures ∙ c.in-Assign.is)).2.value.rises
