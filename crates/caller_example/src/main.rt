@@ -8,7 +8,7 @@ use mk_lines::source::read_all;
 use mk_lines::{StdSink, StdSource};
 use mk_listing::{assignments, assignments_of, rules_for};
 use mk_session::laws::{groups_are_taken_back, undo_takes_back_an_edit};
-use mk_session::{Edit, MakeEdit, Refusal, Session};
+use mk_session::{Edit, Refusal, Session};
 use mk_tree::text_of;
 use std::env;
 use std::fs::File;

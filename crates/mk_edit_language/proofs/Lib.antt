@@ -8,3 +8,6 @@ pub mod on_prerequisites
 pub mod on_renames
 pub mod on_changes
 pub mod on_edits
+-- Lemmas on copies of edits
+mod CopiedEdits
+mod EqualEdits

@@ -2,6 +2,8 @@
 -- The edits, and the lines that they speak of
 pub mod Edits
 pub mod EditViews
+pub mod CommandViews
+pub mod Numbered
 pub mod Spots
 pub mod Addresses
 pub mod Stretches

@@ -6,7 +6,7 @@ use Rattle.mk_lines.specs.Lists.{concat}
 use Rattle.mk_edit_language.specs.Edits.{Edit}
 use Rattle.mk_edit_language.specs.EditViews.{edit_of}
 use Rattle.mk_history.specs.Machine.{Command, Apply}
-use Rattle.mk_command.specs.CommandViews.{command_of}
+use Rattle.mk_edit_language.specs.CommandViews.{command_of}
 use Rattle.mk_script.specs.Lines.{script_lines, IsSkipped, Saying, Plain, Try, Or, Says}
 use Rattle.mk_script.specs.declared.step.NumberedCommand.{NumberedCommand}
 use Rattle.mk_script.specs.declared.step.NumberedEdit.{NumberedEdit}

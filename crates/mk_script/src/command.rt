@@ -1,7 +1,7 @@
 //! A command: a call of a session that is one word, or an edit, before which `nth` and a number may
 //! stand, or `all`.
 ghost use Rattle.std.specs.Prelude.{◌≡◌};
-ghost use Rattle.mk_command.specs.CommandViews.{command_of};
+ghost use Rattle.mk_edit_language.specs.CommandViews.{command_of};
 ghost use Rattle.mk_edit_language.specs.EditViews.{edit_of};
 ghost use Rattle.mk_script.specs.SeenFields.{field_text};
 ghost use Rattle.mk_script.specs.CommandReading.{addressed_edit, call_or_edit, edit_line};
@@ -14,8 +14,7 @@ use crate::field::Field;
 use crate::fields::{first_field, is_blank};
 use crate::number::number_of;
 use crate::word::call;
-use mk_command::Command;
-use mk_edit_language::Edit;
+use mk_edit_language::{Command, Edit};
 use std::alloc::Allocator;
 
 /// Whether a line is skipped: its first byte is `#`, or it has only blanks.

@@ -38,6 +38,6 @@ pub mod table;
 mod word;
 
 pub use mistake::{Mistake, MistakeCause, mistake_at, nearest_at};
-pub use mk_command::Command;
+pub use mk_edit_language::Command;
 pub use script::{ScriptFault, parse_script};
 pub use step::{Chain, NumberedCommand, NumberedEdit, Step};

@@ -1,8 +1,7 @@
 //! The steps of a script.
 ghost use Rattle.std.specs.Prelude.{◌≡◌, ◌<◌, map, false, vec_len, MatchOption};
 
-use mk_command::Command;
-use mk_edit_language::Edit;
+use mk_edit_language::{Command, Edit};
 use std::alloc::{Allocator, Global};
 
 /// A command with the number of its line in the script, from 1.

@@ -1,14 +1,13 @@
 //! The words by which commands, places, operators and separators are known. A word between quotes
 //! is the same word.
 ghost use Rattle.std.specs.Prelude.{◌≡◌, option_map};
-ghost use Rattle.mk_command.specs.CommandViews.{command_of};
+ghost use Rattle.mk_edit_language.specs.CommandViews.{command_of};
 ghost use Rattle.mk_script.specs.SeenFields.{field_text};
 ghost use Rattle.mk_script.specs.WordReading.{calls, edit_words, named, operators, places, separators, value_words};
 
 use crate::field::Field;
 use mk_class::Flavor;
-use mk_command::Command;
-use mk_edit_language::RuleSeparator;
+use mk_edit_language::{Command, RuleSeparator};
 use std::alloc::Allocator;
 
 /// The words of edits.

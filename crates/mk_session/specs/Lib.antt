@@ -1,7 +1,7 @@
 -- # What the public contracts say
 -- The session machine of makefiles
 pub mod Sessions
-pub use Rattle.mk_command.specs.CommandViews
+pub use Rattle.mk_edit_language.specs.CommandViews
 -- What a session stores
 pub mod StoredSessions
 -- Calls in turn

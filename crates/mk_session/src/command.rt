@@ -1,10 +1,10 @@
 //! A call of a session as a value, and the session that does it.
-ghost use Rattle.mk_command.specs.CommandViews.{command_of};
+ghost use Rattle.mk_edit_language.specs.CommandViews.{command_of};
 ghost use Rattle.mk_session.specs.Calls.{IsAnswered};
 
 use crate::session::Session;
-pub use mk_command::Command;
 use mk_edit::Refusal;
+pub use mk_edit_language::Command;
 use std::alloc::Allocator;
 
 impl<A: Allocator + Copy> Session<A> {

@@ -1,6 +1,6 @@
 //! A session: a makefile that is edited, with undo, redo and groups of edits.
 //!
-//! - [`command`]: the calls of a session as values, which `mk_command` has, done.
+//! - [`command`]: the calls of a session as values, which `mk_edit_language` has, done.
 //! - [`laws`]: what holds for a session over any list of calls.
 //! - [`session`]: the session; its module `group` has the call that makes edits as one, `dry_run` the one
 //!   that tells whether they can be made, `finding` those that say where the lines stand that edits take,
@@ -17,8 +17,7 @@ pub mod session;
 pub use command::Command;
 pub use mk_class::Flavor;
 pub use mk_edit::{Detail, Edit, Field, Place, Refusal, RuleSeparator, ValueChange};
-pub use mk_edits::{
-    MakeEdit, MakePlace, clone_edit, clone_place, is_same_edit, is_same_place, number_edit,
-    number_place,
+pub use mk_edit_language::{
+    clone_edit, clone_place, is_same_edit, is_same_place, number_edit, number_place,
 };
 pub use session::Session;

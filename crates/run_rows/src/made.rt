@@ -3,8 +3,7 @@
 use crate::sessions::edit_of;
 use mk_lines::Fault;
 use mk_session::{
-    Edit, Flavor, MakeEdit, MakePlace, Place, RuleSeparator, clone_edit, clone_place, is_same_edit,
-    is_same_place,
+    Edit, Flavor, Place, RuleSeparator, clone_edit, clone_place, is_same_edit, is_same_place,
 };
 use std::alloc::AllocError;
 use test_support::text::number;

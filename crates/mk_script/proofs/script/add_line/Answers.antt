@@ -1,7 +1,7 @@
 use Rattle.std.proofs.Common.{◌++◌, ◌∷◌, [], refl, map, ap, sym, ◌∙◌, subst}
 use Rattle.std.specs.Prelude.{option_map}
 use Rattle.mk_edit_language.specs.EditViews.{edit_of}
-use Rattle.mk_command.specs.CommandViews.{command_of}
+use Rattle.mk_edit_language.specs.CommandViews.{command_of}
 use Rattle.mk_script.specs.Lines.{Plain, Try}
 use Rattle.mk_script.specs.Scripts.{Alone, Tried, step_of}
 use Rattle.mk_script.specs.SeenFields.{field_text}

@@ -2,103 +2,22 @@
 ghost use Rattle.std.specs.Prelude.{◌≡◌, IfOk, None, true, false};
 ghost use Rattle.mk_edit_language.specs.EditViews.{edit_of, place_of};
 ghost use Rattle.mk_edit_language.specs.Edits as edits;
-ghost use Rattle.mk_edits.specs.Numbered.{numbered};
+ghost use Rattle.mk_edit_language.specs.Numbered.{numbered};
 
-use crate::place::number_place;
-use mk_edit_language::{Edit, ValueChange};
+use crate::edit::{Edit, ValueChange};
+use crate::making::place::number_place;
 use std::alloc::{AllocError, Allocator};
 
 /// Makes edits, in a call each. The calls have the words of scripts, and docs/EDITS.md says what each
 /// edit does and when it is refused. An edit means the only line of its name or target, unless
-/// [`MakeEdit::nth`] gives it a number. The edits that put in an assignment or a rule are made of
-/// their place, by `assign` and `rule` of [`MakePlace`](crate::MakePlace).
+/// [`Edit::nth`] gives it a number. The edits that put in an assignment or a rule are made of
+/// their place, by `assign` and `rule` of [`Place`].
 ///
 /// Each call that takes an allocator has the error [`AllocError`] if there is no memory for a text.
 /// No text is looked at: a bad one is refused when the edit is made.
-pub trait MakeEdit<A: Allocator + Copy>: Sized {
+impl<A: Allocator + Copy> Edit<A> {
     /// Gives the only assignment of a name another value, which may be empty: `set NAME VALUE`.
-    fn set(alloc: A, name: &[u8], value: &[u8]) -> Result<Edit<A>, AllocError>;
-
-    /// Puts a text after the value of the only assignment of a name: `append NAME VALUE`.
-    fn append(alloc: A, name: &[u8], value: &[u8]) -> Result<Edit<A>, AllocError>;
-
-    /// Puts a word after the value of the only assignment of a name: `add NAME WORD`.
-    fn add_word(alloc: A, name: &[u8], word: &[u8]) -> Result<Edit<A>, AllocError>;
-
-    /// Takes a word out of the value of the only assignment of a name: `drop NAME WORD`.
-    fn drop_word(alloc: A, name: &[u8], word: &[u8]) -> Result<Edit<A>, AllocError>;
-
-    /// Gives each assignment of a name another value: `all set NAME VALUE`.
-    fn all_set(alloc: A, name: &[u8], value: &[u8]) -> Result<Edit<A>, AllocError>;
-
-    /// Puts a text after the value of each assignment of a name: `all append NAME VALUE`.
-    fn all_append(alloc: A, name: &[u8], value: &[u8]) -> Result<Edit<A>, AllocError>;
-
-    /// Puts a word after each value of a name that does not have it: `all add NAME WORD`.
-    fn all_add_word(alloc: A, name: &[u8], word: &[u8]) -> Result<Edit<A>, AllocError>;
-
-    /// Takes a word out of each value of a name that has it: `all drop NAME WORD`.
-    fn all_drop_word(alloc: A, name: &[u8], word: &[u8]) -> Result<Edit<A>, AllocError>;
-
-    /// Takes out the line of the only assignment of a name: `unset NAME`.
-    fn unset(alloc: A, name: &[u8]) -> Result<Edit<A>, AllocError>;
-
-    /// Takes out the line of the only rule for a target, with its recipe: `unrule TARGET`.
-    fn unrule(alloc: A, target: &[u8]) -> Result<Edit<A>, AllocError>;
-
-    /// Puts a word after the prerequisites of the only rule for a target: `depend TARGET WORD`.
-    fn depend(alloc: A, target: &[u8], word: &[u8]) -> Result<Edit<A>, AllocError>;
-
-    /// Puts a word after the order-only prerequisites of the only rule for a target:
-    /// `depend-order TARGET WORD`.
-    fn depend_order(alloc: A, target: &[u8], word: &[u8]) -> Result<Edit<A>, AllocError>;
-
-    /// Takes a word out of the prerequisites of the only rule for a target: `undepend TARGET WORD`.
-    fn undepend(alloc: A, target: &[u8], word: &[u8]) -> Result<Edit<A>, AllocError>;
-
-    /// Puts a line after the recipe of the only rule for a target: `recipe TARGET LINE`.
-    fn recipe(alloc: A, target: &[u8], line: &[u8]) -> Result<Edit<A>, AllocError>;
-
-    /// Puts a line into the recipe of the only rule for a target, where it gets a number from 1:
-    /// `recipe-insert TARGET K LINE`.
-    fn recipe_insert(
-        alloc: A,
-        target: &[u8],
-        number: u32,
-        line: &[u8],
-    ) -> Result<Edit<A>, AllocError>;
-
-    /// Gives the recipe line of a number another command, in the only rule for a target:
-    /// `recipe-set TARGET K LINE`.
-    fn recipe_set(alloc: A, target: &[u8], number: u32, line: &[u8]) -> Result<Edit<A>, AllocError>;
-
-    /// Takes out the recipe line of a number, in the only rule for a target: `recipe-del TARGET K`.
-    fn recipe_del(alloc: A, target: &[u8], number: u32) -> Result<Edit<A>, AllocError>;
-
-    /// Gives the only recipe line of a text another command, in the only rule for a target:
-    /// `recipe-replace TARGET OLD LINE`.
-    fn recipe_replace(
-        alloc: A,
-        target: &[u8],
-        old: &[u8],
-        line: &[u8],
-    ) -> Result<Edit<A>, AllocError>;
-
-    /// Takes out the only recipe line of a text, in the only rule for a target:
-    /// `recipe-remove TARGET OLD`.
-    fn recipe_remove(alloc: A, target: &[u8], old: &[u8]) -> Result<Edit<A>, AllocError>;
-
-    /// Gives a target another name, wherever it stands as a target or as a prerequisite:
-    /// `rename OLD NEW`.
-    fn rename(alloc: A, old: &[u8], new: &[u8]) -> Result<Edit<A>, AllocError>;
-
-    /// The same edit of another line of its name or target, by its number from 1: `nth N` before
-    /// a command. [`number_edit`] says which number it is, and which edits have none.
-    fn nth(self, number: u32) -> Edit<A>;
-}
-
-impl<A: Allocator + Copy> MakeEdit<A> for Edit<A> {
-    fn set(alloc: A, name: &[u8], value: &[u8]) -> Result<Edit<A>, AllocError>
+    pub fn set(alloc: A, name: &[u8], value: &[u8]) -> Result<Edit<A>, AllocError>
         ensures { IfOk result (λ e. edit_of e ≡ edits.ChangeValue (edits.One None) name.now (edits.Set value.now)) }
     {
         let name = Vec::from_slice(alloc, name)?;
@@ -110,7 +29,8 @@ impl<A: Allocator + Copy> MakeEdit<A> for Edit<A> {
         })
     }
 
-    fn append(alloc: A, name: &[u8], value: &[u8]) -> Result<Edit<A>, AllocError>
+    /// Puts a text after the value of the only assignment of a name: `append NAME VALUE`.
+    pub fn append(alloc: A, name: &[u8], value: &[u8]) -> Result<Edit<A>, AllocError>
         ensures { IfOk result (λ e. edit_of e ≡ edits.ChangeValue (edits.One None) name.now (edits.Append value.now)) }
     {
         let name = Vec::from_slice(alloc, name)?;
@@ -122,7 +42,8 @@ impl<A: Allocator + Copy> MakeEdit<A> for Edit<A> {
         })
     }
 
-    fn add_word(alloc: A, name: &[u8], word: &[u8]) -> Result<Edit<A>, AllocError>
+    /// Puts a word after the value of the only assignment of a name: `add NAME WORD`.
+    pub fn add_word(alloc: A, name: &[u8], word: &[u8]) -> Result<Edit<A>, AllocError>
         ensures { IfOk result (λ e. edit_of e ≡ edits.ChangeValue (edits.One None) name.now (edits.Add word.now)) }
     {
         let name = Vec::from_slice(alloc, name)?;
@@ -134,7 +55,8 @@ impl<A: Allocator + Copy> MakeEdit<A> for Edit<A> {
         })
     }
 
-    fn drop_word(alloc: A, name: &[u8], word: &[u8]) -> Result<Edit<A>, AllocError>
+    /// Takes a word out of the value of the only assignment of a name: `drop NAME WORD`.
+    pub fn drop_word(alloc: A, name: &[u8], word: &[u8]) -> Result<Edit<A>, AllocError>
         ensures { IfOk result (λ e. edit_of e ≡ edits.ChangeValue (edits.One None) name.now (edits.Remove word.now)) }
     {
         let name = Vec::from_slice(alloc, name)?;
@@ -146,7 +68,8 @@ impl<A: Allocator + Copy> MakeEdit<A> for Edit<A> {
         })
     }
 
-    fn all_set(alloc: A, name: &[u8], value: &[u8]) -> Result<Edit<A>, AllocError>
+    /// Gives each assignment of a name another value: `all set NAME VALUE`.
+    pub fn all_set(alloc: A, name: &[u8], value: &[u8]) -> Result<Edit<A>, AllocError>
         ensures { IfOk result (λ e. edit_of e ≡ edits.ChangeValue edits.Every name.now (edits.Set value.now)) }
     {
         let name = Vec::from_slice(alloc, name)?;
@@ -157,7 +80,8 @@ impl<A: Allocator + Copy> MakeEdit<A> for Edit<A> {
         })
     }
 
-    fn all_append(alloc: A, name: &[u8], value: &[u8]) -> Result<Edit<A>, AllocError>
+    /// Puts a text after the value of each assignment of a name: `all append NAME VALUE`.
+    pub fn all_append(alloc: A, name: &[u8], value: &[u8]) -> Result<Edit<A>, AllocError>
         ensures { IfOk result (λ e. edit_of e
             ≡ edits.ChangeValue edits.Every name.now (edits.Append value.now)) }
     {
@@ -169,7 +93,8 @@ impl<A: Allocator + Copy> MakeEdit<A> for Edit<A> {
         })
     }
 
-    fn all_add_word(alloc: A, name: &[u8], word: &[u8]) -> Result<Edit<A>, AllocError>
+    /// Puts a word after each value of a name that does not have it: `all add NAME WORD`.
+    pub fn all_add_word(alloc: A, name: &[u8], word: &[u8]) -> Result<Edit<A>, AllocError>
         ensures { IfOk result (λ e. edit_of e ≡ edits.ChangeValue edits.Every name.now (edits.Add word.now)) }
     {
         let name = Vec::from_slice(alloc, name)?;
@@ -180,7 +105,8 @@ impl<A: Allocator + Copy> MakeEdit<A> for Edit<A> {
         })
     }
 
-    fn all_drop_word(alloc: A, name: &[u8], word: &[u8]) -> Result<Edit<A>, AllocError>
+    /// Takes a word out of each value of a name that has it: `all drop NAME WORD`.
+    pub fn all_drop_word(alloc: A, name: &[u8], word: &[u8]) -> Result<Edit<A>, AllocError>
         ensures { IfOk result (λ e. edit_of e
             ≡ edits.ChangeValue edits.Every name.now (edits.Remove word.now)) }
     {
@@ -192,21 +118,24 @@ impl<A: Allocator + Copy> MakeEdit<A> for Edit<A> {
         })
     }
 
-    fn unset(alloc: A, name: &[u8]) -> Result<Edit<A>, AllocError>
+    /// Takes out the line of the only assignment of a name: `unset NAME`.
+    pub fn unset(alloc: A, name: &[u8]) -> Result<Edit<A>, AllocError>
         ensures { IfOk result (λ e. edit_of e ≡ edits.RemoveLines (edits.OfAssign None name.now)) }
     {
         let name = Vec::from_slice(alloc, name)?;
         Ok(Edit::RemoveAssign { nth: None, name })
     }
 
-    fn unrule(alloc: A, target: &[u8]) -> Result<Edit<A>, AllocError>
+    /// Takes out the line of the only rule for a target, with its recipe: `unrule TARGET`.
+    pub fn unrule(alloc: A, target: &[u8]) -> Result<Edit<A>, AllocError>
         ensures { IfOk result (λ e. edit_of e ≡ edits.RemoveLines (edits.OfRule None target.now)) }
     {
         let target = Vec::from_slice(alloc, target)?;
         Ok(Edit::RemoveRule { nth: None, target })
     }
 
-    fn depend(alloc: A, target: &[u8], word: &[u8]) -> Result<Edit<A>, AllocError>
+    /// Puts a word after the prerequisites of the only rule for a target: `depend TARGET WORD`.
+    pub fn depend(alloc: A, target: &[u8], word: &[u8]) -> Result<Edit<A>, AllocError>
         ensures { IfOk result (λ e. edit_of e ≡ edits.ChangePrereqs None target.now (edits.AddPrereq false word.now)) }
     {
         let target = Vec::from_slice(alloc, target)?;
@@ -219,7 +148,9 @@ impl<A: Allocator + Copy> MakeEdit<A> for Edit<A> {
         })
     }
 
-    fn depend_order(alloc: A, target: &[u8], word: &[u8]) -> Result<Edit<A>, AllocError>
+    /// Puts a word after the order-only prerequisites of the only rule for a target:
+    /// `depend-order TARGET WORD`.
+    pub fn depend_order(alloc: A, target: &[u8], word: &[u8]) -> Result<Edit<A>, AllocError>
         ensures { IfOk result (λ e. edit_of e ≡ edits.ChangePrereqs None target.now (edits.AddPrereq true word.now)) }
     {
         let target = Vec::from_slice(alloc, target)?;
@@ -232,7 +163,8 @@ impl<A: Allocator + Copy> MakeEdit<A> for Edit<A> {
         })
     }
 
-    fn undepend(alloc: A, target: &[u8], word: &[u8]) -> Result<Edit<A>, AllocError>
+    /// Takes a word out of the prerequisites of the only rule for a target: `undepend TARGET WORD`.
+    pub fn undepend(alloc: A, target: &[u8], word: &[u8]) -> Result<Edit<A>, AllocError>
         ensures { IfOk result (λ e. edit_of e ≡ edits.ChangePrereqs None target.now (edits.RemovePrereq word.now)) }
     {
         let target = Vec::from_slice(alloc, target)?;
@@ -244,7 +176,8 @@ impl<A: Allocator + Copy> MakeEdit<A> for Edit<A> {
         })
     }
 
-    fn recipe(alloc: A, target: &[u8], line: &[u8]) -> Result<Edit<A>, AllocError>
+    /// Puts a line after the recipe of the only rule for a target: `recipe TARGET LINE`.
+    pub fn recipe(alloc: A, target: &[u8], line: &[u8]) -> Result<Edit<A>, AllocError>
         ensures { IfOk result (λ e. edit_of e ≡ edits.AddRecipe None target.now edits.Last line.now) }
     {
         let target = Vec::from_slice(alloc, target)?;
@@ -256,7 +189,9 @@ impl<A: Allocator + Copy> MakeEdit<A> for Edit<A> {
         })
     }
 
-    fn recipe_insert(
+    /// Puts a line into the recipe of the only rule for a target, where it gets a number from 1:
+    /// `recipe-insert TARGET K LINE`.
+    pub fn recipe_insert(
         alloc: A,
         target: &[u8],
         number: u32,
@@ -275,7 +210,14 @@ impl<A: Allocator + Copy> MakeEdit<A> for Edit<A> {
         })
     }
 
-    fn recipe_set(alloc: A, target: &[u8], number: u32, line: &[u8]) -> Result<Edit<A>, AllocError>
+    /// Gives the recipe line of a number another command, in the only rule for a target:
+    /// `recipe-set TARGET K LINE`.
+    pub fn recipe_set(
+        alloc: A,
+        target: &[u8],
+        number: u32,
+        line: &[u8],
+    ) -> Result<Edit<A>, AllocError>
         ensures { IfOk result (λ e. edit_of e ≡ edits.SetRecipe None target.now (edits.ByNumber number) line.now) }
     {
         let target = Vec::from_slice(alloc, target)?;
@@ -288,7 +230,8 @@ impl<A: Allocator + Copy> MakeEdit<A> for Edit<A> {
         })
     }
 
-    fn recipe_del(alloc: A, target: &[u8], number: u32) -> Result<Edit<A>, AllocError>
+    /// Takes out the recipe line of a number, in the only rule for a target: `recipe-del TARGET K`.
+    pub fn recipe_del(alloc: A, target: &[u8], number: u32) -> Result<Edit<A>, AllocError>
         ensures { IfOk result (λ e. edit_of e ≡ edits.RemoveLines (edits.OfRecipe None target.now (edits.ByNumber number))) }
     {
         let target = Vec::from_slice(alloc, target)?;
@@ -299,7 +242,9 @@ impl<A: Allocator + Copy> MakeEdit<A> for Edit<A> {
         })
     }
 
-    fn recipe_replace(
+    /// Gives the only recipe line of a text another command, in the only rule for a target:
+    /// `recipe-replace TARGET OLD LINE`.
+    pub fn recipe_replace(
         alloc: A,
         target: &[u8],
         old: &[u8],
@@ -319,7 +264,9 @@ impl<A: Allocator + Copy> MakeEdit<A> for Edit<A> {
         })
     }
 
-    fn recipe_remove(alloc: A, target: &[u8], old: &[u8]) -> Result<Edit<A>, AllocError>
+    /// Takes out the only recipe line of a text, in the only rule for a target:
+    /// `recipe-remove TARGET OLD`.
+    pub fn recipe_remove(alloc: A, target: &[u8], old: &[u8]) -> Result<Edit<A>, AllocError>
         ensures { IfOk result (λ e. edit_of e ≡ edits.RemoveLines (edits.OfRecipe None target.now (edits.ByText old.now))) }
     {
         let target = Vec::from_slice(alloc, target)?;
@@ -331,7 +278,9 @@ impl<A: Allocator + Copy> MakeEdit<A> for Edit<A> {
         })
     }
 
-    fn rename(alloc: A, old: &[u8], new: &[u8]) -> Result<Edit<A>, AllocError>
+    /// Gives a target another name, wherever it stands as a target or as a prerequisite:
+    /// `rename OLD NEW`.
+    pub fn rename(alloc: A, old: &[u8], new: &[u8]) -> Result<Edit<A>, AllocError>
         ensures { IfOk result (λ e. edit_of e ≡ edits.RenameTarget old.now new.now) }
     {
         let from = Vec::from_slice(alloc, old)?;
@@ -339,7 +288,9 @@ impl<A: Allocator + Copy> MakeEdit<A> for Edit<A> {
         Ok(Edit::RenameTarget { from, to })
     }
 
-    fn nth(mut self, number: u32) -> Edit<A>
+    /// The same edit of another line of its name or target, by its number from 1: `nth N` before
+    /// a command. [`number_edit`] says which number it is, and which edits have none.
+    pub fn nth(mut self, number: u32) -> Edit<A>
         ensures { edit_of result ≡ numbered number (edit_of self) }
     {
         number_edit(&mut self, number);
@@ -349,7 +300,7 @@ impl<A: Allocator + Copy> MakeEdit<A> for Edit<A> {
 
 /// Gives an edit the number of the line that it means, from 1, among the lines of the same name or
 /// target; where it puts a line in, the number of the place. The edits that mean each line of a name,
-/// those by [`MakeEdit::rename`] and the calls that begin with `all`, have no number and stay. Takes
+/// those by [`Edit::rename`] and the calls that begin with `all`, have no number and stay. Takes
 /// no memory.
 pub fn number_edit<A: Allocator>(edit: &mut Edit<A>, number: u32)
     ensures { edit_of edit.new ≡ numbered number (edit_of edit.old) }

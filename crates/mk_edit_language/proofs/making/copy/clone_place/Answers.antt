@@ -1,5 +1,5 @@
-use Rattle.mk_edits.proofs.CopiedEdits.{places-cloned, if_ok}
-use Rattle.mk_edits.proofs.copy.clone_place.Goals as goal
+use Rattle.mk_edit_language.proofs.CopiedEdits.{places-cloned, if_ok}
+use Rattle.mk_edit_language.proofs.making.copy.clone_place.Goals as goal
 
 pub returns : goal.returns
 returns g c =

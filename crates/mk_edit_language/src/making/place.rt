@@ -2,10 +2,10 @@
 ghost use Rattle.std.specs.Prelude.{◌≡◌, IfOk, None};
 ghost use Rattle.mk_edit_language.specs.EditViews.{edit_of, place_of};
 ghost use Rattle.mk_edit_language.specs.Edits as edits;
-ghost use Rattle.mk_edits.specs.Numbered.{numbered_place};
+ghost use Rattle.mk_edit_language.specs.Numbered.{numbered_place};
 
+use crate::edit::{Edit, Place, RuleSeparator};
 use mk_class::Flavor;
-use mk_edit_language::{Edit, Place, RuleSeparator};
 use std::alloc::{AllocError, Allocator};
 
 /// Makes places of new lines, and of a place the edit that puts a line there. The end of the file is
@@ -13,69 +13,42 @@ use std::alloc::{AllocError, Allocator};
 ///
 /// Each call that takes an allocator has the error [`AllocError`] if there is no memory for a text.
 /// No text is looked at: a bad one is refused when the edit is made.
-pub trait MakePlace<A: Allocator>: Sized {
+impl<A: Allocator + Copy> Place<A> {
     /// Before the line of the only assignment of a name.
-    fn before_var(alloc: A, name: &[u8]) -> Result<Place<A>, AllocError>;
-
-    /// After the line of the only assignment of a name.
-    fn after_var(alloc: A, name: &[u8]) -> Result<Place<A>, AllocError>;
-
-    /// Before the line of the only rule for a target.
-    fn before_rule(alloc: A, target: &[u8]) -> Result<Place<A>, AllocError>;
-
-    /// The same place at another line of its name or target, by its number from 1. The end of the
-    /// file has no number and stays.
-    fn nth(self, number: u32) -> Place<A>;
-
-    /// Puts in the line of an assignment here: `assign PLACE NAME OP VALUE`.
-    fn assign(
-        self,
-        alloc: A,
-        name: &[u8],
-        flavor: Flavor,
-        value: &[u8],
-    ) -> Result<Edit<A>, AllocError>;
-
-    /// Puts in the line of a rule here: `rule PLACE TARGETS SEP PREREQS`.
-    fn rule(
-        self,
-        alloc: A,
-        targets: &[u8],
-        separator: RuleSeparator,
-        prereqs: &[u8],
-    ) -> Result<Edit<A>, AllocError>;
-}
-
-impl<A: Allocator + Copy> MakePlace<A> for Place<A> {
-    fn before_var(alloc: A, name: &[u8]) -> Result<Place<A>, AllocError>
+    pub fn before_var(alloc: A, name: &[u8]) -> Result<Place<A>, AllocError>
         ensures { IfOk result (λ p. place_of p ≡ edits.BeforeVar None name.now) }
     {
         let name = Vec::from_slice(alloc, name)?;
         Ok(Place::BeforeVar { nth: None, name })
     }
 
-    fn after_var(alloc: A, name: &[u8]) -> Result<Place<A>, AllocError>
+    /// After the line of the only assignment of a name.
+    pub fn after_var(alloc: A, name: &[u8]) -> Result<Place<A>, AllocError>
         ensures { IfOk result (λ p. place_of p ≡ edits.AfterVar None name.now) }
     {
         let name = Vec::from_slice(alloc, name)?;
         Ok(Place::AfterVar { nth: None, name })
     }
 
-    fn before_rule(alloc: A, target: &[u8]) -> Result<Place<A>, AllocError>
+    /// Before the line of the only rule for a target.
+    pub fn before_rule(alloc: A, target: &[u8]) -> Result<Place<A>, AllocError>
         ensures { IfOk result (λ p. place_of p ≡ edits.BeforeRule None target.now) }
     {
         let target = Vec::from_slice(alloc, target)?;
         Ok(Place::BeforeRule { nth: None, target })
     }
 
-    fn nth(mut self, number: u32) -> Place<A>
+    /// The same place at another line of its name or target, by its number from 1. The end of the
+    /// file has no number and stays.
+    pub fn nth(mut self, number: u32) -> Place<A>
         ensures { place_of result ≡ numbered_place number (place_of self) }
     {
         number_place(&mut self, number);
         self
     }
 
-    fn assign(
+    /// Puts in the line of an assignment here: `assign PLACE NAME OP VALUE`.
+    pub fn assign(
         self,
         alloc: A,
         name: &[u8],
@@ -95,7 +68,8 @@ impl<A: Allocator + Copy> MakePlace<A> for Place<A> {
         })
     }
 
-    fn rule(
+    /// Puts in the line of a rule here: `rule PLACE TARGETS SEP PREREQS`.
+    pub fn rule(
         self,
         alloc: A,
         targets: &[u8],

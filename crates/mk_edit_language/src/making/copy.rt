@@ -2,7 +2,7 @@
 ghost use Rattle.std.specs.Prelude.{◌≡◌, ◌↔◌, IfOk, IsTrue};
 ghost use Rattle.mk_edit_language.specs.EditViews.{edit_of, place_of};
 
-use mk_edit_language::{Edit, Place};
+use crate::edit::{Edit, Place};
 use std::alloc::{AllocError, Allocator};
 
 /// The copy that `clone` makes of an edit: the same edit, with texts of its own. They take memory from

@@ -1,5 +1,6 @@
-//! One call of a session.
-use mk_edit_language::Edit;
+//! One call of a session. `mk_script` reads it from the lines of a script, and `mk_session` does it: neither
+//! stands on the other.
+use crate::edit::Edit;
 use std::alloc::{Allocator, Global};
 
 /// One call of the type `Session` of `mk_session`.

@@ -3,8 +3,8 @@
 use Rattle.mk_edit_language.specs.Edits.{Edit}
 use Rattle.mk_edit_language.specs.EditViews.{edit_of}
 use Rattle.mk_history.specs.Machine as machine
-use Rattle.mk_command.specs.declared.command.Command.{Command}
-use Rattle.mk_command.specs.declared.command.Command.TheVariants as command
+use Rattle.mk_edit_language.specs.declared.command.Command.{Command}
+use Rattle.mk_edit_language.specs.declared.command.Command.TheVariants as command
 
 abbrev pub command_of : {A : _} → Command A → machine.Command Edit
 command_of (command.Apply e) = machine.Apply (edit_of e)

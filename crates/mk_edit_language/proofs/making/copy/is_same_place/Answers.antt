@@ -1,5 +1,5 @@
-use Rattle.mk_edits.proofs.EqualEdits.{places-decide}
-use Rattle.mk_edits.proofs.copy.is_same_place.Goals as goal
+use Rattle.mk_edit_language.proofs.EqualEdits.{places-decide}
+use Rattle.mk_edit_language.proofs.making.copy.is_same_place.Goals as goal
 
 pub returns : goal.returns
 returns g c =

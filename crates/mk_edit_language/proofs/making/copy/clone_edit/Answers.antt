@@ -1,5 +1,5 @@
-use Rattle.mk_edits.proofs.CopiedEdits.{edits-cloned, if_ok}
-use Rattle.mk_edits.proofs.copy.clone_edit.Goals as goal
+use Rattle.mk_edit_language.proofs.CopiedEdits.{edits-cloned, if_ok}
+use Rattle.mk_edit_language.proofs.making.copy.clone_edit.Goals as goal
 
 pub returns : goal.returns
 returns g c =

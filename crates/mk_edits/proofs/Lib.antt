@@ -1,3 +1,0 @@
--- Lemmas by subject, which the crates above cite too
-pub mod CopiedEdits
-pub mod EqualEdits
