@@ -4,3 +4,5 @@ pub mod on_fields
 pub mod on_commands
 -- Lines and scripts
 pub mod on_scripts
+-- What is written is read
+mod WrittenLemmas

@@ -8,6 +8,8 @@ pub mod Lines
 pub mod Scripts
 pub mod ScriptsOfCommands
 pub mod ScriptLaws
+-- An edit as a line of a script
+pub mod WrittenEdits
 -- The words of a script
 pub mod WordReading
 -- # Vocabulary of private contracts
@@ -17,3 +19,4 @@ pub mod NumberReading
 pub mod ReaderAnswers
 pub mod SeenFields
 pub mod CommandReading
+pub mod WrittenLines

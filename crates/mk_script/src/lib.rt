@@ -18,6 +18,7 @@
 //! - [`step`]: the steps of a script.
 //! - [`table`]: the table of commands.
 //! - [`word`]: the words that commands are known by.
+//! - [`written`]: the line of a script that says an edit.
 //!
 //! A script does not say whether a field may stand in its edit, such as a name or a value: an edit
 //! with a bad field is refused when it is made.
@@ -36,8 +37,10 @@ pub mod spelling;
 pub mod step;
 pub mod table;
 mod word;
+pub mod written;
 
 pub use mistake::{Mistake, MistakeCause, mistake_at, nearest_at};
 pub use mk_edit_language::Command;
 pub use script::{ScriptFault, parse_script};
 pub use step::{Chain, NumberedCommand, NumberedEdit, Step};
+pub use written::{LineError, line_of_edit};

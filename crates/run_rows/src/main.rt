@@ -2,7 +2,7 @@
 //! allocates, with each of its growths refused, and each that writes, over sinks that fail. A table has the
 //! name of a call, or of what no contract says of some calls.
 //!
-//! - [`scripts`]: `mk_script` and `mk_written`.
+//! - [`scripts`]: `mk_script`.
 //! - [`changes`]: `mk_history` at a change of a type of its own, and `mk_patch`.
 //! - [`made`]: edits by the calls that make them.
 //! - [`sessions`]: sessions, lookups, and how edits are shown.

@@ -3,9 +3,8 @@
 use crate::sessions::edit_of;
 use mk_lines::Fault;
 use mk_script::spelling::are_alike;
-use mk_script::{ScriptFault, mistake_at, nearest_at, parse_script};
+use mk_script::{LineError, ScriptFault, line_of_edit, mistake_at, nearest_at, parse_script};
 use mk_session::Edit;
-use mk_written::{LineError, line_of_edit};
 use test_support::Case;
 use test_support::text::{joined, number};
 

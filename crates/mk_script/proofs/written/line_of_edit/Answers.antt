@@ -3,8 +3,8 @@ use Rattle.mk_edit_language.specs.Edits as edits
 use Rattle.mk_edit_language.specs.EditViews.{place_of, value_change_of}
 use Rattle.mk_class.specs.OperatorTexts.{operator_text}
 use Rattle.mk_script.specs.CommandTable.{change_words, nth_of_place, place_words}
-use Rattle.mk_written.proofs.WrittenLemmas.{result-of}
-use Rattle.mk_written.proofs.line.line_of_edit.Goals as goal
+use Rattle.mk_script.proofs.WrittenLemmas.{result-of}
+use Rattle.mk_script.proofs.written.line_of_edit.Goals as goal
 
 pub returns-in-SetValue-clause-read : goal.returns-in-SetValue-clause-read
 returns-in-SetValue-clause-read g c =

@@ -1,8 +1,8 @@
 use Rattle.std.proofs.Common.{◌≡◌, ◌++◌, ◌+◌, ◌∷◌, [], ℕ, List, ap, ◌∙◌, add-one, drop, drop-cons, append_assoc, slice_index_or}
 use Rattle.std.proofs.lemmas.List.{drop_all}
 use Rattle.mk_script.specs.Fields.{escaped}
-use Rattle.mk_written.proofs.WrittenLemmas.{escaped-end, escaped-more}
-use Rattle.mk_written.proofs.line.push_quoted.Goals as goal
+use Rattle.mk_script.proofs.WrittenLemmas.{escaped-end, escaped-more}
+use Rattle.mk_script.proofs.written.push_quoted.Goals as goal
 
 pub loop-byte-init : goal.loop-byte-init
 loop-byte-init g c = ap (λ (t : List ℕ). t ++ escaped c.args.field.now) c.in_ok-extend_from_slice.ensures.items ∙ append_assoc c.args.line.now.items (34 ∷ []) (escaped c.args.field.now)

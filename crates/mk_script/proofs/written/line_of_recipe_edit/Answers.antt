@@ -1,7 +1,7 @@
 use Rattle.std.proofs.Common.{◌∷◌, [], refl, codes, decimal}
 use Rattle.mk_edit_language.specs.Edits as edits
-use Rattle.mk_written.proofs.WrittenLemmas.{result-of}
-use Rattle.mk_written.proofs.line.line_of_recipe_edit.Goals as goal
+use Rattle.mk_script.proofs.WrittenLemmas.{result-of}
+use Rattle.mk_script.proofs.written.line_of_recipe_edit.Goals as goal
 
 pub returns-in-AddRecipe : goal.returns-in-AddRecipe
 returns-in-AddRecipe g c =

@@ -13,10 +13,10 @@ use Rattle.mk_history.specs.Machine.{Apply}
 use Rattle.mk_script.specs.CommandTable.{IsAfterNth, IsCommand}
 use Rattle.mk_script.specs.Fields.{EndsField, is_special, IsBare, IsWritten, HasFields, quoted, escaped}
 use Rattle.mk_script.specs.Lines.{script_lines}
-use Rattle.mk_written.specs.WrittenEdits.{SaysOnly, after_nth, fields_of, has_line_feed, is_plain, is_quoted_byte, line_with, written}
-use Rattle.mk_written.specs.WrittenLines.{IsLineOf, IsLineResult, IsSaid, fields_in}
-use Rattle.mk_written.specs.declared.line.LineError.{LineError}
-use Rattle.mk_written.specs.declared.line.LineError.TheVariants.{LineFeed}
+use Rattle.mk_script.specs.WrittenEdits.{SaysOnly, after_nth, fields_of, has_line_feed, is_plain, is_quoted_byte, line_with, written}
+use Rattle.mk_script.specs.WrittenLines.{IsLineOf, IsLineResult, IsSaid, fields_in}
+use Rattle.mk_script.specs.declared.written.LineError.{LineError}
+use Rattle.mk_script.specs.declared.written.LineError.TheVariants.{LineFeed}
 
 -- ---- a field
 

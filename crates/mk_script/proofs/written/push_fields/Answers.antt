@@ -1,7 +1,7 @@
 use Rattle.std.proofs.Common.{◌≡◌, ◌+◌, ◌∷◌, List, ℕ, Bor, add-one, drop, drop-cons, ◌<◌, length, get_or}
 use Rattle.std.proofs.lemmas.List.{drop_all}
-use Rattle.mk_written.proofs.WrittenLemmas.{field-more, fields-done}
-use Rattle.mk_written.proofs.line.push_fields.Goals as goal
+use Rattle.mk_script.proofs.WrittenLemmas.{field-more, fields-done}
+use Rattle.mk_script.proofs.written.push_fields.Goals as goal
 
 pub loop-field-preserved : goal.loop-field-preserved
 loop-field-preserved g c =

@@ -4,9 +4,9 @@ use Rattle.std.specs.Prelude.{◌≡◌, ℕ, Bool, true, false, List, [], ◌�
 use Rattle.std.specs.Borrow.{Bor}
 use Rattle.mk_edit_language.specs.Edits.{NewRule, OfRule, OfRecipe, Edit, ChangePrereqs, AddLine, AddRecipe, SetRecipe, RemoveLines, RenameTarget}
 use Rattle.mk_script.specs.CommandTable.{IsAfterNth}
-use Rattle.mk_written.specs.WrittenEdits.{SaysOnly, after_nth, fields_of, has_line_feed, line_with}
-use Rattle.mk_written.specs.declared.line.LineError.{LineError}
-use Rattle.mk_written.specs.declared.line.LineError.TheVariants.{LineFeed}
+use Rattle.mk_script.specs.WrittenEdits.{SaysOnly, after_nth, fields_of, has_line_feed, line_with}
+use Rattle.mk_script.specs.declared.written.LineError.{LineError}
+use Rattle.mk_script.specs.declared.written.LineError.TheVariants.{LineFeed}
 
 -- the fields that some slices show
 abbrev pub fields_in : List (Bor (List ℕ)) → List (List ℕ)

@@ -3,8 +3,8 @@ use Rattle.mk_edit_language.specs.Edits as edits
 use Rattle.mk_edit_language.specs.EditViews.{place_of}
 use Rattle.mk_edit_language.specs.NewLines.{rule_separator_text}
 use Rattle.mk_script.specs.CommandTable.{depend_word, nth_of_place, place_words}
-use Rattle.mk_written.proofs.WrittenLemmas.{result-of}
-use Rattle.mk_written.proofs.line.line_of_rule_edit.Goals as goal
+use Rattle.mk_script.proofs.WrittenLemmas.{result-of}
+use Rattle.mk_script.proofs.written.line_of_rule_edit.Goals as goal
 
 pub returns-in-AddRule : goal.returns-in-AddRule
 returns-in-AddRule g c =

@@ -1,7 +1,7 @@
 use Rattle.std.proofs.Common.{sym, ◌∙◌}
-use Rattle.mk_written.specs.WrittenLines.{fields_in}
-use Rattle.mk_written.proofs.WrittenLemmas.{no-line, said-of}
-use Rattle.mk_written.proofs.line.said_after.Goals as goal
+use Rattle.mk_script.specs.WrittenLines.{fields_in}
+use Rattle.mk_script.proofs.WrittenLemmas.{no-line, said-of}
+use Rattle.mk_script.proofs.written.said_after.Goals as goal
 
 pub returns-then-has_line_feed : goal.returns-then-has_line_feed
 returns-then-has_line_feed g c =

@@ -8,8 +8,8 @@ ghost use Rattle.mk_edit_language.specs.NewLines.{rule_separator_text};
 ghost use Rattle.mk_script.specs.CommandTable.{IsAfterNth, change_words, depend_word, nth_of_place, place_words};
 ghost use Rattle.mk_script.specs.Fields.{escaped, quoted};
 ghost use Rattle.mk_script.specs.Numbers.{IsNumber};
-ghost use Rattle.mk_written.specs.WrittenEdits.{SaysOnly, after_nth, fields_of, has_line_feed, is_plain, is_quoted_byte, line_with, written};
-ghost use Rattle.mk_written.specs.WrittenLines.{IsLineResult, IsSaid, fields_in, is_of_recipe, is_of_rule};
+ghost use Rattle.mk_script.specs.WrittenEdits.{SaysOnly, after_nth, fields_of, has_line_feed, is_plain, is_quoted_byte, line_with, written};
+ghost use Rattle.mk_script.specs.WrittenLines.{IsLineResult, IsSaid, fields_in, is_of_recipe, is_of_rule};
 
 use mk_class::Flavor;
 use mk_edit_language::{Edit, Place, RuleSeparator, ValueChange};
@@ -29,7 +29,7 @@ pub enum LineError {
 
 impl From<AllocError> for LineError {
     ghost use Rattle.std.specs.Prelude.{◌≡◌};
-    ghost use Rattle.mk_written.specs.declared.line.LineError.TheVariants.{NoMemory};
+    ghost use Rattle.mk_script.specs.declared.written.LineError.TheVariants.{NoMemory};
 
     ghost from_gives = { λ _ error. error ≡ NoMemory };
 
@@ -39,7 +39,7 @@ impl From<AllocError> for LineError {
 }
 
 /// The line of a script that says an edit, with its line feed: `nth 2 set CC "clang -m32"`. A script
-/// that has this line, and no other, is this edit alone, so `mk_script::parse_script` gives it back,
+/// that has this line, and no other, is this edit alone, so [`parse_script`](crate::parse_script) gives it back,
 /// as the command of line 1. Lines of edits in a row are a script of these edits.
 ///
 /// A field stands between quotes if it is empty, or has a blank, a carriage return or a quote. The

@@ -1,2 +1,0 @@
--- What is written is read
-pub mod WrittenLemmas
