@@ -4,6 +4,7 @@ use mk_class::{
     Context, Meter, classify, is_command, is_name, is_reserved_word, is_target, is_value, is_word,
 };
 use mk_lines::Fault;
+use mk_lines::source::MAX_TEXT;
 use mk_lines::split::split;
 use test_support::Case;
 
@@ -33,7 +34,10 @@ pub fn context_after(case: &Case<'_>, text: &[u8]) -> Result<Vec<u8>, Fault> {
     let mut context = Context::start();
     for span in &split(case.alloc, text)? {
         let line = text.get(span.start..span.end).unwrap_or_default();
-        let (class, next) = classify(case.heap, line, context, &mut Meter::new())?;
+        if (context.defines() as usize) >= MAX_TEXT {
+            return Err(Fault::TooLong);
+        }
+        let (_, next) = classify(case.heap, line, context, &mut Meter::new())?;
         context = next;
     }
     let (conds, defines) = (context.conds(), context.defines());

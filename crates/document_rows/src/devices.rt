@@ -1,6 +1,6 @@
 //! A reader and a writer of std whose calls end as the bytes of a text say: a digit moves at most so many
 //! bytes, `i` is interrupted by a signal before it moves one, and `f` fails.
-ghost use Rattle.std.specs.Prelude.{◌≤◌, OnOk, IfOk};
+ghost use Rattle.std.specs.Prelude.{◌≡◌, ◌≤◌, OnOk, IfOk, false};
 
 use mk_lines::sink::{write_all, write_parts};
 use mk_lines::source::read_all;
@@ -95,7 +95,9 @@ pub fn write(case: &Case<'_>, ends: &[u8]) -> Result<Vec<u8>, Fault> {
     Ok(joined(case.alloc, &[said.as_bytes(), &writer.bytes])?)
 }
 
-fn write_and_flush<W: ByteSink>(sink: &mut W) -> Result<(), Fault> {
+fn write_and_flush<W: ByteSink>(sink: &mut W) -> Result<(), Fault>
+    requires { W.failed sink.old ≡ false }
+{
     write_all(sink, b"hello")?;
     sink.flush()
 }

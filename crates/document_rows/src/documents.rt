@@ -7,7 +7,6 @@ use mk_lines::Fault;
 use mk_lines::source::MAX_TEXT;
 use mk_tree::{Doc, Line, LineBytes};
 use std::alloc::Global;
-use test_support::text::joined;
 use test_support::{Case, MemorySink};
 
 /// The document of a text.
@@ -49,13 +48,13 @@ pub fn lines_in_contexts(case: &Case<'_>, text: &[u8]) -> Result<Vec<u8>, Fault>
 pub fn read_line(case: &Case<'_>) -> Result<Vec<u8>, Fault> {
     let bytes = Vec::from_slice(case.heap, b"B = a \\\n b\n")?;
     let line = Line::read(case.heap, bytes, Context::start(), &mut Meter::new())?;
-    Ok(joined(case.alloc, &[line.text()])?)
+    Ok(Vec::from_slice(case.alloc, line.text())?)
 }
 
 /// The bytes of a line by themselves.
 pub fn own_bytes(case: &Case<'_>, text: &[u8]) -> Result<Vec<u8>, Fault> {
     let own = LineBytes::new(Vec::from_slice(case.heap, text)?)?;
-    Ok(joined(case.alloc, &[own.as_slice()])?)
+    Ok(Vec::from_slice(case.alloc, own.as_slice())?)
 }
 
 /// The line at an index taken out of a document, if it is an assignment.

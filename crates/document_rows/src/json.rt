@@ -1,25 +1,39 @@
 //! Lines of JSON.
+ghost use Rattle.mk_tree.specs.Documents.{IsFaithful};
 
 use crate::documents::document;
 use mk_json::{caveats, check, push_text_line, recipes, rules, vars};
 use mk_lines::Fault;
+use mk_tree::Doc;
+use std::alloc::{AllocError, Allocator};
 use test_support::Case;
-use test_support::text::joined;
 
 /// The name of the makefiles: one that is not UTF-8, which the program does not take.
 const NAME: &[u8] = b"\xff";
 
+/// The lines of JSON that a query gives of a document, for one name or target if there is one.
+fn asked<B: Allocator + Copy>(
+    alloc: B,
+    query: &[u8],
+    doc: &Doc,
+    word: Option<&[u8]>,
+) -> Result<Vec<u8, B>, AllocError>
+    requires { IsFaithful doc.now }
+{
+    match query {
+        b"vars" => vars(alloc, NAME, doc, word),
+        b"rules" => rules(alloc, NAME, doc, word),
+        b"recipes" => recipes(alloc, NAME, doc, word),
+        b"check" => check(alloc, NAME, doc),
+        _ => caveats(alloc, NAME, doc),
+    }
+}
+
 /// The lines of JSON that a query gives.
 pub fn lines(case: &Case<'_>, query: &[u8], makefile: &[u8]) -> Result<Vec<u8>, Fault> {
     let doc = document(case.alloc, makefile)?;
-    let lines = match query {
-        b"vars" => vars(case.heap, NAME, &doc, None)?,
-        b"rules" => rules(case.heap, NAME, &doc, None)?,
-        b"recipes" => recipes(case.heap, NAME, &doc, None)?,
-        b"check" => check(case.heap, NAME, &doc)?,
-        _ => caveats(case.heap, NAME, &doc)?,
-    };
-    Ok(joined(case.alloc, &[&lines])?)
+    let lines = asked(case.heap, query, &doc, None)?;
+    Ok(Vec::from_slice(case.alloc, lines.as_slice())?)
 }
 
 /// How many lines of JSON a query gives.
@@ -32,5 +46,5 @@ pub fn count_lines(case: &Case<'_>, query: &[u8], makefile: &[u8]) -> Result<Vec
 /// The line of JSON of a text.
 pub fn text_line(case: &Case<'_>, text: &[u8]) -> Result<Vec<u8>, Fault> {
     let line = push_text_line(Vec::new(case.heap), case.heap, text, false)?;
-    Ok(joined(case.alloc, &[&line])?)
+    Ok(Vec::from_slice(case.alloc, line.as_slice())?)
 }

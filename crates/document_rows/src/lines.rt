@@ -41,7 +41,7 @@ pub fn read(case: &Case<'_>, text: &[u8], step: &[u8], call: &[u8]) -> Result<Ve
 /// A whole text.
 pub fn read_whole(case: &Case<'_>, text: &[u8]) -> Result<Vec<u8>, Fault> {
     let whole = read_all(case.heap, &mut MemorySource::new(text, 100))?;
-    Ok(joined(case.alloc, &[&whole])?)
+    Ok(Vec::from_slice(case.alloc, whole.as_slice())?)
 }
 
 /// The joined text of a line, whether it has a bad fold, and whether it has a stray byte.
@@ -49,7 +49,9 @@ pub fn joined_line(case: &Case<'_>, line: &[u8]) -> Result<Vec<u8>, Fault> {
     let kept = cells(case.heap, line)?;
     let (bad_fold, stray) = (kept.has_bad_fold(), kept.has_stray());
     let said = format!(in case.alloc; ", bad fold {bad_fold}, stray {stray}")?;
-    Ok(joined(case.alloc, &[kept.text(line), said.as_bytes()])?)
+    let mut shown = Vec::from_slice(case.alloc, kept.text(line))?;
+    shown.extend_from_slice(said.as_bytes())?;
+    Ok(shown)
 }
 
 /// The spans of the lines of a text, and how long the first is.

@@ -13,7 +13,7 @@ use test_support::text::joined;
 pub fn text_again(case: &Case<'_>, text: &[u8]) -> Result<Vec<u8>, Fault> {
     let doc = document(case.alloc, text)?;
     let again = text_of(case.heap, &doc)?;
-    Ok(joined(case.alloc, &[&again])?)
+    Ok(Vec::from_slice(case.alloc, again.as_slice())?)
 }
 
 /// The parts of each line.
@@ -45,37 +45,28 @@ fn parts_of(alloc: Global, line: &Line) -> Result<Vec<u8>, AllocError> {
     joined(alloc, &[recipe, b"|", define, b"|", shown.as_bytes()])
 }
 
+/// Pushes a part, and a bar behind it.
+fn push_part(shown: &mut Vec<u8>, part: &[u8]) -> Result<(), AllocError> {
+    shown.extend_from_slice(part)?;
+    shown.extend_from_slice(b"|")
+}
+
 fn assigned(alloc: Global, assignment: &AssignmentRef<'_>) -> Result<Vec<u8>, AllocError> {
-    let modifiers = words(alloc, assignment.modifiers())?;
-    let operator = assignment.flavor().text();
-    let (name, value) = (assignment.name(), assignment.value());
-    joined(
-        alloc,
-        &[&modifiers, name, b"|", operator.as_bytes(), b"|", value],
-    )
+    let mut shown = words(alloc, assignment.modifiers())?;
+    push_part(&mut shown, assignment.name())?;
+    push_part(&mut shown, assignment.flavor().text().as_bytes())?;
+    shown.extend_from_slice(assignment.value())?;
+    Ok(shown)
 }
 
 fn ruled(alloc: Global, rule: &RuleRef<'_>) -> Result<Vec<u8>, AllocError> {
-    let targets = words(alloc, rule.targets())?;
-    let (prereqs, order_only) = (
-        words(alloc, rule.prereqs())?,
-        words(alloc, rule.order_only())?,
-    );
-    let pattern = rule.pattern().unwrap_or(b"-");
-    let recipe = rule.inline_recipe().unwrap_or(b"-");
-    let separator = rule.separator().text().as_bytes();
-    joined(
-        alloc,
-        &[
-            &targets,
-            separator,
-            pattern,
-            b"|",
-            &prereqs,
-            &order_only,
-            recipe,
-        ],
-    )
+    let mut shown = words(alloc, rule.targets())?;
+    shown.extend_from_slice(rule.separator().text().as_bytes())?;
+    push_part(&mut shown, rule.pattern().unwrap_or(b"-"))?;
+    shown.extend_from_slice(&words(alloc, rule.prereqs())?)?;
+    shown.extend_from_slice(&words(alloc, rule.order_only())?)?;
+    shown.extend_from_slice(rule.inline_recipe().unwrap_or(b"-"))?;
+    Ok(shown)
 }
 
 /// Words, with a bar behind each, and one more.

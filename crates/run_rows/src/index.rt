@@ -7,6 +7,7 @@ use crate::sessions::{edit_of, growths_of};
 use mk_class::Meter;
 use mk_edit::plan_with;
 use mk_edit_parts::address::Address;
+use mk_edit_parts::seek::Sought;
 use mk_edit_parts::window::Known;
 use mk_index::{Finder, Index, IndexedDoc, Scope};
 use mk_lines::Fault;
@@ -32,9 +33,16 @@ pub fn told(case: &Case<'_>, makefile: &[u8], name: &[u8]) -> Result<Vec<u8>, Fa
     let doc = document(case.alloc, makefile)?;
     let mut index = Index::new(case.alloc, &doc, scope)?;
     index.refresh(&doc)?;
-    let sought = index.sought(case.alloc, &doc, Some(Address::Variable(None, name)));
-    let count = sought.map(|sought| sought.count);
+    let count = count_of(index.sought(case.alloc, &doc, Some(Address::Variable(None, name))));
     Ok(format!(in case.alloc; "{count:?}")?.into_bytes())
+}
+
+/// How many lines were found, if that is known.
+fn count_of(sought: Option<Sought>) -> Option<usize> {
+    match sought {
+        Some(sought) => Some(sought.count),
+        None => None,
+    }
 }
 
 /// Whether an index of what some letters list tells of the variable `A`, the rule `all`, and a rename of

@@ -1,7 +1,7 @@
 //! What a line asks for, and what is replied to it.
 ghost use Rattle.std.specs.Prelude.{◌≡◌, false};
 
-use mk_lines::Fault;
+use mk_lines::{ByteSink, Fault};
 use mk_repl::{
     Obeyed, Reverted, answer_line, answer_lines, line_length, lines_between, obey_line,
     read_request, revert,
@@ -20,12 +20,17 @@ pub fn request(case: &Case<'_>, line: &[u8]) -> Result<Vec<u8>, Fault> {
 /// The lines of an answer.
 pub fn lines_of_answer(case: &Case<'_>, text: &[u8]) -> Result<Vec<u8>, Fault> {
     let lines = answer_lines(case.heap, text)?;
-    Ok(joined(case.alloc, &[&lines])?)
+    Ok(Vec::from_slice(case.alloc, lines.as_slice())?)
 }
 
 /// The lines of a text between two numbers, from 1, and how long the first line of the text is.
 pub fn between(case: &Case<'_>, text: &[u8], from: &[u8], to: &[u8]) -> Result<Vec<u8>, Fault> {
-    let length = format!(in case.alloc; "{}: ", line_length(text))?;
+    let length = if text.is_empty() {
+        0
+    } else {
+        line_length(text)
+    };
+    let length = format!(in case.alloc; "{length}: ")?;
     let lines = lines_between(text, number(from), number(to));
     Ok(joined(case.alloc, &[length.as_bytes(), lines])?)
 }
@@ -42,6 +47,9 @@ pub fn write(
 {
     let mut session = Session::open(case.alloc, makefile, 100)?;
     for line in lines.split(|byte| *byte == b'|') {
+        if out.failed() {
+            return Err(Fault::Write);
+        }
         answer_line(case.alloc, &mut session, line, out, &mut ())?;
     }
     Ok(())
@@ -57,6 +65,9 @@ fn hear(case: &Case<'_>, session: &mut Session, lines: &[u8]) -> Result<Vec<u8>,
     let mut shown = String::new(case.alloc);
     let mut out = MemorySink::new(Vec::new(case.alloc), 3);
     for line in lines.split(|byte| *byte == b'|') {
+        if out.failed() {
+            return Err(Fault::Write);
+        }
         let heard = answer_line(case.alloc, session, line, &mut out, &mut ())?;
         shown.push_str(format!(in case.alloc; "{heard:?} ")?.as_str())?;
     }
@@ -72,7 +83,9 @@ pub fn reply(case: &Case<'_>, makefile: &[u8], line: &[u8]) -> Result<Vec<u8>, F
     if out.bytes() == b"fault no memory\n".as_slice() && text.as_slice() == makefile {
         return Err(Fault::NoMemory);
     }
-    Ok(joined(case.alloc, &[out.bytes(), &text])?)
+    let mut shown = Vec::from_slice(case.alloc, out.bytes())?;
+    shown.extend_from_slice(text.as_slice())?;
+    Ok(shown)
 }
 
 /// What is answered to a revert of two edits in a session of a depth, and to one in a group.

@@ -6,7 +6,7 @@ use mk_script::spelling::are_alike;
 use mk_script::{LineError, ScriptFault, line_of_edit, mistake_at, nearest_at, parse_script};
 use mk_session::Edit;
 use test_support::Case;
-use test_support::text::{joined, number};
+use test_support::text::number;
 
 /// How many steps a script has, or the text of its fault.
 pub fn steps_of(case: &Case<'_>, script: &[u8]) -> Result<Vec<u8>, Fault> {
@@ -30,7 +30,7 @@ pub fn written_value(case: &Case<'_>, value: &[u8]) -> Result<Vec<u8>, Fault> {
 /// The line of an edit, or the text of its error.
 fn line_of(case: &Case<'_>, edit: &Edit) -> Result<Vec<u8>, Fault> {
     match line_of_edit(case.heap, edit) {
-        Ok(line) => Ok(joined(case.alloc, &[&line])?),
+        Ok(line) => Ok(Vec::from_slice(case.alloc, line.as_slice())?),
         Err(LineError::NoMemory) => Err(Fault::NoMemory),
         Err(error) => Ok(error.to_string(case.alloc)?.into_bytes()),
     }

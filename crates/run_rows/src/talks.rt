@@ -1,7 +1,7 @@
 //! The lines of a source, and a whole talk: with devices that move little or fail, and without memory.
 
 use mk_lines::sink::write_parts;
-use mk_lines::{ByteSink, Fault};
+use mk_lines::{ByteSink, ByteSource, Fault};
 use mk_repl::{After, LineRead, Listener, converse, read_line, write_greeting, write_too_long};
 use test_support::text::{joined, number};
 use test_support::{Case, MemorySink, MemorySource};
@@ -12,6 +12,9 @@ pub fn lines_of(case: &Case<'_>, text: &[u8]) -> Result<Vec<u8>, Fault> {
     let mut line = Vec::new(case.heap);
     let mut shown = Vec::new(case.alloc);
     for _ in 0..10 {
+        if source.failed() {
+            return Err(Fault::Read);
+        }
         let read = read_line(&mut source, &mut line)?;
         let said = format!(in case.alloc; "{read:?} {} ", source.left())?;
         shown.extend_from_slice(said.as_bytes())?;
