@@ -114,6 +114,20 @@ class Backups(RoomCase):
         self.assert_run(WRITE_FAULT, "edit", "-i", "--backup", "x" * 300, "script", "Makefile")
         self.assertEqual(self.names(), there)
 
+    def test_an_older_backup_stays_where_the_file_cannot_be_replaced(self):
+        there = self.names()
+        # the first name that changes is that of the backup
+        what = ("-o", "/dev/null", "-e", "inject=rename:error=EBUSY:when=2")
+        got = self.traced(*what)
+        self.assertEqual((got.stdout, got.status), (b"", WRITE_FAULT.status))
+        self.assertEqual(self.names(), there)
+        self.room.write("Makefile~", b"older\n", mode=0o600)
+        older = self.stat("Makefile~")
+        got = self.traced(*what)
+        self.assertEqual((got.stdout, got.status), (b"", WRITE_FAULT.status))
+        self.assertEqual(self.names(), sorted([*there, "Makefile~"]))
+        self.assertEqual(self.stat("Makefile~").st_ino, older.st_ino)
+
     def test_where_a_file_gets_no_second_name_a_copy_is_kept(self):
         there = self.names()
         self.assertIn("link", self.calls())

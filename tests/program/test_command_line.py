@@ -9,7 +9,7 @@ import subprocess
 
 from tests import TOP
 from tests.lib.checks import SECONDS, Outcome, differences
-from tests.lib.rooms import ANSWERS, EDITED, REFUSED, TEXT, RoomCase, silent
+from tests.lib.rooms import ANSWERS, EDITED, REFUSED, TEXT, WRITE_FAULT, RoomCase, silent
 from tests.lib.tables import OPTIONS
 
 COMMANDS = ("edit", *ANSWERS, "explain")
@@ -47,6 +47,12 @@ class CommandLine(RoomCase):
             commit = r"(?:not recorded|[0-9a-f]{12})"
             self.assertRegex(got.stdout.decode(), rf"^mkedit {re.escape(version)} \(commit {commit}\)\n$")
             self.assert_bad_command_line("edit", word)
+
+    def test_help_and_the_version_that_cannot_be_written_are_a_write_fault(self):
+        for words in (("--help",), ("help",), ("-h",), ("edit", "--help"), ("help", "edit"), ("--version",), ("-V",)):
+            self.assert_run(WRITE_FAULT, *words, closed=(1,))
+            with open("/dev/full", "wb") as full:
+                self.assert_run(WRITE_FAULT, *words, stdout=full)
 
     def test_help_comes_before_what_is_missing(self):
         self.assert_help("edit", "--help", "absent")

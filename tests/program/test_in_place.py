@@ -147,6 +147,22 @@ class InPlace(RoomCase):
         self.assertEqual(oct(found.st_mode & 0o7777), oct(0o664))
         self.assert_holds("Makefile", EDITED.stdout)
 
+    def test_another_group_gets_no_more_than_everybody_had(self):
+        if os.geteuid():
+            self.skipTest("only root may give a file away")
+        self.room.copy_program()
+        os.chmod(self.room.folder, 0o777)
+        for mode, wanted in ((0o664, 0o644), (0o640, 0o600), (0o2775, 0o755), (0o666, 0o666), (0o604, 0o604)):
+            self.room.write("Makefile", TEXT)
+            os.chown(self.room.folder / "Makefile", NOBODY, GROUP)
+            os.chmod(self.room.folder / "Makefile", mode)
+            # (the user nobody is not in GROUP)
+            self.assert_run(silent(0), *WORDS, nobody=True)
+            found = os.stat(self.room.folder / "Makefile")
+            self.assertEqual((found.st_uid, found.st_gid), (NOBODY, NOBODY))
+            self.assertEqual(oct(found.st_mode & 0o7777), oct(wanted), oct(mode))
+            self.assert_holds("Makefile", EDITED.stdout)
+
     def test_the_new_file_is_its_owners_alone_until_it_has_the_mode(self):
         self.need_strace()
         self.addCleanup(os.umask, os.umask(0))
@@ -225,13 +241,23 @@ class InPlace(RoomCase):
             self.assert_run(silent(0), *WORDS, closed=closed)
             self.assert_holds("Makefile", EDITED.stdout)
 
-    def test_a_name_that_is_taken_is_left_alone(self):
-        self.room.write(".mkedit-0.tmp", b"of another run\n")
-        os.symlink("absent", self.room.folder / ".mkedit-1.tmp")
+    def test_names_that_are_taken_beforehand_stop_nothing(self):
+        for number in range(10_000):
+            os.symlink("absent", self.room.folder / f".mkedit-{number}.tmp")
+        there = names(self.room)
         self.assert_run(silent(0), *WORDS)
         self.assert_holds("Makefile", EDITED.stdout)
-        self.assertTrue((self.room.folder / ".mkedit-1.tmp").is_symlink(), "the link was replaced")
-        self.assertFalse((self.room.folder / "absent").exists(), "the link was written to")
+        self.assertEqual(names(self.room), there)
+
+    def test_each_run_takes_a_name_of_its_own(self):
+        self.need_strace()
+        met = set()
+        for _ in range(3):
+            self.assertEqual(injected(self.room, "fsync:signal=KILL:when=1"), silent(-signal.SIGKILL))
+            met |= {it.name for it in self.room.folder.glob(".mkedit-*")}
+        self.assertEqual(len(met), 3)
+        for name in met:
+            self.assertRegex(name, r"^\.mkedit-[0-9a-f]{16}\.tmp$")
 
     def test_without_a_file_or_beside_o_it_is_a_bad_command_line(self):
         for words in (
@@ -263,8 +289,16 @@ class InPlace(RoomCase):
     def test_the_text_is_on_the_disk_before_the_name_changes(self):
         self.need_strace()
         steps = [name for name, _ in calls(self.room) if name in ("write", "fsync", "rename")]
-        self.assertEqual(steps, ["write", "fsync", "rename"])
+        # at last the folder
+        self.assertEqual(steps, ["write", "fsync", "rename", "fsync"])
         self.assert_holds("Makefile", EDITED.stdout)
+
+    def test_a_folder_that_cannot_be_put_on_the_disk_has_the_new_file(self):
+        self.need_strace()
+        there = names(self.room)
+        self.assertEqual(injected(self.room, "fsync:error=EINVAL:when=2"), silent(0))
+        self.assert_holds("Makefile", EDITED.stdout)
+        self.assertEqual(names(self.room), there)
 
     def test_a_call_that_fails_leaves_the_file_whole(self):
         self.need_strace()

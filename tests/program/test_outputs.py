@@ -2,8 +2,10 @@
 
 import os
 import select
+import shutil
+import subprocess
 
-from tests.lib.checks import SECONDS
+from tests.lib.checks import SECONDS, Outcome
 from tests.lib.rooms import (
     EDITED,
     NO_COMMAND,
@@ -52,6 +54,27 @@ class Outputs(RoomCase):
     def test_out_may_be_the_script(self):
         self.assert_run(silent(0), "edit", "-o", "script", "script", "Makefile")
         self.assert_holds("script", EDITED.stdout)
+
+    def traced(self, out, *options):
+        """Runs an edit into OUT under strace."""
+        words = ["strace", "-f", "-qq", *options, self.room.program.path, "edit", "-o", out, "script", "Makefile"]
+        ran = subprocess.run(words, cwd=self.room.folder, capture_output=True, timeout=SECONDS)
+        return Outcome(ran.stdout, ran.stderr, ran.returncode)
+
+    def test_the_text_is_on_the_disk_when_the_run_ends(self):
+        tool = ["strace", "-qq", "-o", "/dev/null", "true"]
+        if not shutil.which("strace") or subprocess.run(tool, capture_output=True).returncode:
+            self.skipTest("there is no strace, or it may not trace")
+        self.assertEqual(self.traced("out", "-o", "calls", "-e", "trace=write,fsync"), silent(0))
+        calls = [line.split("(")[0].split()[-1] for line in (self.room.folder / "calls").read_text().splitlines()]
+        self.assertEqual(calls, ["write", "fsync"])
+        for error in ("ENOSPC", "EIO", "EDQUOT"):
+            got = self.traced("out", "-o", "/dev/null", "-e", f"inject=fsync:error={error}")
+            self.assertEqual((got.stdout, got.status), (b"", WRITE_FAULT.status), error)
+        # a pipe has no disk
+        with reader_of(self.room, "pipe") as pipe:
+            self.assertEqual(self.traced("pipe", "-o", "/dev/null"), silent(0))
+            self.assertEqual(pipe.read(), EDITED.stdout)
 
     def test_a_longer_out_is_emptied_first(self):
         self.room.write("out", b"# an older text, longer than the new one\n" * 1000)

@@ -20,6 +20,8 @@ pub enum Cause {
     OldFile(ErrorKind),
     /// It is no regular file, and had to be one.
     NotRegular,
+    /// It is not the file that was read, or has other bytes.
+    Changed,
     /// It took no byte of a text.
     TookNothing,
 }
@@ -69,6 +71,7 @@ impl fmt::Display for Cause {
             Cause::NewFile(kind) => ("no new file beside it: ", said_by(kind)),
             Cause::OldFile(kind) => ("the old file is not kept: ", said_by(kind)),
             Cause::NotRegular => ("", "is no regular file"),
+            Cause::Changed => ("", "is another file than was read, or has other bytes"),
             Cause::TookNothing => ("", "takes nothing"),
         };
         write!(f, "{part}{said}")

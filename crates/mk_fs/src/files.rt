@@ -3,6 +3,7 @@ ghost use Rattle.std.specs.Prelude.{◌≡◌, IfOk, IfErr};
 
 use crate::fault::{Cause, SystemFault};
 use std::fs::{File, OpenOptions};
+use std::io::ErrorKind;
 use std::{fs, io};
 
 /// A file that cannot be opened, by its name, and why.
@@ -66,6 +67,18 @@ impl<'a> Created<'a> {
         ensures { result.now ≡ self.now.file }
     {
         &self.file
+    }
+
+    /// Waits until the file's bytes are on the disk. A pipe or a device has none to wait for.
+    ///
+    /// # Errors
+    ///
+    /// That of the system, which may tell only now that there is no room.
+    pub fn sync(&self) -> io::Result<()> {
+        match self.file.sync_all() {
+            Err(error) if error.kind() == ErrorKind::InvalidInput => Ok(()),
+            synced => synced,
+        }
     }
 
     // Opens the file with the bytes that it has, or makes it where there is none. It is emptied

@@ -6,19 +6,24 @@
 //!
 //! - `temporary`: the new file, and what becomes of it.
 //! - `comparison`: whether its bytes are those of the makefile.
-ghost use Rattle.std.specs.Prelude.{◌≡◌, ◌||◌, ◌≤◌, None, Some, false, is_err, length, IfOk, IfErr, IfSome, IsSomeAnd, OnErr, OnOk};
+//! - `backup`: the second name under which the old makefile is kept.
+//! - `expected`: whether the makefile is as it was when it was read.
+ghost use Rattle.std.specs.Prelude.{◌≡◌, ◌||◌, ◌≤◌, None, Some, false, is_err, length, IfOk, IfErr, IfSome, IsSomeAnd, OnErr, OnOk, option_map};
 ghost use Rattle.mk_lines.specs.Device.{is_refused};
-ghost use Rattle.mk_fs.specs.Commits.{IsKeptUnder, temporary_of};
+ghost use Rattle.mk_fs.specs.Commits.{IsKeptUnder, IsLookedAt, IsReplaced, temporary_of};
 
+mod backup;
 mod comparison;
+mod expected;
 mod temporary;
 
 use crate::fault::{Cause, SystemFault};
 use crate::with_error::WithError;
 pub use comparison::{SameBytes, same_bytes};
+pub use expected::{AsRead, Expected};
 use mk_lines::{ByteSink, Fault, StdSink};
 pub use temporary::Removed;
-use temporary::{NotCommitted, Persisted, TemporaryFile, Unchanged};
+use temporary::{NotCommitted, Persisted, Synced, TemporaryFile, Unchanged};
 
 // What became of a temporary file that was written to its end.
 #[derive(Drop)]
@@ -29,22 +34,39 @@ enum Committed<'a> {
     Unchanged(Unchanged<'a>),
 }
 
-// Makes the text sure, and puts it into the makefile's place. The old makefile is kept before, where
-// there is a suffix for it. Where one of these fails, the temporary file stays one.
+// Makes the text sure. The old makefile is kept then, where there is a suffix for it. Where one of
+// these fails, the temporary file stays one.
+fn make_sure<'a>(
+    rt: &HostRuntime,
+    temporary: TemporaryFile<'a>,
+    backup: Option<&'a str>,
+) -> Result<Synced<'a>, NotCommitted<'a>>
+    ensures temporary { IfOk result (λ synced. synced.temporary ≡ temporary.entry) }
+    ensures kept { IfOk result (λ synced. option_map (λ kept. kept.suffix) synced.kept ≡ backup.entry) }
+    ensures not_committed { IfErr result (λ not_committed. not_committed.temporary ≡ temporary.entry) }
+{
+    let synced = temporary.sync()?;
+    match backup {
+        Some(suffix) => synced.keep_old(rt, suffix),
+        None => Ok(synced),
+    }
+}
+
+// Makes the text sure, and puts it into the place of the makefile, which has to be as it is expected.
+// The old makefile is kept before, where there is a suffix for it. Where one of these fails, the
+// temporary file stays one.
 fn put_into_place<'a>(
     rt: &HostRuntime,
     temporary: TemporaryFile<'a>,
+    expected: Expected<'_>,
     backup: Option<&'a str>,
 ) -> Result<Persisted<'a>, NotCommitted<'a>>
     ensures persisted { IfOk result (λ persisted. persisted.temporary ≡ temporary.entry) }
     ensures kept { IfOk result (λ persisted. persisted.kept ≡ backup.entry) }
+    ensures looked { IfOk result (λ persisted. IsLookedAt expected.entry persisted.same) }
     ensures temporary { IfErr result (λ not_committed. not_committed.temporary ≡ temporary.entry) }
 {
-    let synced = temporary.sync()?;
-    match backup {
-        Some(suffix) => synced.keep_old(rt, suffix)?.rename(rt),
-        None => synced.rename(rt),
-    }
+    make_sure(rt, temporary, backup)?.look(rt, expected)?.rename(rt)
 }
 
 // Puts the text into the makefile's place, or leaves the makefile alone where that is its text.
@@ -52,15 +74,17 @@ fn put_into_place<'a>(
 fn commit<'a>(
     rt: &HostRuntime,
     temporary: TemporaryFile<'a>,
+    expected: Expected<'_>,
     backup: Option<&'a str>,
 ) -> Result<Committed<'a>, NotCommitted<'a>>
     ensures committed { IfOk result (λ committed. temporary_of committed ≡ temporary.entry) }
     ensures kept { IfOk result (IsKeptUnder backup.entry) }
+    ensures replaced { IfOk result (IsReplaced expected.entry) }
     ensures temporary { IfErr result (λ not_committed. not_committed.temporary ≡ temporary.entry) }
 {
     match temporary.compare(rt) {
         Some(same) => Ok(Committed::Unchanged(temporary.leave(rt, same))),
-        None => Ok(Committed::Persisted(put_into_place(rt, temporary, backup)?)),
+        None => Ok(Committed::Persisted(put_into_place(rt, temporary, expected, backup)?)),
     }
 }
 
@@ -70,9 +94,11 @@ fn commit<'a>(
 /// Without a write or a flush nothing is touched. A fault leaves the makefile as it was.
 ///
 /// Such a sink cannot be dropped: [`InPlaceFile::close`] ends it, so no run leaves a temporary file behind.
-pub struct InPlaceFile<'a> {
+pub struct InPlaceFile<'a, 'r> {
     rt: &'a HostRuntime,
     name: &'a str,
+    // What has to stand under the name when the new text takes it.
+    expected: Expected<'r>,
     // The suffix of the name under which the old makefile is kept, if it is.
     backup: Option<&'a str>,
     temporary: Option<TemporaryFile<'a>>,
@@ -82,11 +108,18 @@ pub struct InPlaceFile<'a> {
     cause: Cause,
 }
 
-impl<'a> InPlaceFile<'a> {
-    /// A sink to the makefile of this name, which has not failed. It makes no file yet. With a
-    /// suffix the old makefile is kept under its name with this suffix at its end.
-    pub fn new(rt: &'a HostRuntime, name: &'a str, backup: Option<&'a str>) -> InPlaceFile<'a>
+impl<'a, 'r> InPlaceFile<'a, 'r> {
+    /// A sink to the makefile of this name, which has not failed. It makes no file yet. The makefile is
+    /// replaced only where it is as it is expected then. With a suffix the old makefile is kept under
+    /// its name with this suffix at its end.
+    pub fn new(
+        rt: &'a HostRuntime,
+        name: &'a str,
+        expected: Expected<'r>,
+        backup: Option<&'a str>,
+    ) -> InPlaceFile<'a, 'r>
         ensures name { result.name.now ≡ name.now }
+        ensures expected { result.expected ≡ expected.entry }
         ensures backup { result.backup ≡ backup.entry }
         ensures closed { result.temporary ≡ None }
         ensures not_committed { result.committed ≡ None }
@@ -95,6 +128,7 @@ impl<'a> InPlaceFile<'a> {
         InPlaceFile {
             rt,
             name,
+            expected,
             backup,
             temporary: None,
             committed: None,
@@ -123,6 +157,7 @@ impl<'a> InPlaceFile<'a> {
         let InPlaceFile {
             rt,
             name: _,
+            expected: _,
             backup: _,
             temporary,
             committed: _,
@@ -144,12 +179,13 @@ impl<'a> InPlaceFile<'a> {
         ensures taken { self.new.temporary ≡ None }
         ensures committed { self.new.committed ≡ self.old.committed }
         ensures name { self.new.name ≡ self.old.name }
+        ensures expected { self.new.expected ≡ self.old.expected }
         ensures backup { self.new.backup ≡ self.old.backup }
     {
         if let Some(temporary) = self.temporary.take() {
             return Ok(temporary);
         }
-        match TemporaryFile::begin(self.rt, self.name) {
+        match TemporaryFile::begin(self.rt, self.name, self.expected) {
             Ok(temporary) => Ok(temporary),
             Err(cause) => {
                 self.is_failed = true;
@@ -160,7 +196,7 @@ impl<'a> InPlaceFile<'a> {
     }
 }
 
-impl ByteSink for InPlaceFile<'_> {
+impl ByteSink for InPlaceFile<'_, '_> {
     ghost failed = { λ out. out.is_failed };
 
     fn write(&mut self, text: &[u8]) -> Result<usize, Fault>
@@ -171,6 +207,7 @@ impl ByteSink for InPlaceFile<'_> {
         ensures fault { IfErr result (λ fault. fault ≡ Fault.Write) }
         ensures failed { self.new.is_failed ≡ (self.old.is_failed || is_refused result text.now) }
         ensures name { self.new.name ≡ self.old.name }
+        ensures expected { self.new.expected ≡ self.old.expected }
         ensures backup { self.new.backup ≡ self.old.backup }
     {
         let temporary = self.take_temporary()?;
@@ -192,14 +229,17 @@ impl ByteSink for InPlaceFile<'_> {
         ensures committed { OnOk result (IfSome self.old.temporary (λ temporary. IsSomeAnd self.new.committed (λ committed. temporary_of committed ≡ temporary))) }
         ensures begun { self.old.temporary ≡ None → OnOk result (IsSomeAnd self.new.committed (λ committed. (temporary_of committed).name.now ≡ self.old.name.now)) }
         ensures kept { OnOk result (IsSomeAnd self.new.committed (IsKeptUnder self.old.backup)) }
+        ensures replaced { OnOk result (IsSomeAnd self.new.committed (IsReplaced self.old.expected)) }
         ensures not_committed { OnErr result (self.new.committed ≡ self.old.committed) }
         ensures temporary { OnErr result (IfSome self.old.temporary (λ temporary. self.new.temporary ≡ Some temporary)) }
         ensures fault { IfErr result (λ fault. fault ≡ Fault.Write) }
         ensures failed { self.new.is_failed ≡ (self.old.is_failed || is_err result) }
         ensures name { self.new.name ≡ self.old.name }
+        ensures expected { self.new.expected ≡ self.old.expected }
         ensures backup { self.new.backup ≡ self.old.backup }
     {
-        let committed = match commit(self.rt, self.take_temporary()?, self.backup) {
+        let temporary = self.take_temporary()?;
+        let committed = match commit(self.rt, temporary, self.expected, self.backup) {
             Ok(committed) => committed,
             Err(not_committed) => {
                 self.temporary = Some(not_committed.temporary);

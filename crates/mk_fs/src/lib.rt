@@ -15,6 +15,6 @@ pub mod with_error;
 
 pub use fault::{Cause, STANDARD_INPUT, STANDARD_OUTPUT, SystemFault};
 pub use files::{CannotOpen, Created, create, is_regular, open};
-pub use in_place::{InPlaceFile, Removed, SameBytes, same_bytes};
+pub use in_place::{AsRead, Expected, InPlaceFile, Removed, SameBytes, same_bytes};
 pub use out_file::OutFile;
 pub use with_error::WithError;

@@ -10,7 +10,8 @@ use mk_lines::{ByteSink, Fault, StdSink};
 /// A sink to the file of this name, which is opened and emptied at the first write or flush.
 ///
 /// So a file to which nothing goes out stays as it was, and the file may be one that was read
-/// before. One that cannot be opened is a fault of that write or flush, as a full disk is.
+/// before. One that cannot be opened is a fault of that write or flush, as a full disk is. A flush
+/// waits until the bytes are on the disk.
 #[derive(Drop)]
 pub struct OutFile<'a> {
     rt: &'a HostRuntime,
@@ -103,12 +104,16 @@ impl ByteSink for OutFile<'_> {
         ensures name { self.new.name ≡ self.old.name }
     {
         let file = self.take_file()?;
-        let mut device = WithError::new(file.file());
-        let answer = StdSink::new(&mut device).flush();
-        self.cause = device.cause();
+        let synced = file.sync();
         self.file = Some(file);
-        self.is_failed = self.is_failed || answer.is_err();
-        answer
+        self.is_failed = self.is_failed || synced.is_err();
+        match synced {
+            Ok(()) => Ok(()),
+            Err(error) => {
+                self.cause = Cause::from(error);
+                Err(Fault::Write)
+            }
+        }
     }
 
     fn failed(&self) -> bool {

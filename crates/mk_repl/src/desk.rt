@@ -1,5 +1,5 @@
 //! A makefile that is open, and what it answers to requests.
-ghost use Rattle.std.specs.Prelude.{◌≡◌, IfOk, IsSomeAnd, OnErr, OnOk, is_ok, option_and_then};
+ghost use Rattle.std.specs.Prelude.{◌≡◌, IfOk, IsSomeAnd, OnErr, OnOk, Some, is_ok, option_and_then};
 ghost use Rattle.mk_repl.specs.AnswerLines.{lines_between};
 ghost use Rattle.mk_repl.specs.Replies.{IsLineObeyed};
 ghost use Rattle.mk_repl.specs.Requests.{Of, Word, asked_of};
@@ -22,6 +22,7 @@ use crate::{
 };
 use mk_cli::{Form, Query, SessionWords, command_called, put_explanation, put_help, refusal_of};
 use mk_diff::{diff, patch_name};
+use mk_fs::{AsRead, Expected};
 use mk_json as json;
 use mk_lines::Fault;
 use mk_lookup::get;
@@ -310,6 +311,46 @@ impl<'a> Desk<'a> {
         }
     }
 
+    // Puts the text into the makefile's place, and answers it.
+    fn put_text(&self) -> Result<Vec<u8>, NotDone>
+        ensures { IfOk result (λ text. text.items ≡ self.now.session.shown.text) }
+    {
+        let (rt, name, text) = (self.rt, self.opened.name, self.text()?);
+        if self.is_missing {
+            put_or_make(rt, name, text.as_slice())?;
+        } else {
+            put(rt, name, Expected::AnyFile, text.as_slice())?;
+        }
+        Ok(text)
+    }
+
+    // The same, if the makefile is as it was left.
+    fn put_if_left(&self) -> Result<Vec<u8>, NotDone>
+        ensures { IfOk result (λ text. text.items ≡ self.now.session.shown.text) }
+    {
+        let (rt, name, text) = (self.rt, self.opened.name, self.text()?);
+        if self.is_missing {
+            look_missing(rt, name)?;
+            put(rt, name, Expected::Nothing, text.as_slice())?;
+            return Ok(text);
+        }
+        let left = self.left();
+        let file = &look(rt, name, left)?;
+        let expected = Expected::AsRead(AsRead { file, text: left });
+        put(rt, name, expected, text.as_slice())?;
+        Ok(text)
+    }
+
+    // Takes note of the text that the makefile has now.
+    fn note_written(&mut self, text: Vec<u8>)
+        ensures session { self.new.session ≡ self.old.session }
+        ensures opened { self.new.opened ≡ self.old.opened }
+        ensures written { self.new.written ≡ Some text }
+    {
+        self.is_missing = false;
+        self.written = Some(text);
+    }
+
     // Puts the text into the makefile's place.
     fn write_text(&mut self) -> Result<(), NotDone>
         ensures session { self.new.session ≡ self.old.session }
@@ -318,14 +359,8 @@ impl<'a> Desk<'a> {
             (λ text. text.items ≡ self.old.session.shown.text)) }
         ensures unwritten { OnErr result (self.new.written ≡ self.old.written) }
     {
-        let text = self.text()?;
-        if self.is_missing {
-            put_or_make(self.rt, self.opened.name, text.as_slice())?;
-        } else {
-            put(self.rt, self.opened.name, text.as_slice())?;
-        }
-        self.is_missing = false;
-        self.written = Some(text);
+        let text = self.put_text()?;
+        self.note_written(text);
         Ok(())
     }
 
@@ -337,12 +372,9 @@ impl<'a> Desk<'a> {
             (λ text. text.items ≡ self.old.session.shown.text)) }
         ensures unwritten { OnErr result (self.new.written ≡ self.old.written) }
     {
-        if self.is_missing {
-            look_missing(self.rt, self.opened.name)?;
-        } else {
-            look(self.rt, self.opened.name, self.left())?;
-        }
-        self.write_text()
+        let text = self.put_if_left()?;
+        self.note_written(text);
+        Ok(())
     }
 
     // Puts the text into a file of this name. The makefile's own name is `write`.

@@ -6,13 +6,14 @@ use Rattle.mk_cli.specs.declared.request.Input.TheVariants as input
 use Rattle.mk_cli.specs.declared.request.Output.{Output}
 use Rattle.mk_cli.specs.declared.request.Output.TheVariants as output
 use Rattle.mkedit.specs.declared.destination.Destination.{Destination}
-use Rattle.mkedit.specs.declared.destination.Destination.TheVariants.{Standard, File, InPlace}
+use Rattle.mkedit.specs.declared.destination.Destination.TheVariants.{InPlace, Printed}
+use Rattle.mkedit.specs.declared.destination.Printed.TheVariants.{Standard, File}
 
 abbrev pub destination_of : Output → Input → Destination
-destination_of output.Standard file = Standard
-destination_of (output.File name) file = File name
+destination_of output.Standard file = Printed Standard
+destination_of (output.File name) file = Printed (File name)
 destination_of (output.InPlace backup) (input.File name) = InPlace name backup.0
-destination_of (output.InPlace backup) input.Standard = Standard
+destination_of (output.InPlace backup) input.Standard = Printed Standard
 
 -- what a file is called in notes
 abbrev pub input_name : Input → List ℕ

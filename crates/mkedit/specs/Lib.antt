@@ -1,5 +1,6 @@
 -- # Vocabulary of private contracts
 -- What the program prints.
 pub mod Destinations
+pub mod EndMessages
 pub mod NamedLines
 pub mod DiffRuns

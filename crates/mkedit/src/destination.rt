@@ -6,13 +6,20 @@ use mk_cli::{Backup, EditWords, Input, Output, Script};
 use mk_fs::STANDARD_INPUT;
 use mk_notes::{COMMAND_LINES, Names};
 
+/// Where a text, or a diff in its place, is printed.
+#[derive(Clone, Copy)]
+pub enum Printed<'a> {
+    /// On standard output.
+    Standard,
+    /// In the file of this name, which is written in place of what it has.
+    File(&'a str),
+}
+
 /// Where the text of a makefile goes.
 #[derive(Clone, Copy)]
 pub enum Destination<'a> {
-    /// To standard output.
-    Standard,
-    /// To the file of this name, which is written in place of what it has.
-    File(&'a str),
+    /// It is printed.
+    Printed(Printed<'a>),
     /// Into the place of the makefile of this name. The suffix is that of the old one's second name, if
     /// it is kept.
     InPlace(&'a str, Option<&'a str>),
@@ -24,10 +31,10 @@ pub fn destination_of<'a>(output: Output<'a>, file: Input<'a>) -> Destination<'a
     ensures { result ≡ destination_of output.entry file.entry }
 {
     match (output, file) {
-        (Output::Standard, _) => Destination::Standard,
-        (Output::File(name), _) => Destination::File(name),
+        (Output::Standard, _) => Destination::Printed(Printed::Standard),
+        (Output::File(name), _) => Destination::Printed(Printed::File(name)),
         (Output::InPlace(Backup(suffix)), Input::File(name)) => Destination::InPlace(name, suffix),
-        (Output::InPlace(_), Input::Standard) => Destination::Standard,
+        (Output::InPlace(_), Input::Standard) => Destination::Printed(Printed::Standard),
     }
 }
 

@@ -3,18 +3,21 @@ ghost use Rattle.std.specs.Prelude.{◌≡◌, ◌||◌, false};
 ghost use Rattle.mk_run.specs.RunEnds.{IsRunOver, TellsFaults, written};
 
 use crate::color::has_color;
-use crate::destination::{Destination, destination_of, names_of};
+use crate::destination::{Destination, Printed, destination_of, names_of};
 use crate::diff::{DiffForm, diff_name, run_diff};
 use crate::ending::{End, finished};
 use crate::exchanged::with_exchanged;
+use crate::in_place::run_in_place;
 use crate::kept::{Kept, mistake_in};
 use crate::several::edit_each;
 use mk_cli::{EditWords, Input, Script};
-use mk_fs::{CannotOpen, InPlaceFile, OutFile, STANDARD_INPUT, STANDARD_OUTPUT, WithError, open};
+use mk_fs::{CannotOpen, OutFile, STANDARD_INPUT, STANDARD_OUTPUT, WithError, open};
+use mk_history::history::is_bad_depth;
 use mk_lines::{ByteSink, ByteSource, StdSink, StdSource};
 use mk_notes::{COMMAND_LINES, NotesBelow};
-use mk_run::{Outcome, Witness, run};
+use mk_run::{Outcome, Witness, read_script, run};
 use std::alloc::{Allocator, Global};
+use std::fs::File;
 use std::io::{IsTerminal, Read, Stderr};
 use std::mem;
 use std::process::ExitCode;
@@ -125,32 +128,26 @@ pub(crate) fn form_of<'a>(
     })
 }
 
-// Runs the script over the makefile, with the text or the diff to where the words say.
+// Runs the script over the makefile, and prints the text or the diff.
 fn run_over<'a, R: ByteSource, S: ByteSource>(
     rt: &'a HostRuntime,
     words: &EditWords<'a>,
     file: Input<'a>,
+    to: Printed<'a>,
     makefile: &mut R,
     script: &mut S,
 ) -> End<'a>
     requires makefile_works { R.failed makefile.old ≡ false }
     requires script_works { S.failed script.old ≡ false }
 {
-    match destination_of(words.output, file) {
-        Destination::File(name) => {
+    match to {
+        Printed::File(name) => {
             let mut out = OutFile::new(rt, name);
             let form = form_of(rt, words, file, false);
             let outcome = print_to(rt, words, form, file, makefile, script, &mut out);
             End::of(outcome).with_fault(out.fault())
         }
-        Destination::InPlace(name, backup) => {
-            let mut out = InPlaceFile::new(rt, name, backup);
-            let outcome = print_to(rt, words, None, file, makefile, script, &mut out);
-            let end = End::of(outcome).with_fault(out.fault());
-            out.close();
-            end
-        }
-        Destination::Standard => {
+        Printed::Standard => {
             let form = form_of(rt, words, file, rt.stdout().is_terminal());
             let mut device = WithError::new(rt.stdout());
             let mut out = StdSink::new(&mut device);
@@ -160,11 +157,12 @@ fn run_over<'a, R: ByteSource, S: ByteSource>(
     }
 }
 
-// Runs the script over a makefile that is called by this name.
+// The same, of a makefile that is called by this name.
 fn run_named<'a, R: Read + Drop, S: ByteSource>(
     rt: &'a HostRuntime,
     words: &EditWords<'a>,
     file: Input<'a>,
+    to: Printed<'a>,
     name: &'a str,
     makefile: R,
     script: &mut S,
@@ -172,8 +170,33 @@ fn run_named<'a, R: Read + Drop, S: ByteSource>(
     requires script_works { S.failed script.old ≡ false }
 {
     let mut makefile = WithError::new(makefile);
-    let end = run_over(rt, words, file, &mut StdSource::new(&mut makefile), script);
+    let end = run_over(rt, words, file, to, &mut StdSource::new(&mut makefile), script);
     end.with_fault(makefile.fault(name))
+}
+
+// Reads the script to its end, and runs it over a makefile that is open, into whose place the text
+// goes.
+fn replace<'a, S: ByteSource>(
+    rt: &'a HostRuntime,
+    words: &EditWords<'a>,
+    file: Input<'a>,
+    name: &'a str,
+    backup: Option<&'a str>,
+    makefile: &File,
+    script: &mut S,
+) -> End<'a>
+    requires script_works { S.failed script.old ≡ false }
+{
+    if is_bad_depth(words.depth) {
+        return End::of(Outcome::BadDepth);
+    }
+    let steps = match read_script(rt.alloc(), script) {
+        Ok(steps) => steps,
+        Err(outcome) => return End::of(outcome),
+    };
+    let report = &mut StdSink::new(rt.stderr());
+    let witness = &mut notes_below(rt, words, file);
+    run_in_place(rt, words, steps.as_slice(), name, backup, makefile, report, witness)
 }
 
 // Opens the makefile, and runs the script over it.
@@ -185,9 +208,16 @@ fn run_by<'a, S: ByteSource>(
 ) -> Result<End<'a>, CannotOpen<'a>>
     requires script_works { S.failed script.old ≡ false }
 {
+    let to = match destination_of(words.output, file) {
+        Destination::Printed(to) => to,
+        Destination::InPlace(name, backup) => {
+            let makefile = open(rt, name)?;
+            return Ok(replace(rt, words, file, name, backup, &makefile, script));
+        }
+    };
     match file {
-        Input::File(name) => Ok(run_named(rt, words, file, name, open(rt, name)?, script)),
-        Input::Standard => Ok(run_named(rt, words, file, STANDARD_INPUT, rt.stdin(), script)),
+        Input::File(name) => Ok(run_named(rt, words, file, to, name, open(rt, name)?, script)),
+        Input::Standard => Ok(run_named(rt, words, file, to, STANDARD_INPUT, rt.stdin(), script)),
     }
 }
 

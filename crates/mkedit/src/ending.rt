@@ -1,14 +1,15 @@
 //! How the program ends: a message on standard error, and the status.
-ghost use Rattle.std.specs.Prelude.{◌≡◌, ◌≢◌, ◌++◌, [], IfErr, OnOk, false, max, string_bytes};
+ghost use Rattle.std.specs.Prelude.{◌≡◌, ◌≢◌, ◌++◌, [], IfErr, OnOk, false, max, option_map, string_bytes};
 ghost use Rattle.std.specs.Io.KnownBytes.{Appends};
 ghost use Rattle.std.specs.Process.{exit_status};
 ghost use Rattle.clap.specs.Values.{kind_of};
 ghost use Rattle.clap.specs.declared.error.kind.ErrorKind.TheVariants.{DisplayHelp, DisplayVersion};
 ghost use Rattle.mk_lines.specs.Device.{AppendsPrefix, Writes};
-ghost use Rattle.mk_run.specs.Outcome.{message_of, outcome_of, status_of};
+ghost use Rattle.mk_run.specs.Outcome.{outcome_of, status_of};
+ghost use Rattle.mkedit.specs.EndMessages.{changed_name, end_message};
 
-use mk_fs::{CannotOpen, SystemFault};
-use mk_lines::sink::write_all;
+use mk_fs::{CannotOpen, Cause, SystemFault};
+use mk_lines::sink::{write_all, write_parts};
 use mk_lines::{ByteSink, Fault, StdSink};
 use mk_notes::{ScriptMistake, push_mistake};
 use mk_run::{Outcome, message, status};
@@ -72,6 +73,21 @@ impl<'a> End<'a> {
         End { mistake, ..self }
     }
 
+    // The name of the makefile, if the run ended since it has changed meanwhile.
+    fn changed(&self) -> Option<&'a str>
+        ensures { option_map (λ name. name.now) result ≡ changed_name self.now.fault }
+    {
+        match self.fault {
+            Some(
+                SystemFault {
+                    name,
+                    cause: Cause::Changed,
+                },
+            ) => Some(name),
+            _ => None,
+        }
+    }
+
     // The notes on its fault and on its mistake.
     fn notes(&self, alloc: Global) -> Result<String, AllocError> {
         let mut notes = String::new(alloc);
@@ -98,28 +114,46 @@ pub fn notes_on(alloc: Global, end: &End<'_>, notes: bool) -> String
     }
 }
 
-// Writes the message on an outcome, and some notes below it.
-fn tell<W: ByteSink>(outcome: &Outcome, notes: &[u8], errors: &mut W) -> Result<(), Fault>
+/// Writes the message on an end: that on its outcome, unless the makefile has changed meanwhile.
+///
+/// # Errors
+///
+/// [`Fault::Write`] if the sink failed. A prefix of the message is out then.
+pub fn put_message<W: ByteSink>(end: &End<'_>, out: &mut W) -> Result<(), Fault>
+    requires { W.failed out.old ≡ false }
+    ensures { Writes W.contents W.failed W.flushes out.old out.new result (end_message end.now) }
+{
+    match end.changed() {
+        Some(name) => write_parts(
+            out,
+            &[b"mkedit: ", name.as_bytes(), b" has changed meanwhile\n"],
+        ),
+        None => message(&end.outcome, out),
+    }
+}
+
+// Writes the message on an end, and some notes below it.
+fn tell<W: ByteSink>(end: &End<'_>, notes: &[u8], errors: &mut W) -> Result<(), Fault>
     requires { W.failed errors.old ≡ false }
     ensures { Writes W.contents W.failed W.flushes errors.old errors.new result
-        (message_of outcome.now ++ notes.now) }
+        (end_message end.now ++ notes.now) }
 {
-    message(outcome, errors)?;
+    put_message(end, errors)?;
     write_all(errors, notes)
 }
 
-// Puts the message on an outcome out, and some notes below it, and answers the outcome's status. A fault
-// of the message changes no status.
-fn told<W: ByteSink>(outcome: &Outcome, notes: &[u8], errors: &mut W) -> ExitCode
+// Puts the message on an end out, and some notes below it, and answers the outcome's status. A fault of
+// the message changes no status.
+fn told<W: ByteSink>(end: &End<'_>, notes: &[u8], errors: &mut W) -> ExitCode
     requires { W.failed errors.old ≡ false }
-    ensures status { exit_status result ≡ status_of outcome.now }
+    ensures status { exit_status result ≡ status_of end.now.outcome }
     ensures message { W.failed errors.new ≡ false → Appends (W.contents errors.old)
-        (W.contents errors.new) (message_of outcome.now ++ notes.now) }
+        (W.contents errors.new) (end_message end.now ++ notes.now) }
     ensures prefix { AppendsPrefix (W.contents errors.old) (W.contents errors.new)
-        (message_of outcome.now ++ notes.now) }
+        (end_message end.now ++ notes.now) }
 {
-    let _ = tell(outcome, notes, errors);
-    ExitCode::from(status(outcome))
+    let _ = tell(end, notes, errors);
+    ExitCode::from(status(&end.outcome))
 }
 
 /// Puts the message on an end out on standard error, with the notes on its fault and on its mistake
@@ -129,7 +163,7 @@ pub fn ended(rt: &HostRuntime, end: &End<'_>, notes: bool) -> ExitCode
 {
     let below = notes_on(rt.alloc(), end, notes);
     let mut errors = StdSink::new(rt.stderr());
-    told(&end.outcome, below.as_bytes(), &mut errors)
+    told(end, below.as_bytes(), &mut errors)
 }
 
 /// Says that a file cannot be opened, and why where there are notes.
@@ -189,19 +223,33 @@ impl Statuses {
     }
 }
 
+/// Says how a print on standard output ended, and answers its status.
+pub fn printed(rt: &HostRuntime, print: Result<(), Fault>) -> ExitCode
+    ensures done { OnOk print (exit_status result ≡ 0) }
+    ensures fault { IfErr print (λ fault. exit_status result ≡ status_of (outcome_of fault)) }
+{
+    ended(rt, &End::of_print(print), false)
+}
+
+// Writes the text of what clap answered, and flushes it once.
+fn put_answer<W: ByteSink>(alloc: Global, answer: &clap::Error, out: &mut W) -> Result<(), Fault>
+    requires { W.failed out.old ≡ false }
+    ensures works { OnOk result (W.failed out.new ≡ false) }
+{
+    let text = format!(in alloc; "{answer}")?;
+    write_all(out, text.as_bytes())?;
+    out.flush()
+}
+
 /// Puts the text of what clap answered out, and answers its status. Help or the version, which was
-/// asked for, goes to standard output with status 0, and a fault of the command line to standard
-/// error.
-pub fn answered(rt: &HostRuntime, error: &clap::Error) -> ExitCode
-    ensures help { kind_of error.now ≡ DisplayHelp → exit_status result ≡ 0 }
-    ensures version { kind_of error.now ≡ DisplayVersion → exit_status result ≡ 0 }
-    ensures fault { kind_of error.now ≢ DisplayHelp → kind_of error.now ≢ DisplayVersion →
+/// asked for, goes to standard output, and a fault of the command line to standard error.
+pub fn answered(rt: &HostRuntime, answer: &clap::Error) -> ExitCode
+    ensures { kind_of answer.now ≢ DisplayHelp → kind_of answer.now ≢ DisplayVersion →
         exit_status result ≡ BAD_COMMAND_LINE }
 {
-    let _ = error.print(rt);
-    if error.use_stderr() {
-        ExitCode::from(BAD_COMMAND_LINE)
-    } else {
-        ExitCode::SUCCESS
+    if answer.use_stderr() {
+        let _ = answer.print(rt);
+        return ExitCode::from(BAD_COMMAND_LINE);
     }
+    printed(rt, put_answer(rt.alloc(), answer, &mut StdSink::new(rt.stdout())))
 }

@@ -4,6 +4,7 @@
 //! - `edit`: a script over a makefile, by [`mk_run::run`].
 //! - `diff`: the diff of a makefile and its text, in place of that text, by [`mk_diff`].
 //! - `color`: when that diff has colours.
+//! - `in_place`: a makefile that its text replaces.
 //! - `several`: a script over several makefiles, by [`mk_run::run_steps`].
 //! - `destination`: where the text of a makefile goes, and what files are called.
 //! - `query`: what a makefile has, by [`mk_repl::found_for`].
@@ -21,15 +22,16 @@ mod diff;
 mod edit;
 mod ending;
 mod exchanged;
+mod in_place;
 mod kept;
 mod named;
 mod query;
 mod session;
 mod several;
 
-use ending::{BAD_COMMAND_LINE, End, answered, ended};
+use ending::{BAD_COMMAND_LINE, End, answered, ended, printed};
 use mk_cli::{CalledRefusal, Request, asked_command, put_explanation, put_help, read_request};
-use mk_lines::{Fault, StdSink};
+use mk_lines::StdSink;
 use mk_repl::Inquiry;
 use mk_run::Outcome;
 use std::io::{ErrorKind, IsTerminal};
@@ -59,11 +61,6 @@ fn has_notes(rt: &HostRuntime, asked: bool) -> bool
     ensures { asked ≡ true → result ≡ true }
 {
     asked || rt.stderr().is_terminal()
-}
-
-// Says how a print on standard output ended, and answers its status.
-fn printed(rt: &HostRuntime, print: Result<(), Fault>) -> ExitCode {
-    ended(rt, &End::of_print(print), false)
 }
 
 // Does what the command line asks for.

@@ -10,24 +10,27 @@ ghost use Rattle.mk_run.specs.RunEnds.{IsRunOver, TellsFaults, written};
 ghost use Rattle.mk_run.specs.RunSteps.{GivesSteps};
 ghost use Rattle.mkedit.specs.NamedLines.{named_lines};
 
-use crate::destination::{Destination, destination_of, name_of, names_of};
+use crate::destination::{Destination, Printed, destination_of, name_of, names_of};
 use crate::diff::{DiffForm, run_steps_diff};
 use crate::edit::form_of;
-use crate::ending::{CANNOT_OPEN, End, Statuses, ended, not_opened, notes_on, tell_not_opened};
+use crate::ending::{
+    CANNOT_OPEN, End, Statuses, ended, not_opened, notes_on, put_message, tell_not_opened,
+};
 use crate::exchanged::with_exchanged;
+use crate::in_place::run_in_place;
 use crate::kept::Kept;
 use crate::named::named_lines;
 use mk_cli::{EditWords, Input, Output, Progress, Script};
 use mk_fs::{
-    CannotOpen, Cause, InPlaceFile, OutFile, STANDARD_INPUT, STANDARD_OUTPUT, SystemFault,
-    WithError, open,
+    CannotOpen, Cause, OutFile, STANDARD_INPUT, STANDARD_OUTPUT, SystemFault, WithError, open,
 };
 use mk_history::history::is_bad_depth;
 use mk_lines::sink::write_all;
 use mk_lines::{ByteSink, ByteSource, Fault, StdSink, StdSource};
 use mk_notes::{COMMAND_LINES, NotesKept};
-use mk_run::{Outcome, Step, Witness, message, read_script, run_steps, status};
+use mk_run::{Outcome, Step, Witness, read_script, run_steps, status};
 use std::alloc::{Allocator, Global};
+use std::fs::File;
 use std::io::{ErrorKind, IsTerminal, Read};
 use std::mem;
 use std::process::ExitCode;
@@ -179,20 +182,20 @@ fn run_kept<R: ByteSource, W: ByteSink>(
     kept_outcome(outcome, lines.failed())
 }
 
-// Puts the message on an outcome behind a report.
-fn keep_message(outcome: Outcome, report: &mut Vec<u8>) -> Outcome {
+// Puts the message on an end behind a report.
+fn keep_message(end: &End<'_>, report: &mut Vec<u8>) -> Outcome {
     let mut lines = StdSink::new(report);
-    let _ = message(&outcome, &mut lines);
-    kept_outcome(outcome, lines.failed())
+    let _ = put_message(end, &mut lines);
+    kept_outcome(end.outcome, lines.failed())
 }
 
-// Runs steps over a makefile, with the text or the diff to where the words say, and the report into
-// memory.
+// Runs steps over a makefile, and prints the text or the diff. The report goes into memory.
 fn run_over<'a, R: ByteSource>(
     rt: &'a HostRuntime,
     words: &EditWords<'a>,
     steps: &[Step<Global>],
     file: Input<'a>,
+    to: Printed<'a>,
     makefile: &mut R,
     report: &mut Vec<u8>,
     witness: &mut Option<NotesKept<'a, Global>>,
@@ -201,8 +204,8 @@ fn run_over<'a, R: ByteSource>(
     requires depth { IsBadDepth words.now.depth → ⊥ }
 {
     let alloc = rt.alloc();
-    match destination_of(words.output, file) {
-        Destination::File(name) => {
+    match to {
+        Printed::File(name) => {
             let mut out = OutFile::new(rt, name);
             let form = form_of(rt, words, file, false);
             let outcome = run_kept(
@@ -210,16 +213,7 @@ fn run_over<'a, R: ByteSource>(
             );
             End::of(outcome).with_fault(out.fault())
         }
-        Destination::InPlace(name, backup) => {
-            let mut out = InPlaceFile::new(rt, name, backup);
-            let outcome = run_kept(
-                alloc, words, None, steps, makefile, &mut out, report, witness,
-            );
-            let end = End::of(outcome).with_fault(out.fault());
-            out.close();
-            end
-        }
-        Destination::Standard => {
+        Printed::Standard => {
             let form = form_of(rt, words, file, rt.stdout().is_terminal());
             let mut device = WithError::new(rt.stdout());
             let mut out = StdSink::new(&mut device);
@@ -231,12 +225,13 @@ fn run_over<'a, R: ByteSource>(
     }
 }
 
-// Runs steps over a makefile that is called by this name in notes.
+// The same, of a makefile that is called by this name in notes.
 fn run_noted<'a, R: Read + Drop>(
     rt: &'a HostRuntime,
     words: &EditWords<'a>,
     steps: &[Step<Global>],
     file: Input<'a>,
+    to: Printed<'a>,
     name: &'a str,
     makefile: R,
     report: &mut Vec<u8>,
@@ -250,11 +245,35 @@ fn run_noted<'a, R: Read + Drop>(
         words,
         steps,
         file,
+        to,
         &mut StdSource::new(&mut makefile),
         report,
         witness,
     );
     end.with_fault(makefile.fault(name))
+}
+
+// Runs steps over a makefile that is open, into whose place the text goes. The report goes into memory.
+fn replace<'a>(
+    rt: &'a HostRuntime,
+    words: &EditWords<'a>,
+    steps: &[Step<Global>],
+    name: &'a str,
+    backup: Option<&'a str>,
+    makefile: &File,
+    report: &mut Vec<u8>,
+    witness: &mut Option<NotesKept<'a, Global>>,
+) -> End<'a>
+    requires { IsBadDepth words.now.depth → ⊥ }
+{
+    let mut lines = StdSink::new(report);
+    let end = run_in_place(
+        rt, words, steps, name, backup, makefile, &mut lines, witness,
+    );
+    End {
+        outcome: kept_outcome(end.outcome, lines.failed()),
+        ..end
+    }
 }
 
 // Opens a makefile, and runs steps over it.
@@ -268,15 +287,22 @@ fn run_by<'a>(
 ) -> Result<End<'a>, CannotOpen<'a>>
     requires { IsBadDepth words.now.depth → ⊥ }
 {
+    let to = match destination_of(words.output, file) {
+        Destination::Printed(to) => to,
+        Destination::InPlace(name, backup) => {
+            let makefile = open(rt, name)?;
+            return Ok(replace(rt, words, steps, name, backup, &makefile, report, witness));
+        }
+    };
     match file {
         Input::File(name) => {
             let makefile = open(rt, name)?;
-            Ok(run_noted(rt, words, steps, file, name, makefile, report, witness))
+            Ok(run_noted(rt, words, steps, file, to, name, makefile, report, witness))
         }
         Input::Standard => {
             let name = STANDARD_INPUT;
             let makefile = rt.stdin();
-            Ok(run_noted(rt, words, steps, file, name, makefile, report, witness))
+            Ok(run_noted(rt, words, steps, file, to, name, makefile, report, witness))
         }
     }
 }
@@ -293,7 +319,7 @@ pub fn tell_named(
     end: &End<'_>,
     notes: bool,
 ) -> u8 {
-    let outcome = keep_message(end.outcome, report);
+    let outcome = keep_message(end, report);
     let notes = notes_on(rt.alloc(), end, notes);
     if !report.is_empty() || !notes.is_empty() {
         progress.wipe();
