@@ -20,7 +20,7 @@ CALLS = (
     "mk_queries::check",
     "mk_edit::plan",
     "mk_session::Session::apply",
-    "mk_session::Session::obey",
+    "mk_session::Session::execute",
     "mk_run::run",
     "mk_run::runs_keep_every_byte",
 )

@@ -26,14 +26,14 @@ IMPORTS = [
     ("Rattle.std.specs.Fmt", ["digits"]),
     *SCRIPT_IMPORTS,
     ("Rattle.mk_history.specs.Shown", ["shown_opened"]),
-    ("Rattle.mk_run.specs.ObeyedSteps", ["obeyed_steps"]),
+    ("Rattle.mk_run.specs.ExecutedSteps", ["executed_steps"]),
     ("Rattle.mk_run.specs.Runs", ["RunResult", "result_after"]),
     ("Rattle.mk_run.specs.declared.outcome.Outcome", ["Outcome"]),
     ("Rattle.mk_run.specs.declared.outcome.Outcome.TheVariants", ["Done", "Refused"]),
 ]
 HELPERS = """
 abbrev came_to : (keep_going : Bool) → (depth : ℕ) → (makefile : List ℕ) → List Step → RunResult
-came_to k depth text steps = result_after k (obeyed_steps k steps (shown_opened depth text))
+came_to k depth text steps = result_after k (executed_steps k steps (shown_opened depth text))
 
 abbrev ends : Outcome → (report : List ℕ) → (output : Option (List ℕ)) → RunResult
 ends outcome report output = record { outcome = outcome; report = report; output = output }

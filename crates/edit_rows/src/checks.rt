@@ -70,7 +70,7 @@ fn check_command<'h>(
     expectation: &Expectation<'_, 'h>,
 ) -> Result<(), Stop> {
     let before = text_of(alloc, session.doc())?;
-    let answer = session.obey(&expectation.command);
+    let answer = session.execute(&expectation.command);
     check_reply(alloc, "the reply", expectation.reply, answer)?;
     if answer.is_err() {
         check_text(alloc, "the text after a refusal", &before, session)?;

@@ -48,7 +48,7 @@ fn check_commands<'h>(
 ) -> Result<(), Stop> {
     for expectation in row.commands.iter() {
         let size = session.doc().size();
-        let answer = session.obey(&expectation.command);
+        let answer = session.execute(&expectation.command);
         if answer == Err(Refusal::NoMemory) && heap.has_refused() {
             let what = "a command without memory leaves the size of the text";
             holds(alloc, what, session.doc().size() == size)?;
@@ -67,7 +67,7 @@ fn check_again<'h>(
     session: &mut Session<&'h Heap>,
     expectation: &Expectation<'_, 'h>,
 ) -> Result<(), Stop> {
-    let answer = session.obey(&expectation.command);
+    let answer = session.execute(&expectation.command);
     check_reply(alloc, "the reply once more", expectation.reply, answer)
 }
 

@@ -3,7 +3,7 @@
 //!
 //! - [`refusal_notes`]: the notes on a refusal.
 //! - [`edit_notes`]: the notes on an edit that was made.
-//! - [`NotesBelow`], [`NotesKept`]: the witnesses of a run that write both, or keep them.
+//! - [`NotesBelow`], [`NotesKept`]: the observers of a run that write both, or keep them.
 //! - [`script_mistake`], [`push_mistake`]: the note on a line of a script that is no command.
 //!
 //! A note is a line of text: the name of a file, mostly the number of a line in it, and what is said of
@@ -17,7 +17,7 @@
 //! - `address`: the lines that an edit means.
 //! - `refused`: the notes on a refusal.
 //! - `made`: the notes on an edit that was made.
-//! - `witness`: the witnesses of a run.
+//! - `observer`: the observers of a run.
 //! - `mistakes`: the notes on mistakes in a script.
 #![tactic(auto)]
 
@@ -26,12 +26,12 @@ mod branch;
 mod line;
 mod made;
 mod mistakes;
+mod observer;
 mod refused;
 mod text;
-mod witness;
 
 pub use made::edit_notes;
 pub use mistakes::{COMMAND_LINES, ScriptMistake, push_mistake, script_mistake};
+pub use observer::{NotesBelow, NotesKept};
 pub use refused::refusal_notes;
 pub use text::Names;
-pub use witness::{NotesBelow, NotesKept};

@@ -42,11 +42,11 @@ ends (Some xs) (Some ys) lines h e = h ∙ ap (λ t. lines ++ physical_lines t) 
 pub says-kept : (a b c : Option (List ℕ)) (Says : List ℕ → Type 0) → SaysOut a b Says → Keeps b c → SaysOut a c Says
 says-kept a b c Says (text, is_out, says) kept = (text, Appends-kept a b c text is_out kept, says)
 
-module _ {L : Type 0} (turns_down : L → List ℕ → Type 0) (hears : L → List ℕ → List ℕ → After → L → Type 0) where
-  goes-over-more : (lines : List (List ℕ)) (a b c : L) (replies reply line : List ℕ) → GoesOver turns_down hears lines a replies b
-      → IsReplied turns_down hears line b reply GoesOn c → GoesOver turns_down hears (lines ++ line ∷ []) a (replies ++ reply) c
+module _ {L : Type 0} (rejects : L → List ℕ → Type 0) (handles : L → List ℕ → List ℕ → After → L → Type 0) where
+  goes-over-more : (lines : List (List ℕ)) (a b c : L) (replies reply line : List ℕ) → GoesOver rejects handles lines a replies b
+      → IsReplied rejects handles line b reply GoesOn c → GoesOver rejects handles (lines ++ line ∷ []) a (replies ++ reply) c
   goes-over-more [] a b c replies reply line (none, same) next =
-      (c, reply, [], subst (λ it. IsReplied turns_down hears line it reply GoesOn c) same next, (refl, refl), ap (λ t. t ++ reply) none ∙ sym (append-nil reply))
+      (c, reply, [], subst (λ it. IsReplied rejects handles line it reply GoesOn c) same next, (refl, refl), ap (λ t. t ++ reply) none ∙ sym (append-nil reply))
   goes-over-more (first ∷ lines) a b c replies reply line (m, one, rest, said, more, is) next =
       (m, one, rest ++ reply, said, goes-over-more lines m b c rest reply line more next, ap (λ t. t ++ reply) is ∙ append_assoc one rest reply)
 
@@ -57,13 +57,13 @@ module _ {L : Type 0} (turns_down : L → List ℕ → Type 0) (hears : L → Li
     pub replies : List ℕ
     pub leads : Leads source rest lines
     pub greeted : greets first greeting
-    pub goes_over : GoesOver turns_down hears lines first replies now
+    pub goes_over : GoesOver rejects handles lines first replies now
     pub is_out : Appends before out (greeting ++ replies)
 
   -- the line that was read, and its reply
   replied : (y z : Option (List ℕ)) (line : List ℕ) (b c : L) (reply : List ℕ) (after : After) (is : read.LineRead)
-      → IsLineRead y z line is → IsReadReplied turns_down hears is line b reply after c
-      → ((told : List ℕ) × LosesLine y z told × IsReplied turns_down hears told b reply after c)
+      → IsLineRead y z line is → IsReadReplied rejects handles is line b reply after c
+      → ((told : List ℕ) × LosesLine y z told × IsReplied rejects handles told b reply after c)
       ⊎ (IsAtEnd y × (reply ≡ []) × (after ≡ Ends) × (c ≡ b))
   replied y z line b c reply after line_read.Line was says = inl (line, was.0, inl (was.1, says))
   replied y z line b c reply after line_read.TooLong was says = inl (was.0, was.1, inr (was.2, says.0, says.1, says.2))
@@ -71,9 +71,9 @@ module _ {L : Type 0} (turns_down : L → List ℕ → Type 0) (hears : L → Li
 
   -- the reply, of the same line and the same end
   said : (line told : List ℕ) (is : read.LineRead) (b c : L) (reply : List ℕ) (after wanted : After) → told ≡ line → after ≡ wanted
-      → IsReadReplied turns_down hears is told b reply after c → IsReadReplied turns_down hears is line b reply wanted c
+      → IsReadReplied rejects handles is told b reply after c → IsReadReplied rejects handles is line b reply wanted c
   said line told is b c reply after wanted same ends says =
-      subst (λ l. IsReadReplied turns_down hears is l b reply wanted c) same (subst (λ a. IsReadReplied turns_down hears is told b reply a c) ends says)
+      subst (λ l. IsReadReplied rejects handles is l b reply wanted c) same (subst (λ a. IsReadReplied rejects handles is told b reply a c) ends says)
 
   pub first-talked : (greets : L → List ℕ → Type 0) (source : Option (List ℕ)) (first : L) (before out : Option (List ℕ)) → SaysOut before out (greets first)
       → HasTalked greets source source first before out first
@@ -94,7 +94,7 @@ module _ {L : Type 0} (turns_down : L → List ℕ → Type 0) (hears : L → Li
   -- one line more
   pub more-talked : (greets : L → List ℕ → Type 0) (source y z : Option (List ℕ)) (first b c : L) (before out next : Option (List ℕ)) (line told : List ℕ) (is : read.LineRead)
       (after : After) → HasTalked greets source y first before out b → IsLineRead y z line is → told ≡ line
-      → SaysOut out next (λ reply. IsReadReplied turns_down hears is told b reply after c) → after ≡ GoesOn
+      → SaysOut out next (λ reply. IsReadReplied rejects handles is told b reply after c) → after ≡ GoesOn
       → HasTalked greets source z first before next c
   more-talked greets source y z first b c before out next line told is after h was same (reply, is_out, says) goes-on =
       elim (replied y z line b c reply GoesOn is was (said line told is b c reply after GoesOn same goes-on says)) [
@@ -116,8 +116,8 @@ module _ {L : Type 0} (turns_down : L → List ℕ → Type 0) (hears : L → Li
   -- the last line, or the end
   pub all-talked : (greets : L → List ℕ → Type 0) (source y z : Option (List ℕ)) (first b c : L) (before out next : Option (List ℕ)) (line told : List ℕ) (is : read.LineRead)
       (after : After) → HasTalked greets source y first before out b → IsLineRead y z line is → told ≡ line
-      → SaysOut out next (λ reply. IsReadReplied turns_down hears is told b reply after c) → after ≡ Ends
-      → SaysOut before next (λ said. IsTalk greets turns_down hears source first said c)
+      → SaysOut out next (λ reply. IsReadReplied rejects handles is told b reply after c) → after ≡ Ends
+      → SaysOut before next (λ said. IsTalk greets rejects handles source first said c)
   all-talked greets source y z first b c before out next line told is after h was same (reply, is_out, says) goes-on =
       let whole = subst (Appends before next) (append_assoc h.greeting h.replies reply) (Appends-trans before out next (h.greeting ++ h.replies) reply h.is_out is_out) in
       elim (replied y z line b c reply Ends is was (said line told is b c reply after Ends same goes-on says)) [
@@ -155,8 +155,8 @@ module _ {L : Type 0} (turns_down : L → List ℕ → Type 0) (hears : L → Li
             inl (record {
               lines = h.lines;
               all = ends source y h.lines h.leads end;
-              goes_over = subst (λ it. GoesOver turns_down hears h.lines first it c) (sym (ap (λ t. h.replies ++ t) none ∙ append-nil h.replies))
-                  (subst (λ it. GoesOver turns_down hears h.lines first h.replies it) (sym kept) h.goes_over);
+              goes_over = subst (λ it. GoesOver rejects handles h.lines first it c) (sym (ap (λ t. h.replies ++ t) none ∙ append-nil h.replies))
+                  (subst (λ it. GoesOver rejects handles h.lines first h.replies it) (sym kept) h.goes_over);
             }),
           ),
         )

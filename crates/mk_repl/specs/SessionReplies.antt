@@ -4,11 +4,11 @@ use Rattle.std.specs.Prelude.{◌≡◌, ◌≢◌, ◌⊎◌, ℕ, Bool, true, 
 use Rattle.mk_edit_language.specs.declared.refusal.Refusal.TheVariants.{GroupOpen}
 use Rattle.mk_history.specs.Shown.{Shown}
 use Rattle.mk_repl.specs.AnswerLines.{answer_lines, lines_between}
-use Rattle.mk_repl.specs.Replies.{IsLineObeyed, reply_to}
+use Rattle.mk_repl.specs.Replies.{IsLineExecuted, reply_to}
 use Rattle.mk_repl.specs.Requests.{Asked, Print, Of, Word, request_in}
 use Rattle.mk_repl.specs.Reverted.{undone}
-use Rattle.mk_repl.specs.declared.answer.Obeyed as o
-use Rattle.mk_repl.specs.declared.answer.Obeyed.TheVariants.{NoCommand}
+use Rattle.mk_repl.specs.declared.answer.Executed as o
+use Rattle.mk_repl.specs.declared.answer.Executed.TheVariants.{NoCommand}
 use Rattle.mk_repl.specs.declared.request.RequestOf.TheVariants as of
 use Rattle.mk_repl.specs.declared.request.RequestWord.TheVariants as word
 use Rattle.mk_repl.specs.declared.talk.After.{After}
@@ -17,7 +17,7 @@ use Rattle.mk_queries.specs.Queries.{check_text, recipes_text, rules_text, vars_
 use Rattle.mk_tree.specs.Documents.{document_lines}
 use Rattle.mk_repl.specs.SessionFaults.{fault_text}
 use Rattle.mk_repl.specs.SessionForms.{in_form}
-use Rattle.mk_repl.specs.declared.desk.Opened.{Opened}
+use Rattle.mk_repl.specs.declared.server.Opened.{Opened}
 use Rattle.mk_repl.specs.declared.not_done.NotDone.{NotDone}
 use Rattle.mk_repl.specs.declared.not_done.NotDone.TheVariants.{NoMemory, Refused, BeyondDepth}
 
@@ -97,16 +97,16 @@ IsOtherAnswered (Some asked) opened old reply after new =
     × (after ≡ after_request asked (is_ok answer))
 
 -- This came of a line as a command, and it was answered.
-abbrev IsCameAnswered : o.Obeyed → (line : List ℕ) → Opened → (old : Shown (List ℕ)) → (reply : List ℕ) → After
+abbrev IsCameAnswered : o.Executed → (line : List ℕ) → Opened → (old : Shown (List ℕ)) → (reply : List ℕ) → After
     → (new : Shown (List ℕ)) → Type 0
 IsCameAnswered NoCommand line opened old reply after new =
     IsOtherAnswered (request_in line) opened old reply after new
 IsCameAnswered came line opened old reply after new =
     (reply ≡ reply_to came) × (after ≡ GoesOn) × (new ≡ old)
 
--- A line was heard: it was obeyed as a command, and then it was answered.
-abbrev pub IsHeard : (line : List ℕ) → Opened → (old : Shown (List ℕ)) → (reply : List ℕ) → After → (new : Shown (List ℕ))
+-- A line was handled: it was executed as a command, and then it was answered.
+abbrev pub IsHandled : (line : List ℕ) → Opened → (old : Shown (List ℕ)) → (reply : List ℕ) → After → (new : Shown (List ℕ))
     → Type 0
-IsHeard line opened old reply after new =
-    (came : o.Obeyed) × (obeyed : Shown (List ℕ)) × IsLineObeyed line old obeyed came
-    × IsCameAnswered came line opened obeyed reply after new
+IsHandled line opened old reply after new =
+    (came : o.Executed) × (executed : Shown (List ℕ)) × IsLineExecuted line old executed came
+    × IsCameAnswered came line opened executed reply after new

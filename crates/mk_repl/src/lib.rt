@@ -1,19 +1,19 @@
 //! A session that somebody talks to, line by line: each line is answered before the next is read.
 //!
 //! - [`read_line`]: the next line of a source, which may be too long to be a command.
-//! - [`answer_line`]: a command of a script, obeyed by a session, and the reply to it; [`obey_line`]
-//!   obeys it, and [`write_reply`] replies.
+//! - [`answer_line`]: a command of a script, executed by a session, and the reply to it; [`execute_line`]
+//!   executes it, and [`write_reply`] replies.
 //! - [`read_request`]: what a line asks for that is no command.
 //! - [`answer_lines`]: a text as the lines of an answer, which stand before a reply.
 //! - [`lines_between`]: some lines of a text; [`line_length`]: the first of them.
 //! - [`revert`]: all that can be undone, undone.
-//! - [`converse`]: line after line is read, and a [`Listener`] replies to each. What it says first and
+//! - [`serve`]: line after line is read, and a [`Handler`] replies to each. What it says first and
 //!   what it replies to a line that is too long is [`write_greeting`] and [`write_too_long`] by the
 //!   protocol.
 //! - [`TextSink`]: what is written, in memory.
 //! - [`found_for`]: what a makefile has for a [`Question`]; [`put_found`] writes it.
-//! - [`Desk`]: the makefile that `mkedit session` has open, a listener by the protocol;
-//!   [`converse_at_terminal`] replies to a person.
+//! - [`Server`]: the makefile that `mkedit session` has open, a handler by the protocol;
+//!   [`serve_at_terminal`] replies to a person.
 //!
 //! The modules:
 //!
@@ -26,8 +26,8 @@
 //! - `text`: a text in memory.
 //! - `undoing`: all that can be undone, undone.
 //! - `question`: what a makefile is asked for, and what is found.
-//! - `desk`: a makefile that is open, and what it answers; `help_text`: what `help` says.
-//! - `journal`: the lines of what can be undone and redone.
+//! - `server`: a makefile that is open, and what it answers; `help_text`: what `help` says.
+//! - `command_log`: the lines of what can be undone and redone.
 //! - `text_lines`: answers as lines of JSON.
 //! - `not_done`: why a request is not done.
 //! - `on_disk`: the makefile's file.
@@ -35,9 +35,8 @@
 #![tactic(auto)]
 
 mod answer;
-mod desk;
+mod command_log;
 mod help_text;
-mod journal;
 mod line;
 mod lines;
 mod not_done;
@@ -47,21 +46,22 @@ mod question;
 mod quote;
 mod request;
 mod sentences;
+mod server;
 mod talk;
 mod terminal;
 mod text;
 mod text_lines;
 mod undoing;
 
-pub use answer::{Heard, Obeyed, answer_line, obey_line, write_reply};
-pub use desk::{Asked, Desk, Opened};
+pub use answer::{Executed, Handled, answer_line, execute_line, write_reply};
 pub use line::{LineRead, MAX_LINE, read_line};
 pub use lines::{line_length, lines_between};
 pub use not_done::NotDone;
 pub use question::{Found, Inquiry, Question, Unanswered, found_for, put_found};
 pub use quote::answer_lines;
 pub use request::{Request, RequestOf, RequestWord, read_request};
-pub use talk::{After, Listener, converse, write_greeting, write_too_long};
-pub use terminal::converse_at_terminal;
+pub use server::{Asked, Opened, Server};
+pub use talk::{After, Handler, serve, write_greeting, write_too_long};
+pub use terminal::serve_at_terminal;
 pub use text::TextSink;
 pub use undoing::{Reverted, revert};

@@ -3,18 +3,18 @@ ghost use Rattle.std.specs.Prelude.{◌≡◌, ◌⊎◌, false, true, Err, IfEr
 ghost use Rattle.mk_repl.specs.AnswerLines.{answer_lines};
 ghost use Rattle.mk_repl.specs.Requests.{request_in};
 ghost use Rattle.mk_repl.specs.Talks.{SaysOut, greeting, too_long};
-ghost use Rattle.mk_repl.specs.SessionReplies.{IsHeard, IsOtherAnswered, IsReplyTo, answer_text};
+ghost use Rattle.mk_repl.specs.SessionReplies.{IsHandled, IsOtherAnswered, IsReplyTo, answer_text};
 
-use crate::desk::Desk;
 use crate::not_done::{NotDone, put_fault, shown_name};
+use crate::server::Server;
 use crate::{
-    After, Listener, Obeyed, answer_lines, read_request, write_greeting, write_reply,
+    After, Executed, Handler, answer_lines, read_request, write_greeting, write_reply,
     write_too_long,
 };
 use mk_lines::sink::write_parts;
 use mk_lines::{ByteSink, Fault};
 
-impl Desk<'_> {
+impl Server<'_> {
     // The lines of an answer, if there is one.
     fn quoted(&self, answer: Result<Vec<u8>, NotDone>) -> Result<Vec<u8>, NotDone>
         ensures lines { IfOk result (λ lines. IsOkAnd answer
@@ -74,39 +74,39 @@ impl Desk<'_> {
     fn answer_to<W: ByteSink>(&mut self, line: &[u8], out: &mut W) -> Result<After, Fault>
         requires { W.failed out.old ≡ false }
         ensures said { IfOk result (λ after. SaysOut (W.contents out.old) (W.contents out.new) (λ reply.
-            IsHeard line.now self.old.opened self.old.session.shown reply after
+            IsHandled line.now self.old.opened self.old.session.shown reply after
             self.new.session.shown
             × (self.new.opened ≡ self.old.opened))) }
         ensures fault { IfErr result (λ fault. (fault ≡ Fault.Write) × (W.failed out.new ≡ true)) }
         ensures works { OnOk result (W.failed out.new ≡ false) }
     {
-        let obeyed = self.obey(line);
-        if obeyed == Obeyed::NoCommand {
+        let executed = self.execute(line);
+        if executed == Executed::NoCommand {
             return self.answer_other(line, out);
         }
-        write_reply(obeyed, out)?;
+        write_reply(executed, out)?;
         Ok(After::GoesOn)
     }
 }
 
-impl Listener for Desk<'_> {
+impl Handler for Server<'_> {
     ghost greets = { λ _ text. text ≡ greeting };
 
-    ghost turns_down = { λ _ reply. reply ≡ too_long };
+    ghost rejects = { λ _ reply. reply ≡ too_long };
 
-    ghost hears = { λ old line reply after new.
-        IsHeard line old.opened old.session.shown reply after new.session.shown
+    ghost handles = { λ old line reply after new.
+        IsHandled line old.opened old.session.shown reply after new.session.shown
         × (new.opened ≡ old.opened) };
 
     fn greet<W: ByteSink>(&self, out: &mut W) -> Result<(), Fault> {
         write_greeting(out)
     }
 
-    fn turn_down<W: ByteSink>(&self, out: &mut W) -> Result<(), Fault> {
+    fn reject<W: ByteSink>(&self, out: &mut W) -> Result<(), Fault> {
         write_too_long(out)
     }
 
-    fn hear<W: ByteSink>(&mut self, line: &[u8], out: &mut W) -> Result<After, Fault> {
+    fn handle<W: ByteSink>(&mut self, line: &[u8], out: &mut W) -> Result<After, Fault> {
         self.answer_to(line, out)
     }
 }

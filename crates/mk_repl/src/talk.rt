@@ -18,18 +18,18 @@ pub enum After {
 }
 
 /// Somebody who replies to lines.
-pub trait Listener {
+pub trait Handler {
     ghost use Rattle.mk_repl.specs.declared.talk.After.{After};
 
-    // What the listener says before the first line. The default says nothing of it.
+    // What the handler says before the first line. The default says nothing of it.
     ghost greets: { Self → List ℕ → Type 0 } = { λ _ _. ⊤ };
 
     // The reply to a line that is too long. The default says nothing of it.
-    ghost turns_down: { Self → List ℕ → Type 0 } = { λ _ _. ⊤ };
+    ghost rejects: { Self → List ℕ → Type 0 } = { λ _ _. ⊤ };
 
-    // What hearing a line comes to: the listener before it, the line, the reply, whether the talk goes
-    // on, and the listener after it. The default says nothing.
-    ghost hears: { Self → List ℕ → List ℕ → After → Self → Type 0 } = { λ _ _ _ _ _. ⊤ };
+    // What handling a line comes to: the handler before it, the line, the reply, whether the talk goes
+    // on, and the handler after it. The default says nothing.
+    ghost handles: { Self → List ℕ → List ℕ → After → Self → Type 0 } = { λ _ _ _ _ _. ⊤ };
 
     /// Says what stands before the first line is read. Nothing is flushed.
     ///
@@ -42,15 +42,15 @@ pub trait Listener {
             (greets self.now)) }
         ensures works { OnOk result (W.failed out.new ≡ false) };
 
-    /// Replies to a line that is too long, of which the listener does not hear more. Nothing is flushed.
+    /// Replies to a line that is too long, of which the handler does not handle more. Nothing is flushed.
     ///
     /// # Errors
     ///
     /// [`Fault::Write`] if the sink failed.
-    fn turn_down<W: ByteSink>(&self, out: &mut W) -> Result<(), Fault>
+    fn reject<W: ByteSink>(&self, out: &mut W) -> Result<(), Fault>
         requires { W.failed out.old ≡ false }
         ensures turned { OnOk result (SaysOut (W.contents out.old) (W.contents out.new)
-            (turns_down self.now)) }
+            (rejects self.now)) }
         ensures works { OnOk result (W.failed out.new ≡ false) };
 
     /// Replies to a line, of which the last may have no line feed, and says whether the talk goes on.
@@ -59,10 +59,10 @@ pub trait Listener {
     /// # Errors
     ///
     /// [`Fault::Write`] if the sink failed.
-    fn hear<W: ByteSink>(&mut self, line: &[u8], out: &mut W) -> Result<After, Fault>
+    fn handle<W: ByteSink>(&mut self, line: &[u8], out: &mut W) -> Result<After, Fault>
         requires { W.failed out.old ≡ false }
-        ensures heard { IfOk result (λ after. SaysOut (W.contents out.old) (W.contents out.new)
-            (λ reply. hears self.old line.now reply after self.new)) }
+        ensures handled { IfOk result (λ after. SaysOut (W.contents out.old) (W.contents out.new)
+            (λ reply. handles self.old line.now reply after self.new)) }
         ensures fault { IfErr result (λ fault. (fault ≡ Fault.Write) × (W.failed out.new ≡ true)) }
         ensures works { OnOk result (W.failed out.new ≡ false) };
 }
@@ -91,33 +91,33 @@ pub fn write_too_long<W: ByteSink>(out: &mut W) -> Result<(), Fault>
     write_all(out, b"fault line too long\n")
 }
 
-// Has the listener say what stands before the first line, and flushes it.
-fn greet<L: Listener, W: ByteSink>(listener: &L, out: &mut W) -> Result<(), Fault>
+// Has the handler say what stands before the first line, and flushes it.
+fn greet<L: Handler, W: ByteSink>(handler: &L, out: &mut W) -> Result<(), Fault>
     requires { W.failed out.old ≡ false }
     ensures greeted { OnOk result (SaysOut (W.contents out.old) (W.contents out.new)
-        (L.greets listener.now)) }
+        (L.greets handler.now)) }
     ensures works { OnOk result (W.failed out.new ≡ false) }
 {
-    listener.greet(out)?;
+    handler.greet(out)?;
     out.flush()
 }
 
 // Replies to what was read. After the last line there is no reply.
-fn hear_read<L: Listener, W: ByteSink>(
-    listener: &mut L,
+fn handle_read<L: Handler, W: ByteSink>(
+    handler: &mut L,
     read: LineRead,
     line: &[u8],
     out: &mut W,
 ) -> Result<After, Fault>
     requires { W.failed out.old ≡ false }
     ensures replied { IfOk result (λ after. SaysOut (W.contents out.old) (W.contents out.new)
-        (λ reply. IsReadReplied L.turns_down L.hears read line.now listener.old reply after listener.new)) }
+        (λ reply. IsReadReplied L.rejects L.handles read line.now handler.old reply after handler.new)) }
     ensures works { OnOk result (W.failed out.new ≡ false) }
 {
     match read {
-        LineRead::Line => listener.hear(line, out),
+        LineRead::Line => handler.handle(line, out),
         LineRead::TooLong => {
-            listener.turn_down(out)?;
+            handler.reject(out)?;
             Ok(After::GoesOn)
         }
         LineRead::End => Ok(After::Ends),
@@ -125,23 +125,23 @@ fn hear_read<L: Listener, W: ByteSink>(
 }
 
 // Replies to what was read, and flushes the reply.
-fn reply<L: Listener, W: ByteSink>(
-    listener: &mut L,
+fn reply<L: Handler, W: ByteSink>(
+    handler: &mut L,
     read: LineRead,
     line: &[u8],
     out: &mut W,
 ) -> Result<After, Fault>
     requires { W.failed out.old ≡ false }
     ensures replied { IfOk result (λ after. SaysOut (W.contents out.old) (W.contents out.new)
-        (λ reply. IsReadReplied L.turns_down L.hears read line.now listener.old reply after listener.new)) }
+        (λ reply. IsReadReplied L.rejects L.handles read line.now handler.old reply after handler.new)) }
     ensures works { OnOk result (W.failed out.new ≡ false) }
 {
-    let after = hear_read(listener, read, line, out)?;
+    let after = handle_read(handler, read, line, out)?;
     out.flush()?;
     Ok(after)
 }
 
-/// Has the listener greet, then reads line after line and has it reply, until it says that the talk
+/// Has the handler greet, then reads line after line and has it reply, until it says that the talk
 /// ends, or until there is no line any more. After the greeting and after each reply the sink is
 /// flushed, before more is read.
 ///
@@ -151,29 +151,29 @@ fn reply<L: Listener, W: ByteSink>(
 /// - [`Fault::Read`] if the source answered it.
 /// - [`Fault::Write`] if the sink failed.
 /// - [`Fault::TooLong`] if a line has no end after 2^64 bytes, or if no end comes after 2^64 lines.
-pub fn converse<A, S, L, W>(
+pub fn serve<A, S, L, W>(
     alloc: A,
     source: &mut S,
-    listener: &mut L,
+    handler: &mut L,
     out: &mut W,
 ) -> Result<(), Fault>
 where
     A: Allocator,
     S: ByteSource,
-    L: Listener,
+    L: Handler,
     W: ByteSink,
     requires source_works { S.failed source.old ≡ false }
     requires out_works { W.failed out.old ≡ false }
     ensures talk { OnOk result (SaysOut (W.contents out.old) (W.contents out.new)
-        (λ said. IsTalk L.greets L.turns_down L.hears (S.remaining source.old) listener.old said listener.new)) }
+        (λ said. IsTalk L.greets L.rejects L.handles (S.remaining source.old) handler.old said handler.new)) }
     ensures source { OnOk result (S.failed source.new ≡ false) }
     ensures works { OnOk result (W.failed out.new ≡ false) }
 {
     let mut line = Vec::with_capacity(alloc, MAX_LINE)?;
-    greet(listener, out)?;
+    greet(handler, out)?;
     for _ in 0..u64::MAX {
         let read = read_line(source, &mut line)?;
-        match reply(listener, read, line.as_slice(), out)? {
+        match reply(handler, read, line.as_slice(), out)? {
             After::Ends => return Ok(()),
             After::GoesOn => {}
         }

@@ -4,10 +4,10 @@ ghost use Rattle.mk_lines.specs.Device.{Writes};
 ghost use Rattle.mk_repl.specs.Talks.{SaysOut};
 ghost use Rattle.mk_diff.specs.PaintedDiffs.{shown_diff};
 
-use crate::desk::Desk;
 use crate::not_done::{NotDone, shown_name};
 use crate::sentences::{AS_IT_WAS, NO_MEMORY, TOO_LONG, changed_lines, mistake_sentence, sentence};
-use crate::{After, Listener, Obeyed, Request, RequestOf, RequestWord, converse, read_request};
+use crate::server::Server;
+use crate::{After, Executed, Handler, Request, RequestOf, RequestWord, read_request, serve};
 use mk_diff::{diff, patch_name, shown};
 use mk_lines::sink::{write_all, write_parts};
 use mk_lines::{ByteSink, ByteSource, Fault};
@@ -31,7 +31,7 @@ fn write_prompt<'b, W: ByteSink>(
 // A makefile that is open at a terminal.
 #[derive(Drop)]
 struct Terminal<'a> {
-    desk: Desk<'a>,
+    server: Server<'a>,
     // The text as it was shown last.
     shown: Vec<u8>,
     // Whether a diff has colours.
@@ -42,10 +42,10 @@ struct Terminal<'a> {
 
 impl<'a> Terminal<'a> {
     // The session is at its first line.
-    fn open(desk: Desk<'a>, has_color: bool) -> Result<Terminal<'a>, Fault> {
-        let shown = Vec::from_slice(desk.runtime().alloc(), desk.left())?;
+    fn open(server: Server<'a>, has_color: bool) -> Result<Terminal<'a>, Fault> {
+        let shown = Vec::from_slice(server.runtime().alloc(), server.left())?;
         Ok(Terminal {
-            desk,
+            server,
             shown,
             has_color,
             is_over: false,
@@ -54,7 +54,7 @@ impl<'a> Terminal<'a> {
 
     // A mark where there are unwritten changes.
     fn mark(&self) -> &'static [u8] {
-        if self.shown.as_slice() == self.desk.left() {
+        if self.shown.as_slice() == self.server.left() {
             b""
         } else {
             b"*"
@@ -68,19 +68,19 @@ impl<'a> Terminal<'a> {
         ensures fault { IfErr result (λ fault. (fault ≡ Fault.Write) × (W.failed out.new ≡ true)) }
         ensures works { OnOk result (W.failed out.new ≡ false) }
     {
-        write_prompt(said, shown_name(self.desk.name()), self.mark(), out)
+        write_prompt(said, shown_name(self.server.name()), self.mark(), out)
     }
 
     // The sentence on a request that is not done. A file is shown by this name.
     fn sentence(&self, not_done: NotDone, name: &[u8]) -> Result<Vec<u8>, NotDone> {
-        Ok(sentence(self.desk.runtime().alloc(), not_done, name)?)
+        Ok(sentence(self.server.runtime().alloc(), not_done, name)?)
     }
 
     // A diff as it is shown.
     fn diff_shown(&self, diff: Vec<u8>) -> Result<Vec<u8>, NotDone>
         ensures { IfOk result (λ text. text.items ≡ shown_diff self.now.has_color diff.items) }
     {
-        match shown(self.desk.runtime().alloc(), diff, self.has_color) {
+        match shown(self.server.runtime().alloc(), diff, self.has_color) {
             Ok(text) => Ok(text),
             Err(_) => Err(NotDone::NoMemory),
         }
@@ -88,7 +88,7 @@ impl<'a> Terminal<'a> {
 
     // The lines of a diff that were taken out and put in, as they are shown.
     fn changes_of(&self, diff: Vec<u8>) -> Result<Vec<u8>, NotDone> {
-        let alloc = self.desk.runtime().alloc();
+        let alloc = self.server.runtime().alloc();
         let plain = Vec::from_slice(alloc, diff.as_slice())?;
         let shown = self.diff_shown(diff)?;
         Ok(changed_lines(alloc, plain.as_slice(), shown.as_slice())?)
@@ -96,10 +96,10 @@ impl<'a> Terminal<'a> {
 
     // What has changed since the text was shown last, of which no more is said from now on.
     fn change(&mut self) -> Result<Vec<u8>, NotDone> {
-        let alloc = self.desk.runtime().alloc();
-        let text = self.desk.text()?;
+        let alloc = self.server.runtime().alloc();
+        let text = self.server.text()?;
         let shown = mem::replace(&mut self.shown, text);
-        let name = patch_name(self.desk.name().as_bytes());
+        let name = patch_name(self.server.name().as_bytes());
         match diff(alloc, shown.as_slice(), self.shown.as_slice(), name) {
             Ok(diff) => self.changes_of(diff),
             Err(_) => Err(NotDone::NoMemory),
@@ -110,26 +110,26 @@ impl<'a> Terminal<'a> {
     fn done(&mut self) -> Result<Vec<u8>, NotDone> {
         let changed = self.change()?;
         if changed.is_empty() {
-            return Ok(Vec::from_slice(self.desk.runtime().alloc(), AS_IT_WAS)?);
+            return Ok(Vec::from_slice(self.server.runtime().alloc(), AS_IT_WAS)?);
         }
         Ok(changed)
     }
 
     // That a file is written.
     fn written(&self, name: &[u8]) -> Result<Vec<u8>, NotDone> {
-        let mut said = Vec::from_slice(self.desk.runtime().alloc(), name)?;
+        let mut said = Vec::from_slice(self.server.runtime().alloc(), name)?;
         said.extend_from_slice(b" is written.\n")?;
         Ok(said)
     }
 
     // The answer to a request, and a line end behind it where it has none.
     fn answer(&mut self, request: Request<'_>) -> Result<Vec<u8>, NotDone> {
-        let asked = self.desk.ask(request);
+        let asked = self.server.ask(request);
         self.is_over = asked.after == After::Ends;
         let mut text = asked.answer?;
         match request {
             Request::Word(RequestWord::Write | RequestWord::WriteAnyway)
-            | Request::Of(RequestOf::Write, _) => self.written(self.desk.shown_in(request)),
+            | Request::Of(RequestOf::Write, _) => self.written(self.server.shown_in(request)),
             Request::Word(RequestWord::Revert) => self.done(),
             Request::Word(RequestWord::Diff) => self.diff_shown(text),
             _ => {
@@ -147,7 +147,7 @@ impl<'a> Terminal<'a> {
             Ok(text) => Ok(text),
             Err(not_done) => {
                 let mut said = self.change()?;
-                let sentence = self.sentence(not_done, self.desk.shown_in(request))?;
+                let sentence = self.sentence(not_done, self.server.shown_in(request))?;
                 said.extend_from_slice(sentence.as_slice())?;
                 Ok(said)
             }
@@ -157,7 +157,7 @@ impl<'a> Terminal<'a> {
     // That a line is neither a command nor a request, and what is wrong with it as a command.
     fn no_command(&self, line: &[u8]) -> Result<Vec<u8>, NotDone> {
         let mut said = self.sentence(NotDone::NotACommand, b"")?;
-        let mistake = mistake_sentence(self.desk.runtime().alloc(), line)?;
+        let mistake = mistake_sentence(self.server.runtime().alloc(), line)?;
         said.extend_from_slice(mistake.as_bytes())?;
         Ok(said)
     }
@@ -167,7 +167,7 @@ impl<'a> Terminal<'a> {
         match read_request(line) {
             Some(request) => self.said_of(request),
             None => {
-                self.desk.forget_quit();
+                self.server.forget_quit();
                 self.no_command(line)
             }
         }
@@ -175,12 +175,12 @@ impl<'a> Terminal<'a> {
 
     // What is said of a line.
     fn said(&mut self, line: &[u8]) -> Result<Vec<u8>, NotDone> {
-        match self.desk.obey(line) {
-            Obeyed::Done => self.done(),
-            Obeyed::Refused(Refusal::NoMemory) => Err(NotDone::NoMemory),
-            Obeyed::Refused(refusal) => self.sentence(NotDone::Refused(refusal), b""),
-            Obeyed::Nothing => Ok(Vec::new(self.desk.runtime().alloc())),
-            Obeyed::NoCommand => self.said_of_other(line),
+        match self.server.execute(line) {
+            Executed::Done => self.done(),
+            Executed::Refused(Refusal::NoMemory) => Err(NotDone::NoMemory),
+            Executed::Refused(refusal) => self.sentence(NotDone::Refused(refusal), b""),
+            Executed::Nothing => Ok(Vec::new(self.server.runtime().alloc())),
+            Executed::NoCommand => self.said_of_other(line),
         }
     }
 
@@ -223,23 +223,23 @@ fn text_said(said: &Result<Vec<u8>, NotDone>) -> &[u8] {
     }
 }
 
-impl Listener for Terminal<'_> {
+impl Handler for Terminal<'_> {
     fn greet<W: ByteSink>(&self, out: &mut W) -> Result<(), Fault> {
         self.put_prompt(b"", out)
     }
 
-    fn turn_down<W: ByteSink>(&self, out: &mut W) -> Result<(), Fault> {
+    fn reject<W: ByteSink>(&self, out: &mut W) -> Result<(), Fault> {
         self.put_prompt(TOO_LONG, out)
     }
 
-    fn hear<W: ByteSink>(&mut self, line: &[u8], out: &mut W) -> Result<After, Fault> {
+    fn handle<W: ByteSink>(&mut self, line: &[u8], out: &mut W) -> Result<After, Fault> {
         let said = self.said(line);
         self.put_said(said, out)
     }
 }
 
 // Replies to the lines of a source up to its end, which is a `quit`, or up to another one.
-fn converse_once<S: ByteSource, W: ByteSink>(
+fn serve_once<S: ByteSource, W: ByteSink>(
     terminal: &mut Terminal<'_>,
     source: &mut S,
     out: &mut W,
@@ -249,7 +249,7 @@ fn converse_once<S: ByteSource, W: ByteSink>(
     ensures source { OnOk result (S.failed source.new ≡ false) }
     ensures works { OnOk result (W.failed out.new ≡ false) }
 {
-    converse(terminal.desk.runtime().alloc(), source, terminal, out)?;
+    serve(terminal.server.runtime().alloc(), source, terminal, out)?;
     if terminal.is_over {
         return Ok(());
     }
@@ -262,9 +262,9 @@ fn converse_once<S: ByteSource, W: ByteSink>(
 ///
 /// # Errors
 ///
-/// Those of [`converse`], and [`Fault::NoMemory`] if there is none for the text that is shown.
-pub fn converse_at_terminal<S: ByteSource, W: ByteSink>(
-    desk: Desk<'_>,
+/// Those of [`serve`], and [`Fault::NoMemory`] if there is none for the text that is shown.
+pub fn serve_at_terminal<S: ByteSource, W: ByteSink>(
+    server: Server<'_>,
     has_color: bool,
     source: &mut S,
     out: &mut W,
@@ -272,9 +272,9 @@ pub fn converse_at_terminal<S: ByteSource, W: ByteSink>(
     requires source_works { S.failed source.old ≡ false }
     requires out_works { W.failed out.old ≡ false }
 {
-    let mut terminal = Terminal::open(desk, has_color)?;
+    let mut terminal = Terminal::open(server, has_color)?;
     for _ in 0..u64::MAX {
-        converse_once(&mut terminal, source, out)?;
+        serve_once(&mut terminal, source, out)?;
         if terminal.is_over {
             mem::forget(terminal);
             return Ok(());

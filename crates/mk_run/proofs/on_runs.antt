@@ -1,7 +1,7 @@
 pub mod CommandLemmas
 pub mod StepLemmas
-pub mod ObeyLemmas
-pub mod TellingLemmas
+pub mod ExecuteLemmas
+pub mod EventLemmas
 pub mod EndLemmas
 pub mod ReadLemmas
 pub mod ResultLemmas

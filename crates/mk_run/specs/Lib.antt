@@ -3,11 +3,11 @@
 pub mod Report
 pub mod Outcome
 -- Runs
-pub mod ObeyedCommands
-pub mod ObeyedSteps
+pub mod ExecutedCommands
+pub mod ExecutedSteps
 pub mod Runs
 pub mod RunEnds
 pub mod RunSteps
-pub mod Tellings
+pub mod Events
 -- Laws
 pub mod RunLaws

@@ -43,7 +43,7 @@ is_printed outcome.Done keep_going = true
 is_printed (outcome.Refused count) keep_going = keep_going
 is_printed other keep_going = false
 
--- a run with this outcome may have obeyed commands, and may have reported refusals
+-- a run with this outcome may have executed commands, and may have reported refusals
 abbrev pub may_report : o.Outcome → Bool
 may_report outcome.Done = true
 may_report (outcome.Refused count) = true

@@ -14,7 +14,7 @@ use Rattle.mk_history.specs.Shown.{Shown, shown_opened}
 use Rattle.mk_session.specs.Sessions.{IsBadDepth, Seen, answer}
 use Rattle.mk_session.specs.Calls.{takes_memory}
 use Rattle.mk_script.specs.Scripts.{Step, IsScript}
-use Rattle.mk_run.specs.ObeyedSteps.{Tries, step_end, obeyed_steps}
+use Rattle.mk_run.specs.ExecutedSteps.{Tries, step_end, executed_steps}
 use Rattle.mk_run.specs.Runs.{RunResult, IsRun, ended, result_after}
 use Rattle.mk_run.specs.declared.outcome.Outcome.{Outcome}
 use Rattle.mk_run.specs.declared.outcome.Outcome.TheVariants.{Done, Refused, BadDepth, NoMemory, Read, Write}
@@ -49,7 +49,7 @@ IsPrefixOut w text = AppendsPrefix w.before w.after text
 abbrev pub GoesOn : (keep_going : Bool) → (refused : ℕ) → Type 0
 GoesOn k n = k ≡ false → n ≡ 0
 
--- A command of one of the steps found no memory. The steps before it were obeyed, and this is their
+-- A command of one of the steps found no memory. The steps before it were executed, and this is their
 -- report. The step tries the command, which takes memory, and the machine does not refuse it.
 pub record IsShort (keep_going : Bool) (steps : List Step) (first : Shown (List ℕ))
     (report : List ℕ) : Type 0 where
@@ -59,11 +59,11 @@ pub record IsShort (keep_going : Bool) (steps : List Step) (first : Shown (List 
   pub command : Command Edit
   pub new : Shown (List ℕ)
   pub steps_are : steps ≡ earlier ++ step ∷ later
-  pub reached : GoesOn keep_going (obeyed_steps keep_going earlier first).refused
-  pub reported : report ≡ (obeyed_steps keep_going earlier first).report
-  pub tries : Tries step (obeyed_steps keep_going earlier first).shown command
+  pub reached : GoesOn keep_going (executed_steps keep_going earlier first).refused
+  pub reported : report ≡ (executed_steps keep_going earlier first).report
+  pub tries : Tries step (executed_steps keep_going earlier first).shown command
   pub takes : takes_memory command ≡ true
-  pub granted : answer command (obeyed_steps keep_going earlier first).shown ≡ Ok new
+  pub granted : answer command (executed_steps keep_going earlier first).shown ≡ Ok new
 
 -- A command of a run that comes to this result found no memory.
 pub record IsShortRun (makefile script : List ℕ) (depth : ℕ) (keep_going : Bool)
@@ -72,7 +72,7 @@ pub record IsShortRun (makefile script : List ℕ) (depth : ℕ) (keep_going : B
   pub lines : List ℕ
   pub are_steps : IsScript script steps
   pub result_is : result
-      ≡ result_after keep_going (obeyed_steps keep_going steps (shown_opened depth makefile))
+      ≡ result_after keep_going (executed_steps keep_going steps (shown_opened depth makefile))
   pub is_short : IsShort keep_going steps (shown_opened depth makefile) lines
   pub is_out : IsOut report lines
 
@@ -119,19 +119,19 @@ pub record IsRunOver (makefile script : Option (List ℕ)) (depth : ℕ) (keep_g
 
 -- ---- the session that is handed back
 
--- All steps were obeyed. What is shown last is what they lead to, with a group that was open
+-- All steps were executed. What is shown last is what they lead to, with a group that was open
 -- ended, and its text is what went out.
 pub record IsLeft (keep_going : Bool) (steps : List Step) (first last : Shown (List ℕ))
     (out : Written) : Type 0 where
-  pub shown : last ≡ ended (obeyed_steps keep_going steps first).shown
+  pub shown : last ≡ ended (executed_steps keep_going steps first).shown
   pub is_out : IsOut out last.text
 
--- Some refusals were told. Either the run went on, and all steps were obeyed; or what is shown last is
+-- Some refusals were told. Either the run went on, and all steps were executed; or what is shown last is
 -- what the steps lead to up to the first of which a refusal was told, which changed nothing.
 abbrev pub IsLeftRefused : (keep_going : Bool) → List Step → (first last : Shown (List ℕ))
     → (out : Written) → Type 0
 IsLeftRefused true steps first last out = IsLeft true steps first last out
-IsLeftRefused false steps first last out = last ≡ (obeyed_steps false steps first).shown
+IsLeftRefused false steps first last out = last ≡ (executed_steps false steps first).shown
 
 -- A command of one of the steps found no memory. What is shown last is what the steps before it lead
 -- to.
@@ -140,7 +140,7 @@ pub record IsLeftShort (keep_going : Bool) (steps : List Step)
   pub lines : List ℕ
   pub is_short : IsShort keep_going steps first lines
   pub is_out : IsOut report lines
-  pub shown : last ≡ (obeyed_steps keep_going is_short.earlier first).shown
+  pub shown : last ≡ (executed_steps keep_going is_short.earlier first).shown
 
 -- The line on the refusal that a step comes to could not be written. What is shown last is what the
 -- steps before it lead to.
@@ -151,15 +151,15 @@ pub record IsLeftUnreported (keep_going : Bool) (steps : List Step)
   pub later : List Step
   pub told : ℕ × machine.Refusal Refusal
   pub steps_are : steps ≡ earlier ++ step ∷ later
-  pub reached : GoesOn keep_going (obeyed_steps keep_going earlier first).refused
-  pub shown : last ≡ (obeyed_steps keep_going earlier first).shown
+  pub reached : GoesOn keep_going (executed_steps keep_going earlier first).refused
+  pub shown : last ≡ (executed_steps keep_going earlier first).shown
   pub refused : step_end step last ≡ Err told
 
--- A write or the flush failed: of the report, or of the text after all steps were obeyed.
+-- A write or the flush failed: of the report, or of the text after all steps were executed.
 abbrev pub IsLeftCut : (keep_going : Bool) → (report_failed : Bool) → List Step
     → (first last : Shown (List ℕ)) → Type 0
 IsLeftCut k true steps first last = IsLeftUnreported k steps first last
-IsLeftCut k false steps first last = last ≡ ended (obeyed_steps k steps first).shown
+IsLeftCut k false steps first last = last ≡ ended (executed_steps k steps first).shown
 
 -- A session that was opened on the makefile, for the script's steps. Makefile and script are what
 -- their readers tell. `Shows` is what the session shows, by the steps and by what was shown before

@@ -10,7 +10,7 @@ use Rattle.mk_session.specs.Calls.{Reply, Call, EditMachine, after_calls, standi
 use Rattle.mk_session.specs.SessionLaws.{IsMade}
 use Rattle.mk_script.specs.Scripts.{CommandAt, EditAt, Step, Alone, Tried, Chain, IsScript}
 use Rattle.mk_script.specs.ScriptsOfCommands.{IsScriptOfCommands}
-use Rattle.mk_run.specs.ObeyedSteps.{Answer, StepEnd, is_passed, step_end, obeyed_steps}
+use Rattle.mk_run.specs.ExecutedSteps.{Answer, StepEnd, is_passed, step_end, executed_steps}
 use Rattle.mk_run.specs.Runs.{RunResult, InCase, IsTooLong, IsRun, IsRunOfCommands, outcome_after, result_after, stopped}
 use Rattle.mk_run.specs.RunEnds.{GoesOn}
 use Rattle.mk_run.specs.declared.outcome.Outcome.TheVariants.{BadDepth, TooLong}
@@ -94,7 +94,7 @@ module _ (keep_going : Bool) (steps : List Step) (makefile : List ℕ) (depth : 
   first = shown_opened depth makefile
 
   abbrev last : Shown (List ℕ)
-  last = (obeyed_steps keep_going steps first).shown
+  last = (executed_steps keep_going steps first).shown
 
   -- the commands that were tried, with their replies, and the session machine after them
   abbrev calls : List Call
@@ -113,15 +113,15 @@ module _ (keep_going : Bool) (steps : List Step) (makefile : List ℕ) (depth : 
     pub replayed : last.text ≡ replay edited makefile (standing machine_after)
     pub undone : machine_after.floor ≡ 0 → machine_after.group ≡ None → (undos : List Step)
         → AreUndos undos → length undos ≡ length machine_after.done
-        → ((obeyed_steps keep_going undos last).refused ≡ 0)
-        × ((obeyed_steps keep_going undos last).shown.text ≡ makefile)
+        → ((executed_steps keep_going undos last).refused ≡ 0)
+        × ((executed_steps keep_going undos last).shown.text ≡ makefile)
     pub undone_by_script : machine_after.floor ≡ 0 → machine_after.group ≡ None
         → (undos : List Step) → AreUndos undos
         → length undos ≡ length machine_after.done
-        → GoesOn keep_going (obeyed_steps keep_going steps first).refused
-        → result_after keep_going (obeyed_steps keep_going (steps ++ undos) first) ≡ record {
-          outcome = outcome_after (obeyed_steps keep_going steps first).refused;
-          report = (obeyed_steps keep_going steps first).report;
+        → GoesOn keep_going (executed_steps keep_going steps first).refused
+        → result_after keep_going (executed_steps keep_going (steps ++ undos) first) ≡ record {
+          outcome = outcome_after (executed_steps keep_going steps first).refused;
+          report = (executed_steps keep_going steps first).report;
           output = Some makefile;
         }
 
@@ -138,7 +138,7 @@ RunsKeepEveryByte =
 
 -- ---- scripts without alternatives
 
--- A script without `try` and `or` runs as its commands do, each obeyed in its turn and each refusal
+-- A script without `try` and `or` runs as its commands do, each executed in its turn and each refusal
 -- told; unless the run ends before, for a bad depth or a script that is too long.
 abbrev pub RunsOfCommandsStay : Type 0
 RunsOfCommandsStay =

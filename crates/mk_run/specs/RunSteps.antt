@@ -11,7 +11,7 @@ use Rattle.mk_history.specs.Shown.{Shown}
 use Rattle.mk_session.specs.Sessions.{Seen, seen_opened, answer, session_refusal}
 use Rattle.mk_session.specs.Calls.{takes_memory}
 use Rattle.mk_script.specs.Scripts.{Step, IsScript, HasNoCommand}
-use Rattle.mk_run.specs.ObeyedSteps.{StepEnd, is_missing, is_met, Tries, step_end, obeyed_steps}
+use Rattle.mk_run.specs.ExecutedSteps.{StepEnd, is_missing, is_met, Tries, step_end, executed_steps}
 use Rattle.mk_run.specs.Runs.{IsTooLong, result_after}
 use Rattle.mk_run.specs.RunEnds.{HasText, Written, IsOut, IsPrefixOut, GoesOn, IsWhole, IsCut, IsLeft, IsLeftRefused, IsLeftShort, IsLeftUnreported, IsLeftCut}
 use Rattle.mk_run.specs.declared.step.RefusedCommand.{RefusedCommand}
@@ -82,7 +82,7 @@ pub record IsStepShort (IsTried : Command Edit → Type 0) (old new : Shown (Lis
   pub granted : answer command old ≡ Ok after
   pub same : new ≡ old
 
--- A step that comes to this end, and tries these commands, was obeyed: it is done, or its refusal is
+-- A step that comes to this end, and tries these commands, was executed: it is done, or its refusal is
 -- to be told, or a command found no memory.
 abbrev pub ComesTo : StepEnd → (IsTried : Command Edit → Type 0) → Result (Unit {0}) RefusedCommand
     → (old new : Shown (List ℕ)) → Type 0
@@ -91,9 +91,9 @@ ComesTo end IsTried (Err refused) old new =
     ((refused.refusal ≡ refusal.NoMemory → ⊥) → IsStepRefused end refused old new)
     × (refused.refusal ≡ refusal.NoMemory → IsStepShort IsTried old new)
 
--- a step was obeyed
-abbrev pub IsObeyed : Step → Result (Unit {0}) RefusedCommand → (old new : Shown (List ℕ)) → Type 0
-IsObeyed step result old new = ComesTo (step_end step old) (λ c. Tries step old c) result old new
+-- a step was executed
+abbrev pub IsExecuted : Step → Result (Unit {0}) RefusedCommand → (old new : Shown (List ℕ)) → Type 0
+IsExecuted step result old new = ComesTo (step_end step old) (λ c. Tries step old c) result old new
 
 -- an answer passes an edit of a chain over
 abbrev pub passes_over : Result (Unit {0}) Refusal → Bool
@@ -107,22 +107,22 @@ chain_answer n (Err r) = if is_met r then Ok tt else Err (record { line = n; ref
 
 -- ---- the steps
 
--- All steps were obeyed, and `refused` refusals were told.
-pub record AreObeyed (keep_going : Bool) (steps : List Step) (first last : Shown (List ℕ))
+-- All steps were executed, and `refused` refusals were told.
+pub record AreExecuted (keep_going : Bool) (steps : List Step) (first last : Shown (List ℕ))
     (refused : ℕ) (report : Written) : Type 0 where
   pub goes_on : GoesOn keep_going refused
-  pub number : refused ≡ (obeyed_steps keep_going steps first).refused
-  pub shown : last ≡ (obeyed_steps keep_going steps first).shown
-  pub reported : IsOut report (obeyed_steps keep_going steps first).report
+  pub number : refused ≡ (executed_steps keep_going steps first).refused
+  pub shown : last ≡ (executed_steps keep_going steps first).shown
+  pub reported : IsOut report (executed_steps keep_going steps first).report
 
 -- A refusal was told, and ended the run.
 pub record AreEnded (keep_going : Bool) (steps : List Step) (first last : Shown (List ℕ))
     (refused : ℕ) (report : Written) : Type 0 where
   pub ends : keep_going ≡ false
   pub one : refused ≡ 1
-  pub number : refused ≡ (obeyed_steps keep_going steps first).refused
-  pub shown : last ≡ (obeyed_steps keep_going steps first).shown
-  pub reported : IsOut report (obeyed_steps keep_going steps first).report
+  pub number : refused ≡ (executed_steps keep_going steps first).refused
+  pub shown : last ≡ (executed_steps keep_going steps first).shown
+  pub reported : IsOut report (executed_steps keep_going steps first).report
 
 -- The steps stopped with this outcome; the sink of the report failed only if this is Write.
 abbrev pub StopsSteps : (keep_going : Bool) → List Step → (first last : Shown (List ℕ))
@@ -133,7 +133,7 @@ StopsSteps k steps s t failed report NoMemory =
     (failed ≡ false) × IsLeftShort k steps s t report
 StopsSteps k steps s t failed report Write =
     (failed ≡ true)
-    × IsPrefixOut report (obeyed_steps k steps s).report
+    × IsPrefixOut report (executed_steps k steps s).report
     × IsLeftUnreported k steps s t
 StopsSteps k steps s t failed report outcome = ⊥
 
@@ -143,12 +143,12 @@ StopsSteps k steps s t failed report outcome = ⊥
 abbrev pub EndsSteps : (keep_going : Bool) → List Step → (first last : Shown (List ℕ))
     → (report_failed : Bool) → (report out : Written) → Outcome → Type 0
 EndsSteps k steps s t failed report out Done =
-    IsWhole (result_after k (obeyed_steps k steps s)) Done report out × IsLeft k steps s t out
+    IsWhole (result_after k (executed_steps k steps s)) Done report out × IsLeft k steps s t out
 EndsSteps k steps s t failed report out (Refused n) =
-    IsWhole (result_after k (obeyed_steps k steps s)) (Refused n) report out
+    IsWhole (result_after k (executed_steps k steps s)) (Refused n) report out
     × IsLeftRefused k steps s t out
 EndsSteps k steps s t failed report out NoMemory = IsLeftShort k steps s t report
 EndsSteps k steps s t failed report out Write =
-    IsCut (result_after k (obeyed_steps k steps s)) failed report out
+    IsCut (result_after k (executed_steps k steps s)) failed report out
     × IsLeftCut k failed steps s t
 EndsSteps k steps s t failed report out outcome = ⊥

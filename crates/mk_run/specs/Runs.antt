@@ -9,8 +9,8 @@ use Rattle.mk_history.specs.Machine.{End}
 use Rattle.mk_history.specs.Shown.{Shown, shown_opened}
 use Rattle.mk_session.specs.Sessions.{IsBadDepth, answer}
 use Rattle.mk_script.specs.Scripts.{CommandAt, Step, IsScript, HasNoCommand}
-use Rattle.mk_run.specs.ObeyedCommands.{Obeyed, obeyed}
-use Rattle.mk_run.specs.ObeyedSteps.{obeyed_steps}
+use Rattle.mk_run.specs.ExecutedCommands.{Executed, executed}
+use Rattle.mk_run.specs.ExecutedSteps.{executed_steps}
 use Rattle.mk_run.specs.declared.outcome.Outcome as o
 use Rattle.mk_run.specs.declared.outcome.Outcome.TheVariants.{Done, Refused, NotACommand, BadDepth, TooLong, TooDeep}
 
@@ -44,7 +44,7 @@ output_after false zero text = Some text
 output_after false (suc n) text = None
 
 -- what a run comes to, by what its steps come to
-abbrev pub result_after : (keep_going : Bool) → Obeyed → RunResult
+abbrev pub result_after : (keep_going : Bool) → Executed → RunResult
 result_after k did =
     record {
       outcome = outcome_after did.refused;
@@ -69,24 +69,24 @@ InCase Case Then Else = (Case × Then) ⊎ ((Case → ⊥) × Else)
 -- A run over a makefile, with what it comes to from what is shown of the makefile, by the first case
 -- that holds: the makefile is too long, or it is too deep; otherwise the result is that of what it
 -- comes to.
-abbrev IsRunFrom : (comes_to : Shown (List ℕ) → Obeyed) → (makefile : List ℕ) → (depth : ℕ)
+abbrev IsRunFrom : (comes_to : Shown (List ℕ) → Executed) → (makefile : List ℕ) → (depth : ℕ)
     → (keep_going : Bool) → RunResult → Type 0
 IsRunFrom comes_to makefile depth k result =
     InCase (IsTooLong makefile) (result ≡ stopped TooLong)
     (InCase (IsTooDeep makefile) (result ≡ stopped TooDeep)
     (result ≡ result_after k (comes_to (shown_opened depth makefile))))
 
--- the run of steps: each is obeyed in its turn
+-- the run of steps: each is executed in its turn
 abbrev pub IsRunOf : List Step → (makefile : List ℕ) → (depth : ℕ) → (keep_going : Bool)
     → RunResult → Type 0
 IsRunOf steps makefile depth k result =
-    IsRunFrom (λ s. obeyed_steps k steps s) makefile depth k result
+    IsRunFrom (λ s. executed_steps k steps s) makefile depth k result
 
--- the run of commands without alternatives: each is obeyed in its turn
+-- the run of commands without alternatives: each is executed in its turn
 abbrev pub IsRunOfCommands : List CommandAt → (makefile : List ℕ) → (depth : ℕ)
     → (keep_going : Bool) → RunResult → Type 0
 IsRunOfCommands commands makefile depth k result =
-    IsRunFrom (λ s. obeyed k commands s) makefile depth k result
+    IsRunFrom (λ s. executed k commands s) makefile depth k result
 
 -- The run of a script over a makefile comes to this result, by the first case that holds: the depth
 -- is bad, or the script is too long, or a line of the script is no command; otherwise it is the run

@@ -5,13 +5,13 @@ ghost use Rattle.mk_script.specs.Scripts.{step_of};
 ghost use Rattle.mk_run.specs.Outcome.{is_printed, may_report};
 ghost use Rattle.mk_run.specs.Runs.{IsTooLong, ended};
 ghost use Rattle.mk_run.specs.RunEnds.{IsRunOver, Leaves, PutsOut, PutsOutIf, ReadsOnce, TellsFaults, written};
-ghost use Rattle.mk_run.specs.Tellings.{IsTold, TellsRun, TellsSteps, tellings};
-ghost use Rattle.mk_run.specs.RunSteps.{AreObeyed, EndsSteps, GivesSession, GivesSteps, StopsMakefile, StopsScript, StopsSteps};
+ghost use Rattle.mk_run.specs.Events.{IsTold, TellsRun, TellsSteps, events};
+ghost use Rattle.mk_run.specs.RunSteps.{AreExecuted, EndsSteps, GivesSession, GivesSteps, StopsMakefile, StopsScript, StopsSteps};
 
+use crate::observer::{Observer, Reported};
 use crate::outcome::Outcome;
 use crate::report::report_refusal;
-use crate::step::{RefusedCommand, edit_at, obey_step};
-use crate::witness::{Reported, Witness};
+use crate::step::{RefusedCommand, edit_at, execute_step};
 use mk_history::history::is_bad_depth;
 use mk_lines::source::{BUFFER, MAX_TEXT, read_all};
 use mk_lines::{ByteSink, ByteSource, Fault};
@@ -132,37 +132,37 @@ fn asked_by<A: Allocator>(steps: &[Step<A>]) -> Asked {
     asked
 }
 
-// Obeys the steps in order, and answers how many refusals were told. The line on each refusal is
+// Executes the steps in order, and answers how many refusals were told. The line on each refusal is
 // written at once.
-fn obey_all<A, P, T>(
+fn execute_all<A, P, T>(
     session: &mut Session<A>,
     steps: &[Step<A>],
     keep_going: bool,
     report: &mut P,
-    witness: &mut T,
+    observer: &mut T,
 ) -> Result<u64, Outcome>
 where
     A: Allocator + Copy,
     P: ByteSink,
-    T: Witness<A>,
+    T: Observer<A>,
     requires { P.failed report.old ≡ false }
-    ensures obeyed { IfOk result (λ refused.
-        AreObeyed keep_going (map step_of steps.now) session.old.shown session.new.shown refused
+    ensures executed { IfOk result (λ refused.
+        AreExecuted keep_going (map step_of steps.now) session.old.shown session.new.shown refused
         (written (P.contents report.old) (P.contents report.new))) }
     ensures works { OnOk result (P.failed report.new ≡ false) }
     ensures stops { IfErr result (λ outcome.
         StopsSteps keep_going (map step_of steps.now) session.old.shown session.new.shown
         (P.failed report.new) (written (P.contents report.old) (P.contents report.new)) outcome) }
     ensures unflushed { P.flushes report.new ≡ P.flushes report.old }
-    ensures told { OnOk result (IsTold (T.told witness.old) (T.told witness.new)
-        (tellings keep_going (map step_of steps.now) session.old.shown)) }
+    ensures told { OnOk result (IsTold (T.told observer.old) (T.told observer.new)
+        (events keep_going (map step_of steps.now) session.old.shown)) }
     ensures told_end { IfErr result (λ outcome. TellsSteps keep_going (map step_of steps.now)
-        session.old.shown (T.told witness.old) (T.told witness.new) outcome) }
+        session.old.shown (T.told observer.old) (T.told observer.new) outcome) }
 {
     expect_steps(session, steps);
     let mut refused = 0u64;
     for step in steps {
-        let Err(told) = obey_step(session, step, witness) else {
+        let Err(told) = execute_step(session, step, observer) else {
             continue;
         };
         if let Refusal::NoMemory = told.refusal {
@@ -172,7 +172,7 @@ where
             Ok(()) => refused += 1,
             Err(fault) => return Err(Outcome::from(fault)),
         }
-        tell(witness, step, told, session);
+        tell(observer, step, told, session);
         if !keep_going {
             return Err(Outcome::Refused(refused));
         }
@@ -180,14 +180,14 @@ where
     Ok(refused)
 }
 
-// Tells the witness of a refusal that a step came to, once its line is in the report.
-fn tell<A: Allocator, T: Witness<A>>(
-    witness: &mut T,
+// Tells the observer of a refusal that a step came to, once its line is in the report.
+fn tell<A: Allocator, T: Observer<A>>(
+    observer: &mut T,
     step: &Step<A>,
     told: RefusedCommand,
     session: &Session<A>,
 )
-    ensures { IsTold (T.told witness.old) (T.told witness.new)
+    ensures { IsTold (T.told observer.old) (T.told observer.new)
         (record { line = told.line; refusal = told.refusal; shown = session.now.shown } ∷ []) }
 {
     let reported = Reported {
@@ -195,7 +195,7 @@ fn tell<A: Allocator, T: Witness<A>>(
         edit: edit_at(step, told.line),
         refusal: told.refusal,
     };
-    witness.refused(&reported, session);
+    observer.refused(&reported, session);
 }
 
 // Ends a group that is still open, writes the text out, and flushes it once.
@@ -215,20 +215,20 @@ fn put_out<A: Allocator + Copy, W: ByteSink>(
     }
 }
 
-// Obeys the steps, and writes out the text that they lead to.
-fn obey_and_put_out<A, W, P, T>(
+// Executes the steps, and writes out the text that they lead to.
+fn execute_and_put_out<A, W, P, T>(
     session: &mut Session<A>,
     steps: &[Step<A>],
     keep_going: bool,
     out: &mut W,
     report: &mut P,
-    witness: &mut T,
+    observer: &mut T,
 ) -> Outcome
 where
     A: Allocator + Copy,
     W: ByteSink,
     P: ByteSink,
-    T: Witness<A>,
+    T: Observer<A>,
     requires out_works { W.failed out.old ≡ false }
     requires report_works { P.failed report.old ≡ false }
     ensures ends { EndsSteps keep_going (map step_of steps.now) session.old.shown
@@ -240,9 +240,9 @@ where
     ensures write { result ≡ Outcome.Write ↔ IsTrue (W.failed out.new || P.failed report.new) }
     ensures report { P.flushes report.new ≡ P.flushes report.old }
     ensures told { TellsSteps keep_going (map step_of steps.now) session.old.shown
-        (T.told witness.old) (T.told witness.new) result }
+        (T.told observer.old) (T.told observer.new) result }
 {
-    let refused = match obey_all(session, steps, keep_going, report, witness) {
+    let refused = match execute_all(session, steps, keep_going, report, observer) {
         Ok(refused) => refused,
         Err(early) => return early,
     };
@@ -263,7 +263,7 @@ pub fn run_steps<A, R, W, P, T>(
     keep_going: bool,
     out: &mut W,
     report: &mut P,
-    witness: &mut T,
+    observer: &mut T,
     kept: &mut Option<Session<A>>,
 ) -> Outcome
 where
@@ -271,7 +271,7 @@ where
     R: ByteSource,
     W: ByteSink,
     P: ByteSink,
-    T: Witness<A>,
+    T: Observer<A>,
     requires makefile_works { R.failed makefile.old ≡ false }
     requires out_works { W.failed out.old ≡ false }
     requires report_works { P.failed report.old ≡ false }
@@ -294,28 +294,28 @@ where
         (MAX_TEXT + BUFFER) }
     ensures told { (script : Option (List ℕ)) → GivesSteps script (map step_of steps.now)
         → TellsRun (R.remaining makefile.old) script depth keep_going
-        (T.told witness.old) (T.told witness.new) result }
+        (T.told observer.old) (T.told observer.new) result }
 {
     let session = match open_makefile(alloc, makefile, depth) {
         Ok(session) => session,
         Err(outcome) => return outcome,
     };
     let session = kept.insert(session);
-    obey_and_put_out(session, steps, keep_going, out, report, witness)
+    execute_and_put_out(session, steps, keep_going, out, report, observer)
 }
 
 /// Runs a script over a makefile. The text after the script's commands goes to `out`, a line on each
 /// refused command goes to `report`, and the session is left in `kept`.
 ///
 /// In this order: the depth is tested; the script is read to its end and parsed whole; the makefile
-/// is read to its end and opened; the steps are obeyed in order; a group that is still open is
+/// is read to its end and opened; the steps are executed in order; a group that is still open is
 /// ended; the text is written to `out` and then flushed once. A refused command changes nothing,
 /// and its line is written at once; `report` is not flushed. Behind `try` and in a chain some
-/// refusals are none: they are not reported. `witness` is told of each refusal once its line is
-/// written, and of each edit that is made; `&mut ()` is a witness that does nothing. Each clause holds
-/// whatever the witness does. `depth` is how many edits or groups can be undone.
+/// refusals are none: they are not reported. `observer` is told of each refusal once its line is
+/// written, and of each edit that is made; `&mut ()` is an observer that does nothing. Each clause holds
+/// whatever the observer does. `depth` is how many edits or groups can be undone.
 /// Without `keep_going` the first refusal that is reported ends the run; with it, the other
-/// commands are obeyed too. A reader is read no further once more than 16,777,216 bytes have come.
+/// commands are executed too. A reader is read no further once more than 16,777,216 bytes have come.
 ///
 /// [`Outcome::NoMemory`] comes if a growth was refused. It hides what was not reached before that:
 /// further bytes of a reader, a later line of the script that is no command, how deep the makefile
@@ -327,7 +327,7 @@ where
 /// What `kept` has after the run, with all that can be undone and redone:
 ///
 /// - if no command was reached, what it was;
-/// - if all commands were obeyed, the session after them, with no group open, whether the text is
+/// - if all commands were executed, the session after them, with no group open, whether the text is
 ///   out or not;
 /// - if the run ended at a command, the session after the commands before it. A group that was open
 ///   stays open.
@@ -343,7 +343,7 @@ pub fn run<A, R, S, W, P, T>(
     keep_going: bool,
     out: &mut W,
     report: &mut P,
-    witness: &mut T,
+    observer: &mut T,
     kept: &mut Option<Session<A>>,
 ) -> Outcome
 where
@@ -352,7 +352,7 @@ where
     S: ByteSource,
     W: ByteSink,
     P: ByteSink,
-    T: Witness<A>,
+    T: Observer<A>,
     requires makefile_works { R.failed makefile.old ≡ false }
     requires script_works { S.failed script.old ≡ false }
     requires out_works { W.failed out.old ≡ false }
@@ -387,9 +387,9 @@ where
     ensures kept { Leaves (R.remaining makefile.old) (S.remaining script.old) depth keep_going
         (P.failed report.new) (written (P.contents report.old) (P.contents report.new))
         (written (W.contents out.old) (W.contents out.new)) kept.old kept.new result }
-    // If the run comes to its end, the witness was told of each refusal that is reported, in order.
+    // If the run comes to its end, the observer was told of each refusal that is reported, in order.
     ensures told { TellsRun (R.remaining makefile.old) (S.remaining script.old) depth keep_going
-        (T.told witness.old) (T.told witness.new) result }
+        (T.told observer.old) (T.told observer.new) result }
 {
     if is_bad_depth(depth) {
         return Outcome::BadDepth;
@@ -406,7 +406,7 @@ where
         keep_going,
         out,
         report,
-        witness,
+        observer,
         kept,
     )
 }

@@ -26,7 +26,7 @@ pub fn runs_keep_every_byte()
 
 /// A script without `try` and `or` runs as a list of commands.
 ///
-/// Each command is obeyed in its turn, and each refusal is told and counted: what `try` and `or` mean
+/// Each command is executed in its turn, and each refusal is told and counted: what `try` and `or` mean
 /// changes nothing of the report, the output and the outcome of such a script.
 pub fn scripts_of_commands_run_as_commands()
     ensures { RunsOfCommandsStay }

@@ -1,14 +1,14 @@
-//! One step of a script, obeyed by a session.
+//! One step of a script, executed by a session.
 ghost use Rattle.std.specs.Prelude.{◌≡◌, ◌≤◌, ◌+◌, OnErr, OnOk, IfErr, Ok, map};
 ghost use Rattle.mk_edit_language.specs.Costs.{cost};
 ghost use Rattle.mk_edit_language.specs.EditViews.{edit_of};
 ghost use Rattle.mk_history.specs.Machine.{Apply};
 ghost use Rattle.mk_session.specs.Sessions.{IsEditRefusal, answer};
 ghost use Rattle.mk_script.specs.Scripts.{Alone, Tried, numbered, numbered_edit, step_of};
-ghost use Rattle.mk_run.specs.ObeyedSteps.{ChainTries, chain_end, is_met, is_missing};
-ghost use Rattle.mk_run.specs.RunSteps.{ComesTo, IsObeyed, chain_answer, passes_over};
+ghost use Rattle.mk_run.specs.ExecutedSteps.{ChainTries, chain_end, is_met, is_missing};
+ghost use Rattle.mk_run.specs.RunSteps.{ComesTo, IsExecuted, chain_answer, passes_over};
 
-use crate::witness::Witness;
+use crate::observer::Observer;
 use mk_script::{NumberedCommand, NumberedEdit, Step};
 use mk_session::{Command, Edit, Refusal, Session};
 use std::alloc::Allocator;
@@ -22,25 +22,25 @@ pub struct RefusedCommand {
     pub refusal: Refusal,
 }
 
-/// Obeys a step.
+/// Executes a step.
 ///
 /// # Errors
 ///
 /// The refusal that is to be told, with the number of its line: that of a command alone; behind
 /// `try` one that is not idle; of a chain one that ends it, unless there is nothing to do.
 /// [`Refusal::NoMemory`] if a growth was refused.
-pub fn obey_step<A: Allocator + Copy, T: Witness<A>>(
+pub fn execute_step<A: Allocator + Copy, T: Observer<A>>(
     session: &mut Session<A>,
     step: &Step<A>,
-    witness: &mut T,
+    observer: &mut T,
 ) -> Result<(), RefusedCommand>
-    ensures obeyed { IsObeyed (step_of step.now) result session.old.shown session.new.shown }
-    ensures told { T.told witness.new ≡ T.told witness.old }
+    ensures executed { IsExecuted (step_of step.now) result session.old.shown session.new.shown }
+    ensures told { T.told observer.new ≡ T.told observer.old }
 {
     match step {
-        Step::Alone(command) => obey_alone(session, command, witness),
-        Step::Try(tried) => obey_try(session, tried, witness),
-        Step::Chain(chain) => obey_chain(session, &chain.first, &chain.others, witness),
+        Step::Alone(command) => execute_alone(session, command, observer),
+        Step::Try(tried) => execute_try(session, tried, observer),
+        Step::Chain(chain) => execute_chain(session, &chain.first, &chain.others, observer),
     }
 }
 
@@ -58,11 +58,11 @@ fn is_met(refusal: Refusal) -> bool
     matches!(refusal, Refusal::Absent | Refusal::Already)
 }
 
-// Makes an edit as the session does, and tells the witness if it was made.
-fn apply<A: Allocator + Copy, T: Witness<A>>(
+// Makes an edit as the session does, and tells the observer if it was made.
+fn apply<A: Allocator + Copy, T: Observer<A>>(
     session: &mut Session<A>,
     tried: &NumberedEdit<A>,
-    witness: &mut T,
+    observer: &mut T,
 ) -> Result<(), Refusal>
     ensures done { OnOk result
         (answer (Apply (edit_of tried.now.edit)) session.old.shown ≡ Ok session.new.shown) }
@@ -71,11 +71,11 @@ fn apply<A: Allocator + Copy, T: Witness<A>>(
     ensures same { OnErr result (session.new.shown ≡ session.old.shown) }
     ensures few_read { session.new.rereads
         ≤ session.old.rereads + cost session.old.shown.text (edit_of tried.now.edit) }
-    ensures told { T.told witness.new ≡ T.told witness.old }
+    ensures told { T.told observer.new ≡ T.told observer.old }
 {
     let answer = session.apply(&tried.edit);
     if answer.is_ok() {
-        witness.accepted(tried.line, &tried.edit, session);
+        observer.accepted(tried.line, &tried.edit, session);
     }
     answer
 }
@@ -99,19 +99,19 @@ pub(crate) fn edit_at<A: Allocator>(step: &Step<A>, line: u64) -> Option<&Edit<A
     }
 }
 
-// Obeys a command alone: each refusal is told.
-fn obey_alone<A: Allocator + Copy, T: Witness<A>>(
+// Executes a command alone: each refusal is told.
+fn execute_alone<A: Allocator + Copy, T: Observer<A>>(
     session: &mut Session<A>,
     command: &NumberedCommand<A>,
-    witness: &mut T,
+    observer: &mut T,
 ) -> Result<(), RefusedCommand>
-    ensures obeyed { IsObeyed (Alone (numbered command.now)) result session.old.shown session.new.shown }
-    ensures told { T.told witness.new ≡ T.told witness.old }
+    ensures executed { IsExecuted (Alone (numbered command.now)) result session.old.shown session.new.shown }
+    ensures told { T.told observer.new ≡ T.told observer.old }
 {
-    match session.obey(&command.command) {
+    match session.execute(&command.command) {
         Ok(()) => {
             if let Command::Apply(edit) = &command.command {
-                witness.accepted(command.line, edit, session);
+                observer.accepted(command.line, edit, session);
             }
             Ok(())
         }
@@ -122,17 +122,17 @@ fn obey_alone<A: Allocator + Copy, T: Witness<A>>(
     }
 }
 
-// Obeys an edit behind `try`: an idle refusal is none.
-fn obey_try<A: Allocator + Copy, T: Witness<A>>(
+// Executes an edit behind `try`: an idle refusal is none.
+fn execute_try<A: Allocator + Copy, T: Observer<A>>(
     session: &mut Session<A>,
     tried: &NumberedEdit<A>,
-    witness: &mut T,
+    observer: &mut T,
 ) -> Result<(), RefusedCommand>
-    ensures obeyed { IsObeyed (Tried (numbered_edit tried.now)) result session.old.shown
+    ensures executed { IsExecuted (Tried (numbered_edit tried.now)) result session.old.shown
         session.new.shown }
-    ensures told { T.told witness.new ≡ T.told witness.old }
+    ensures told { T.told observer.new ≡ T.told observer.old }
 {
-    match apply(session, tried, witness) {
+    match apply(session, tried, observer) {
         Ok(()) => Ok(()),
         Err(refusal) if is_missing(refusal) || is_met(refusal) => Ok(()),
         Err(refusal) => Err(RefusedCommand {
@@ -142,28 +142,28 @@ fn obey_try<A: Allocator + Copy, T: Witness<A>>(
     }
 }
 
-// Obeys a chain: its edits are tried in order, until one is not passed over.
-fn obey_chain<A: Allocator + Copy, T: Witness<A>>(
+// Executes a chain: its edits are tried in order, until one is not passed over.
+fn execute_chain<A: Allocator + Copy, T: Observer<A>>(
     session: &mut Session<A>,
     first: &NumberedEdit<A>,
     others: &[NumberedEdit<A>],
-    witness: &mut T,
+    observer: &mut T,
 ) -> Result<(), RefusedCommand>
-    ensures obeyed { ComesTo
+    ensures executed { ComesTo
         (chain_end (numbered_edit first.now) (map numbered_edit others.now) session.old.shown)
         (λ command. ChainTries (numbered_edit first.now) (map numbered_edit others.now)
         session.old.shown command) result session.old.shown session.new.shown }
-    ensures told { T.told witness.new ≡ T.told witness.old }
+    ensures told { T.told observer.new ≡ T.told observer.old }
 {
     let mut tried = first;
     for other in others {
-        let answer = apply(session, tried, witness);
+        let answer = apply(session, tried, observer);
         if !passes_over(answer) {
             return chain_answer(tried.line, answer);
         }
         tried = other;
     }
-    chain_answer(tried.line, apply(session, tried, witness))
+    chain_answer(tried.line, apply(session, tried, observer))
 }
 
 // Whether an answer passes an edit of a chain over: there is nothing on which it is to be made.

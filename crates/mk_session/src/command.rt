@@ -13,7 +13,7 @@ impl<A: Allocator + Copy> Session<A> {
     /// # Errors
     ///
     /// The errors of the call that the command stands for.
-    pub fn obey(&mut self, command: &Command<A>) -> Result<(), Refusal>
+    pub fn execute(&mut self, command: &Command<A>) -> Result<(), Refusal>
         ensures { IsAnswered (command_of command.now) result self.old self.new }
     {
         match command {

@@ -22,7 +22,7 @@ use mk_lines::sink::write_all;
 use mk_lines::source::read_all;
 use mk_lines::{ByteSink, ByteSource, Fault, StdSource};
 use mk_repl::TextSink;
-use mk_run::{Outcome, Step, Witness};
+use mk_run::{Observer, Outcome, Step};
 use std::alloc::Allocator;
 
 // The makefile where it could not be read to its end: a source that fails at once, or that never
@@ -109,13 +109,13 @@ fn run_unread<A, S, P, T>(
     fault: Fault,
     script: &mut S,
     report: &mut P,
-    witness: &mut T,
+    observer: &mut T,
 ) -> Outcome
 where
     A: Allocator + Copy,
     S: ByteSource,
     P: ByteSink,
-    T: Witness<A>,
+    T: Observer<A>,
     requires script_works { S.failed script.old ≡ false }
     requires report_works { P.failed report.old ≡ false }
     ensures unprinted { is_printed result words.now.keep_going ≡ false }
@@ -132,7 +132,7 @@ where
         script,
         &mut sink,
         report,
-        witness,
+        observer,
     );
     if fault == Fault::NoMemory || is_printed(&outcome, words.keep_going) {
         return Outcome::NoMemory;
@@ -188,7 +188,7 @@ pub(crate) fn run_diff<A, R, S, W, P, T>(
     script: &mut S,
     out: &mut W,
     report: &mut P,
-    witness: &mut T,
+    observer: &mut T,
 ) -> Outcome
 where
     A: Allocator + Copy,
@@ -196,7 +196,7 @@ where
     S: ByteSource,
     P: ByteSink,
     W: ByteSink,
-    T: Witness<A>,
+    T: Observer<A>,
     requires script_works { S.failed script.old ≡ false }
     requires makefile_works { R.failed makefile.old ≡ false }
     requires report_works { P.failed report.old ≡ false }
@@ -211,7 +211,7 @@ where
 {
     let old = match read_all(alloc, makefile) {
         Ok(old) => old,
-        Err(fault) => return run_unread(alloc, words, fault, script, report, witness),
+        Err(fault) => return run_unread(alloc, words, fault, script, report, observer),
     };
     let mut sink = TextSink::new(alloc);
     let mut source = StdSource::new(old.as_slice());
@@ -222,7 +222,7 @@ where
         script,
         &mut sink,
         report,
-        witness,
+        observer,
     );
     put_diff(alloc, words.keep_going, form, &old, &sink, outcome, out)
 }
@@ -237,14 +237,14 @@ pub(crate) fn run_steps_diff<A, R, W, P, T>(
     makefile: &mut R,
     out: &mut W,
     report: &mut P,
-    witness: &mut T,
+    observer: &mut T,
 ) -> Outcome
 where
     A: Allocator + Copy,
     R: ByteSource,
     P: ByteSink,
     W: ByteSink,
-    T: Witness<A>,
+    T: Observer<A>,
     requires makefile_works { R.failed makefile.old ≡ false }
     requires report_works { P.failed report.old ≡ false }
     requires out_works { W.failed out.old ≡ false }
@@ -264,6 +264,14 @@ where
     };
     let mut sink = TextSink::new(alloc);
     let mut source = StdSource::new(old.as_slice());
-    let outcome = run_steps_to(alloc, words, steps, &mut source, &mut sink, report, witness);
+    let outcome = run_steps_to(
+        alloc,
+        words,
+        steps,
+        &mut source,
+        &mut sink,
+        report,
+        observer,
+    );
     put_diff(alloc, words.keep_going, form, &old, &sink, outcome, out)
 }

@@ -15,7 +15,7 @@ use mk_fs::{CannotOpen, OutFile, STANDARD_INPUT, STANDARD_OUTPUT, WithError, ope
 use mk_history::history::is_bad_depth;
 use mk_lines::{ByteSink, ByteSource, StdSink, StdSource};
 use mk_notes::{COMMAND_LINES, NotesBelow};
-use mk_run::{Outcome, Witness, read_script, run};
+use mk_run::{Observer, Outcome, read_script, run};
 use std::alloc::{Allocator, Global};
 use std::fs::File;
 use std::io::{IsTerminal, Read, Stderr};
@@ -34,7 +34,7 @@ pub(crate) fn run_to<A, R, S, W, P, T>(
     script: &mut S,
     out: &mut W,
     report: &mut P,
-    witness: &mut T,
+    observer: &mut T,
 ) -> Outcome
 where
     A: Allocator + Copy,
@@ -42,7 +42,7 @@ where
     S: ByteSource,
     W: ByteSink,
     P: ByteSink,
-    T: Witness<A>,
+    T: Observer<A>,
     requires makefile_works { R.failed makefile.old ≡ false }
     requires script_works { S.failed script.old ≡ false }
     requires out_works { W.failed out.old ≡ false }
@@ -63,14 +63,14 @@ where
         words.keep_going,
         out,
         report,
-        witness,
+        observer,
         &mut kept,
     );
     mem::forget(kept);
     outcome
 }
 
-// The witness that writes notes below the lines on refusals, if there are notes.
+// The observer that writes notes below the lines on refusals, if there are notes.
 fn notes_below<'a>(
     rt: &'a HostRuntime,
     words: &EditWords<'a>,
@@ -104,11 +104,11 @@ where
 {
     let alloc = rt.alloc();
     let report = &mut StdSink::new(rt.stderr());
-    let witness = &mut notes_below(rt, words, file);
+    let observer = &mut notes_below(rt, words, file);
     if let Some(form) = form {
-        return run_diff(alloc, words, form, makefile, script, out, report, witness);
+        return run_diff(alloc, words, form, makefile, script, out, report, observer);
     }
-    run_to(alloc, words, makefile, script, out, report, witness)
+    run_to(alloc, words, makefile, script, out, report, observer)
 }
 
 /// How the diff of a makefile is shown that goes to a terminal, or to something else; None where the
@@ -170,7 +170,14 @@ fn run_named<'a, R: Read + Drop, S: ByteSource>(
     requires script_works { S.failed script.old ≡ false }
 {
     let mut makefile = WithError::new(makefile);
-    let end = run_over(rt, words, file, to, &mut StdSource::new(&mut makefile), script);
+    let end = run_over(
+        rt,
+        words,
+        file,
+        to,
+        &mut StdSource::new(&mut makefile),
+        script,
+    );
     end.with_fault(makefile.fault(name))
 }
 
@@ -195,8 +202,17 @@ fn replace<'a, S: ByteSource>(
         Err(outcome) => return End::of(outcome),
     };
     let report = &mut StdSink::new(rt.stderr());
-    let witness = &mut notes_below(rt, words, file);
-    run_in_place(rt, words, steps.as_slice(), name, backup, makefile, report, witness)
+    let observer = &mut notes_below(rt, words, file);
+    run_in_place(
+        rt,
+        words,
+        steps.as_slice(),
+        name,
+        backup,
+        makefile,
+        report,
+        observer,
+    )
 }
 
 // Opens the makefile, and runs the script over it.

@@ -251,5 +251,8 @@ pub fn answered(rt: &HostRuntime, answer: &clap::Error) -> ExitCode
         let _ = answer.print(rt);
         return ExitCode::from(BAD_COMMAND_LINE);
     }
-    printed(rt, put_answer(rt.alloc(), answer, &mut StdSink::new(rt.stdout())))
+    printed(
+        rt,
+        put_answer(rt.alloc(), answer, &mut StdSink::new(rt.stdout())),
+    )
 }

@@ -9,7 +9,7 @@ use mk_cli::EditWords;
 use mk_fs::{AsRead, Expected, InPlaceFile, WithError};
 use mk_lines::source::read_all;
 use mk_lines::{ByteSink, StdSource};
-use mk_run::{Outcome, Step, Witness};
+use mk_run::{Observer, Outcome, Step};
 use std::alloc::Global;
 use std::fs::File;
 
@@ -23,11 +23,11 @@ pub(crate) fn run_in_place<'a, P, T>(
     backup: Option<&'a str>,
     makefile: &File,
     report: &mut P,
-    witness: &mut T,
+    observer: &mut T,
 ) -> End<'a>
 where
     P: ByteSink,
-    T: Witness<Global>,
+    T: Observer<Global>,
     requires report_works { P.failed report.old ≡ false }
     requires depth { IsBadDepth words.now.depth → ⊥ }
 {
@@ -44,7 +44,7 @@ where
     });
     let source = &mut StdSource::new(text);
     let mut out = InPlaceFile::new(rt, name, expected, backup);
-    let outcome = run_steps_to(alloc, words, steps, source, &mut out, report, witness);
+    let outcome = run_steps_to(alloc, words, steps, source, &mut out, report, observer);
     let end = End::of(outcome).with_fault(out.fault());
     out.close();
     end

@@ -9,7 +9,7 @@ use mk_cli::{Form, SessionWords};
 use mk_fs::{CannotOpen, Cause, STANDARD_OUTPUT, SystemFault, WithError, open};
 use mk_lines::source::read_all;
 use mk_lines::{ByteSink, ByteSource, Fault, StdSink, StdSource};
-use mk_repl::{Desk, converse, converse_at_terminal};
+use mk_repl::{Server, serve, serve_at_terminal};
 use mk_run::Outcome;
 use std::fs::File;
 use std::io::{ErrorKind, IsTerminal};
@@ -21,16 +21,16 @@ fn opened<'a>(
     rt: &'a HostRuntime,
     words: SessionWords<'a>,
     makefile: File,
-) -> Result<Desk<'a>, Fault> {
+) -> Result<Server<'a>, Fault> {
     let text = read_all(rt.alloc(), &mut StdSource::new(makefile))?;
-    Desk::open(rt, words, text, false)
+    Server::open(rt, words, text, false)
 }
 
 // Opens the makefile, which may be missing if the words say so, and a session over it.
 fn open_desk<'a>(
     rt: &'a HostRuntime,
     words: SessionWords<'a>,
-) -> Result<Result<Desk<'a>, Fault>, CannotOpen<'a>> {
+) -> Result<Result<Server<'a>, Fault>, CannotOpen<'a>> {
     match open(rt, words.file) {
         Ok(makefile) => Ok(opened(rt, words, makefile)),
         Err(
@@ -40,7 +40,7 @@ fn open_desk<'a>(
                     ..
                 },
             ),
-        ) if words.may_be_new => Ok(Desk::open(rt, words, Vec::new(rt.alloc()), true)),
+        ) if words.may_be_new => Ok(Server::open(rt, words, Vec::new(rt.alloc()), true)),
         Err(cannot) => Err(cannot),
     }
 }
@@ -75,7 +75,7 @@ fn asker_of(rt: &HostRuntime, words: SessionWords<'_>) -> Asker {
 fn reply<S: ByteSource, W: ByteSink>(
     rt: &HostRuntime,
     asker: Asker,
-    mut desk: Desk<'_>,
+    mut server: Server<'_>,
     source: &mut S,
     out: &mut W,
 ) -> Result<(), Fault>
@@ -83,27 +83,27 @@ fn reply<S: ByteSource, W: ByteSink>(
     requires out_works { W.failed out.old ≡ false }
 {
     if let Asker::Person { has_color } = asker {
-        return converse_at_terminal(desk, has_color, source, out);
+        return serve_at_terminal(server, has_color, source, out);
     }
-    let talked = converse(rt.alloc(), source, &mut desk, out);
-    mem::forget(desk);
+    let talked = serve(rt.alloc(), source, &mut server, out);
+    mem::forget(server);
     talked
 }
 
 // Replies to the lines of standard input, on standard output.
-fn talk<'a>(rt: &'a HostRuntime, words: SessionWords<'a>, desk: Desk<'a>) -> End<'a> {
+fn talk<'a>(rt: &'a HostRuntime, words: SessionWords<'a>, server: Server<'a>) -> End<'a> {
     let asker = asker_of(rt, words);
     let mut source = StdSource::new(rt.stdin());
     let mut device = WithError::new(rt.stdout());
     let mut out = StdSink::new(&mut device);
-    let talked = reply(rt, asker, desk, &mut source, &mut out);
+    let talked = reply(rt, asker, server, &mut source, &mut out);
     End::of_print(talked).with_fault(device.fault(STANDARD_OUTPUT))
 }
 
 // Opens the makefile, and replies to the lines of standard input.
 fn over_file<'a>(rt: &'a HostRuntime, words: SessionWords<'a>) -> Result<End<'a>, CannotOpen<'a>> {
     match open_desk(rt, words)? {
-        Ok(desk) => Ok(talk(rt, words, desk)),
+        Ok(server) => Ok(talk(rt, words, server)),
         Err(fault) => Ok(End::of(Outcome::from(fault))),
     }
 }

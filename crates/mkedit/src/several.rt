@@ -28,7 +28,7 @@ use mk_history::history::is_bad_depth;
 use mk_lines::sink::write_all;
 use mk_lines::{ByteSink, ByteSource, Fault, StdSink, StdSource};
 use mk_notes::{COMMAND_LINES, NotesKept};
-use mk_run::{Outcome, Step, Witness, read_script, run_steps, status};
+use mk_run::{Observer, Outcome, Step, read_script, run_steps, status};
 use std::alloc::{Allocator, Global};
 use std::fs::File;
 use std::io::{ErrorKind, IsTerminal, Read};
@@ -44,14 +44,14 @@ pub(crate) fn run_steps_to<A, R, W, P, T>(
     makefile: &mut R,
     out: &mut W,
     report: &mut P,
-    witness: &mut T,
+    observer: &mut T,
 ) -> Outcome
 where
     A: Allocator + Copy,
     R: ByteSource,
     W: ByteSink,
     P: ByteSink,
-    T: Witness<A>,
+    T: Observer<A>,
     requires makefile_works { R.failed makefile.old ≡ false }
     requires out_works { W.failed out.old ≡ false }
     requires report_works { P.failed report.old ≡ false }
@@ -72,7 +72,7 @@ where
         words.keep_going,
         out,
         report,
-        witness,
+        observer,
         &mut kept,
     );
     mem::forget(kept);
@@ -119,7 +119,7 @@ where
     write_all(out, named.as_slice())
 }
 
-// The witness that keeps the notes below the lines of a report, if there are notes.
+// The observer that keeps the notes below the lines of a report, if there are notes.
 fn notes_kept<'a>(
     rt: &HostRuntime,
     words: &EditWords<'a>,
@@ -132,25 +132,25 @@ fn notes_kept<'a>(
     }
 }
 
-// Writes the notes that a witness has kept before the first line of a report, and wipes the line on the
+// Writes the notes that an observer has kept before the first line of a report, and wipes the line on the
 // progress before. A write that fails is that of the report too, which is written behind them.
 fn put_before(
     rt: &HostRuntime,
     progress: &mut Progress<'_>,
-    witness: &Option<NotesKept<'_, Global>>,
+    observer: &Option<NotesKept<'_, Global>>,
 ) {
-    if let Some(witness) = witness {
-        if !witness.before.is_empty() {
+    if let Some(observer) = observer {
+        if !observer.before.is_empty() {
             progress.wipe();
         }
-        let _ = write_all(&mut StdSink::new(rt.stderr()), witness.before.as_slice());
+        let _ = write_all(&mut StdSink::new(rt.stderr()), observer.before.as_slice());
     }
 }
 
-// The notes that a witness has kept below the lines of a report.
-fn notes_below<'a>(witness: &'a Option<NotesKept<'_, Global>>) -> &'a [Vec<u8>] {
-    match witness {
-        Some(witness) => witness.below.as_slice(),
+// The notes that an observer has kept below the lines of a report.
+fn notes_below<'a>(observer: &'a Option<NotesKept<'_, Global>>) -> &'a [Vec<u8>] {
+    match observer {
+        Some(observer) => observer.below.as_slice(),
         None => &[],
     }
 }
@@ -164,7 +164,7 @@ fn run_kept<R: ByteSource, W: ByteSink>(
     makefile: &mut R,
     out: &mut W,
     report: &mut Vec<u8>,
-    witness: &mut Option<NotesKept<'_, Global>>,
+    observer: &mut Option<NotesKept<'_, Global>>,
 ) -> Outcome
     requires makefile_works { R.failed makefile.old ≡ false }
     requires out_works { W.failed out.old ≡ false }
@@ -174,10 +174,10 @@ fn run_kept<R: ByteSource, W: ByteSink>(
     let outcome = match form {
         Some(form) => {
             run_steps_diff(
-                alloc, words, form, steps, makefile, out, &mut lines, witness,
+                alloc, words, form, steps, makefile, out, &mut lines, observer,
             )
         }
-        None => run_steps_to(alloc, words, steps, makefile, out, &mut lines, witness),
+        None => run_steps_to(alloc, words, steps, makefile, out, &mut lines, observer),
     };
     kept_outcome(outcome, lines.failed())
 }
@@ -198,7 +198,7 @@ fn run_over<'a, R: ByteSource>(
     to: Printed<'a>,
     makefile: &mut R,
     report: &mut Vec<u8>,
-    witness: &mut Option<NotesKept<'a, Global>>,
+    observer: &mut Option<NotesKept<'a, Global>>,
 ) -> End<'a>
     requires makefile_works { R.failed makefile.old ≡ false }
     requires depth { IsBadDepth words.now.depth → ⊥ }
@@ -209,7 +209,7 @@ fn run_over<'a, R: ByteSource>(
             let mut out = OutFile::new(rt, name);
             let form = form_of(rt, words, file, false);
             let outcome = run_kept(
-                alloc, words, form, steps, makefile, &mut out, report, witness,
+                alloc, words, form, steps, makefile, &mut out, report, observer,
             );
             End::of(outcome).with_fault(out.fault())
         }
@@ -218,7 +218,7 @@ fn run_over<'a, R: ByteSource>(
             let mut device = WithError::new(rt.stdout());
             let mut out = StdSink::new(&mut device);
             let outcome = run_kept(
-                alloc, words, form, steps, makefile, &mut out, report, witness,
+                alloc, words, form, steps, makefile, &mut out, report, observer,
             );
             End::of(outcome).with_fault(device.fault(STANDARD_OUTPUT))
         }
@@ -235,7 +235,7 @@ fn run_noted<'a, R: Read + Drop>(
     name: &'a str,
     makefile: R,
     report: &mut Vec<u8>,
-    witness: &mut Option<NotesKept<'a, Global>>,
+    observer: &mut Option<NotesKept<'a, Global>>,
 ) -> End<'a>
     requires { IsBadDepth words.now.depth → ⊥ }
 {
@@ -248,7 +248,7 @@ fn run_noted<'a, R: Read + Drop>(
         to,
         &mut StdSource::new(&mut makefile),
         report,
-        witness,
+        observer,
     );
     end.with_fault(makefile.fault(name))
 }
@@ -262,13 +262,13 @@ fn replace<'a>(
     backup: Option<&'a str>,
     makefile: &File,
     report: &mut Vec<u8>,
-    witness: &mut Option<NotesKept<'a, Global>>,
+    observer: &mut Option<NotesKept<'a, Global>>,
 ) -> End<'a>
     requires { IsBadDepth words.now.depth → ⊥ }
 {
     let mut lines = StdSink::new(report);
     let end = run_in_place(
-        rt, words, steps, name, backup, makefile, &mut lines, witness,
+        rt, words, steps, name, backup, makefile, &mut lines, observer,
     );
     End {
         outcome: kept_outcome(end.outcome, lines.failed()),
@@ -283,7 +283,7 @@ fn run_by<'a>(
     steps: &[Step<Global>],
     file: Input<'a>,
     report: &mut Vec<u8>,
-    witness: &mut Option<NotesKept<'a, Global>>,
+    observer: &mut Option<NotesKept<'a, Global>>,
 ) -> Result<End<'a>, CannotOpen<'a>>
     requires { IsBadDepth words.now.depth → ⊥ }
 {
@@ -291,18 +291,18 @@ fn run_by<'a>(
         Destination::Printed(to) => to,
         Destination::InPlace(name, backup) => {
             let makefile = open(rt, name)?;
-            return Ok(replace(rt, words, steps, name, backup, &makefile, report, witness));
+            return Ok(replace(rt, words, steps, name, backup, &makefile, report, observer));
         }
     };
     match file {
         Input::File(name) => {
             let makefile = open(rt, name)?;
-            Ok(run_noted(rt, words, steps, file, to, name, makefile, report, witness))
+            Ok(run_noted(rt, words, steps, file, to, name, makefile, report, observer))
         }
         Input::Standard => {
             let name = STANDARD_INPUT;
             let makefile = rt.stdin();
-            Ok(run_noted(rt, words, steps, file, to, name, makefile, report, witness))
+            Ok(run_noted(rt, words, steps, file, to, name, makefile, report, observer))
         }
     }
 }
@@ -370,11 +370,11 @@ fn edit_one<'a>(
     requires { IsBadDepth words.now.depth → ⊥ }
 {
     let mut report = Vec::new(rt.alloc());
-    let mut witness = notes_kept(rt, words, file);
-    match run_by(rt, words, steps, file, &mut report, &mut witness) {
+    let mut observer = notes_kept(rt, words, file);
+    match run_by(rt, words, steps, file, &mut report, &mut observer) {
         Ok(end) => {
-            put_before(rt, progress, &witness);
-            let below = notes_below(&witness);
+            put_before(rt, progress, &observer);
+            let below = notes_below(&observer);
             Ran {
                 status: tell_named(rt, progress, file, &mut report, below, &end, words.notes),
                 is_left: is_left(words, &end),

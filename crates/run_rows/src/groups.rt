@@ -1,12 +1,12 @@
 //! Groups of edits that are one call, and their dry runs.
 
-use crate::sessions::{commands_of, edit_of, obeyed, text_of};
+use crate::sessions::{commands_of, edit_of, executed, text_of};
 use mk_lines::Fault;
 use mk_session::{Edit, Refusal, Session};
 use test_support::text::joined;
 use test_support::{Case, Heap};
 
-/// The answer of a session to a group of edits or to its dry run, once it has obeyed a script; whether the
+/// The answer of a session to a group of edits or to its dry run, once it has executed a script; whether the
 /// session can undo and redo then; and its text.
 pub fn answered(
     case: &Case<'_>,
@@ -18,7 +18,7 @@ pub fn answered(
     let before = commands_of(case.alloc, case.heap, before)?;
     let edits = edits_of(case, edits)?;
     let mut session = Session::open(case.heap, makefile, 100)?;
-    obeyed(case.alloc, &mut session, &before)?;
+    executed(case.alloc, &mut session, &before)?;
     answer(case, &mut session, &edits, is_dry)
 }
 

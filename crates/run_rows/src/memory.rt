@@ -2,7 +2,7 @@
 //! document keeps of its new lines.
 
 use crate::index::first_growths;
-use crate::sessions::{growths_of, obey};
+use crate::sessions::{execute, growths_of};
 use mk_lines::Fault;
 use mk_session::Session;
 use std::alloc::Global;
@@ -80,8 +80,8 @@ fn indexed_bytes<'h>(
 ) -> Result<u64, Fault> {
     session.expect_edits();
     session.expect_renames();
-    obey(heap, session, b"set A 2")?;
-    obey(heap, session, b"undo")?;
+    execute(heap, session, b"set A 2")?;
+    execute(heap, session, b"undo")?;
     Ok(growths_of(heap, session, edit)?.bytes)
 }
 

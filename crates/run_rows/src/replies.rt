@@ -3,7 +3,7 @@ ghost use Rattle.std.specs.Prelude.{◌≡◌, false};
 
 use mk_lines::{ByteSink, Fault};
 use mk_repl::{
-    Obeyed, Reverted, answer_line, answer_lines, line_length, lines_between, obey_line,
+    Executed, Reverted, answer_line, answer_lines, execute_line, line_length, lines_between,
     read_request, revert,
 };
 use mk_session::{Refusal, Session};
@@ -101,7 +101,7 @@ fn revert_edits<'h>(
     makefile: &[u8],
 ) -> Result<Vec<u8>, Fault> {
     for line in [b"set CC a", b"set CC b"] {
-        if obey_line(case.heap, session, line, &mut ()) != Obeyed::Done {
+        if execute_line(case.heap, session, line, &mut ()) != Executed::Done {
             return Err(Fault::NoMemory);
         }
     }

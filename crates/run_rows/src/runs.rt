@@ -1,8 +1,8 @@
-//! Runs: with each growth refused in turn, with each call of each device failing in turn, and with a witness.
+//! Runs: with each growth refused in turn, with each call of each device failing in turn, and with an observer.
 ghost use Rattle.std.specs.Prelude.{◌<◌};
 
 use mk_lines::Fault;
-use mk_run::{Outcome, Reported, Witness, message, run, status};
+use mk_run::{Observer, Outcome, Reported, message, run, status};
 use mk_session::{Edit, Session};
 use std::alloc::{Allocator, Global};
 use std::fmt::Write as _;
@@ -30,14 +30,14 @@ fn call_of(device: Device, failing: Failing) -> Option<u64> {
     }
 }
 
-/// A witness that remembers the lines of what it is told; of a refusal also whether it is an edit's, and how
+/// An observer that remembers the lines of what it is told; of a refusal also whether it is an edit's, and how
 /// many bytes the text has.
 #[derive(Drop)]
 struct Recorder {
     told: String,
 }
 
-impl<A: Allocator> Witness<A> for Recorder {
+impl<A: Allocator> Observer<A> for Recorder {
     fn refused(&mut self, reported: &Reported<'_, A>, session: &Session<A>) {
         let (is_edit, size) = (reported.edit.is_some(), session.doc().size());
         let _ = write!(self.told, "{} refused {is_edit} {size} ", reported.line);
@@ -112,7 +112,7 @@ fn run_over<A: Allocator + Copy>(
         Device::Report,
         failing,
     ));
-    let mut witness = Recorder {
+    let mut observer = Recorder {
         told: String::new(alloc),
     };
     let outcome = run(
@@ -123,7 +123,7 @@ fn run_over<A: Allocator + Copy>(
         flags == b"-k".as_slice(),
         &mut out,
         &mut report,
-        &mut witness,
+        &mut observer,
         &mut None,
     );
     Answer {
@@ -132,11 +132,11 @@ fn run_over<A: Allocator + Copy>(
         report,
         makefile_calls: makefile.calls(),
         script_calls: script.calls(),
-        told: witness.told,
+        told: observer.told,
     }
 }
 
-/// What comes of a run: the outcome with its status and its message, what a witness is told, the report, and
+/// What comes of a run: the outcome with its status and its message, what an observer is told, the report, and
 /// the text. Another end without memory than an early one is a write fault.
 pub fn ended(case: &Case<'_>, run: [&[u8]; 3], report: &[u8]) -> Result<Vec<u8>, Fault> {
     let answer = run_over(case.alloc, case.heap, run, 1_000, None);

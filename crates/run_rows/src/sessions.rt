@@ -44,14 +44,14 @@ pub fn commands_of<'h>(
 }
 
 /// The replies of a session to commands in turn: `done`, or the name of a refusal.
-pub fn obeyed<'h>(
+pub fn executed<'h>(
     alloc: Global,
     session: &mut Session<&'h Heap>,
     commands: &[Command<&'h Heap>],
 ) -> Result<String, Fault> {
     let mut replies = String::new(alloc);
     for command in commands {
-        match session.obey(command) {
+        match session.execute(command) {
             Ok(()) => replies.push_str("done ")?,
             Err(refusal) => push_refusal(&mut replies, refusal)?,
         }
@@ -68,17 +68,21 @@ fn push_refusal(replies: &mut String, refusal: Refusal) -> Result<(), Fault> {
     Ok(())
 }
 
-/// Has a session obey a line, which it may not refuse for another cause than want of memory.
-pub fn obey<'h>(heap: &'h Heap, session: &mut Session<&'h Heap>, line: &[u8]) -> Result<(), Fault> {
+/// Has a session execute a line, which it may not refuse for another cause than want of memory.
+pub fn execute<'h>(
+    heap: &'h Heap,
+    session: &mut Session<&'h Heap>,
+    line: &[u8],
+) -> Result<(), Fault> {
     let command = command_of(heap, line)?;
-    match session.obey(&command) {
+    match session.execute(&command) {
         Ok(()) => Ok(()),
         Err(Refusal::NoMemory) => Err(Fault::NoMemory),
         Err(_) => Err(Fault::Read),
     }
 }
 
-/// The growths that a session takes to obey a line.
+/// The growths that a session takes to execute a line.
 pub fn growths_of<'h>(
     heap: &'h Heap,
     session: &mut Session<&'h Heap>,
@@ -86,7 +90,7 @@ pub fn growths_of<'h>(
 ) -> Result<Growths, Fault> {
     let command = command_of(heap, line)?;
     heap.refuse_none();
-    match session.obey(&command) {
+    match session.execute(&command) {
         Ok(()) => Ok(heap.passed()),
         Err(_) => Err(Fault::Read),
     }
@@ -122,7 +126,7 @@ fn show_each<'h>(
 ) -> Result<Vec<u8>, Fault> {
     let mut shown = String::new(alloc);
     for command in commands {
-        let _ = session.obey(command);
+        let _ = session.execute(command);
         shown.push_str(format!(in alloc; "{session:?}\n")?.as_str())?;
     }
     Ok(shown.into_bytes())
@@ -155,7 +159,7 @@ fn takes_same_growths<'h>(
     Ok(true)
 }
 
-/// The replies of a session, once it has obeyed a script, to the commands of another one while each growth
+/// The replies of a session, once it has executed a script, to the commands of another one while each growth
 /// is refused; whether these ask for memory, and how many lines they read; and the text.
 pub fn without_memory(
     case: &Case<'_>,
@@ -167,18 +171,18 @@ pub fn without_memory(
     let before = commands_of(case.alloc, case.heap, before)?;
     let commands = commands_of(case.alloc, case.heap, script)?;
     let mut session = Session::open(case.heap, makefile, 100)?;
-    obeyed(case.alloc, &mut session, &before)?;
-    obey_without_memory(case, &mut session, &commands)
+    executed(case.alloc, &mut session, &before)?;
+    execute_without_memory(case, &mut session, &commands)
 }
 
-fn obey_without_memory<'h>(
+fn execute_without_memory<'h>(
     case: &Case<'h>,
     session: &mut Session<&'h Heap>,
     commands: &[Command<&'h Heap>],
 ) -> Result<Vec<u8>, Fault> {
     let read = session.rereads();
     case.heap.refuse_all();
-    let replies = obeyed(case.alloc, session, commands)?;
+    let replies = executed(case.alloc, session, commands)?;
     let (asks, read) = (
         case.heap.has_refused(),
         session.rereads().saturating_sub(read),

@@ -2,7 +2,7 @@
 
 use mk_lines::sink::write_parts;
 use mk_lines::{ByteSink, ByteSource, Fault};
-use mk_repl::{After, LineRead, Listener, converse, read_line, write_greeting, write_too_long};
+use mk_repl::{After, Handler, LineRead, read_line, serve, write_greeting, write_too_long};
 use test_support::text::{joined, number};
 use test_support::{Case, MemorySink, MemorySource};
 
@@ -50,16 +50,16 @@ pub fn failing_line(
 #[derive(Drop)]
 struct Echo;
 
-impl Listener for Echo {
+impl Handler for Echo {
     fn greet<W: ByteSink>(&self, out: &mut W) -> Result<(), Fault> {
         write_greeting(out)
     }
 
-    fn turn_down<W: ByteSink>(&self, out: &mut W) -> Result<(), Fault> {
+    fn reject<W: ByteSink>(&self, out: &mut W) -> Result<(), Fault> {
         write_too_long(out)
     }
 
-    fn hear<W: ByteSink>(&mut self, line: &[u8], out: &mut W) -> Result<After, Fault> {
+    fn handle<W: ByteSink>(&mut self, line: &[u8], out: &mut W) -> Result<After, Fault> {
         write_parts(out, &[b"[", line, b"]\n"])?;
         Ok(if line.first() == Some(&b'q') {
             After::Ends
@@ -75,7 +75,7 @@ impl Listener for Echo {
 pub fn talk(case: &Case<'_>, lines: &[u8], call: &[u8]) -> Result<Vec<u8>, Fault> {
     let mut source = MemorySource::new(lines, 1_000).failing_at(Some(number(call)));
     let mut out = MemorySink::new(Vec::new(case.alloc), 100);
-    let talked = converse(case.heap, &mut source, &mut Echo, &mut out);
+    let talked = serve(case.heap, &mut source, &mut Echo, &mut out);
     if talked == Err(Fault::NoMemory) {
         return Err(if out.writes() == 0 {
             Fault::NoMemory
@@ -93,7 +93,7 @@ pub fn failing_talk(case: &Case<'_>, lines: &[u8], text: &[u8]) -> Result<Vec<u8
     for call in 1..100u64 {
         let mut source = MemorySource::new(lines, 3);
         let mut out = MemorySink::new(Vec::new(case.alloc), 3).failing_at(Some(call));
-        let talked = converse(case.alloc, &mut source, &mut Echo, &mut out);
+        let talked = serve(case.alloc, &mut source, &mut Echo, &mut out);
         if out.writes() < call {
             let is_out = talked.is_ok() && out.bytes() == text;
             return Ok(is_out.to_string(case.alloc)?.into_bytes());

@@ -11,13 +11,13 @@ use Rattle.mk_history.specs.Machine.{Apply, Undo, Redo, Begin, End, Cancel}
 use Rattle.mk_script.specs.Scripts.{Step}
 use Rattle.mk_rows.proofs.scripts.ScriptReader.{on_line}
 use Rattle.mk_history.specs.Shown.{shown_opened}
-use Rattle.mk_run.specs.ObeyedSteps.{obeyed_steps}
+use Rattle.mk_run.specs.ExecutedSteps.{executed_steps}
 use Rattle.mk_run.specs.Runs.{RunResult, result_after}
 use Rattle.mk_run.specs.declared.outcome.Outcome.{Outcome}
 use Rattle.mk_run.specs.declared.outcome.Outcome.TheVariants.{Done, Refused}
 
 abbrev came_to : (keep_going : Bool) → (depth : ℕ) → (makefile : List ℕ) → List Step → RunResult
-came_to k depth text steps = result_after k (obeyed_steps k steps (shown_opened depth text))
+came_to k depth text steps = result_after k (executed_steps k steps (shown_opened depth text))
 
 abbrev ends : Outcome → (report : List ℕ) → (output : Option (List ℕ)) → RunResult
 ends outcome report output = record { outcome = outcome; report = report; output = output }

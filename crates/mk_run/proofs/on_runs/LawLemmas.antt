@@ -15,14 +15,14 @@ use Rattle.mk_script.specs.Scripts.{CommandAt, EditAt, Step, Alone, Tried, Chain
 use Rattle.mk_script.specs.ScriptsOfCommands.{IsScriptOfCommands}
 use Rattle.mk_script.proofs.on_scripts.OneLemmas.{steps-one, not-both}
 use Rattle.mk_script.proofs.on_scripts.CommandLemmas.{commands-steps}
-use Rattle.mk_run.specs.ObeyedCommands.{Obeyed, after_refusal, obeyed_next, obeyed}
-use Rattle.mk_run.specs.ObeyedSteps.{Answer, StepEnd, is_missing, is_met, unless, alone_end, tried_end, last_end, is_passed, chain_end, step_end, steps_next, obeyed_steps}
+use Rattle.mk_run.specs.ExecutedCommands.{Executed, after_refusal, executed_next, executed}
+use Rattle.mk_run.specs.ExecutedSteps.{Answer, StepEnd, is_missing, is_met, unless, alone_end, tried_end, last_end, is_passed, chain_end, step_end, steps_next, executed_steps}
 use Rattle.mk_run.specs.Runs.{RunResult, InCase, IsTooLong, IsRunOf, IsRunOfCommands, IsRun, ended, shown_or, outcome_after, output_after, result_after, stopped}
 use Rattle.mk_run.specs.RunEnds.{GoesOn}
 use Rattle.mk_run.specs.declared.outcome.Outcome as o
 use Rattle.mk_run.specs.declared.outcome.Outcome.TheVariants.{BadDepth, TooLong, TooDeep}
 use Rattle.mk_run.specs.RunLaws.{reply_of, called, chain_calls, step_calls, tried_next, tried, DoesAsStated, DoAsStated, machine_after, AreUndos, KeepEveryByte, RunsKeepEveryByte, RunsOfCommandsStay}
-use Rattle.mk_run.proofs.on_runs.CommandLemmas.{joined, obeyed-append}
+use Rattle.mk_run.proofs.on_runs.CommandLemmas.{joined, executed-append}
 use Rattle.mk_run.proofs.on_runs.RunLemmas.{output-some}
 
 -- what is shown, of a session that has read no line
@@ -96,7 +96,7 @@ calls-append : (first others : List Call) (x y z : Seen) → AreCalls first x y 
 calls-append [] others x y z h k = subst (λ (u : Seen). AreCalls others u z) h k
 calls-append (call ∷ first) others x y z h k = (h.0, (h.1.0, calls-append first others h.0 y z h.1.1 k))
 
-calls-next : (k : Bool) (s : Shown (List ℕ)) (others : Shown (List ℕ) → Obeyed) (calls : Shown (List ℕ) → List Call)
+calls-next : (k : Bool) (s : Shown (List ℕ)) (others : Shown (List ℕ) → Executed) (calls : Shown (List ℕ) → List Call)
     → ((t : Shown (List ℕ)) → AreCalls (calls t) (seen t) (seen (others t).shown))
     → (e : StepEnd) → AreCalls (tried_next k s calls e) (seen (left s e)) (seen (steps_next k s others e).shown)
 unfolding left
@@ -104,11 +104,11 @@ calls-next k s others calls hyp (Ok new) = hyp new
 calls-next true s others calls hyp (Err told) = hyp s
 calls-next false s others calls hyp (Err told) = refl
 
-are-calls : (k : Bool) (steps : List Step) (s : Shown (List ℕ)) → AreCalls (tried k steps s) (seen s) (seen (obeyed_steps k steps s).shown)
+are-calls : (k : Bool) (steps : List Step) (s : Shown (List ℕ)) → AreCalls (tried k steps s) (seen s) (seen (executed_steps k steps s).shown)
 are-calls k [] s = refl
 are-calls k (step ∷ steps) s =
-    calls-append (step_calls step s) (tried_next k s (λ t. tried k steps t) (step_end step s)) (seen s) (seen (left s (step_end step s))) (seen (obeyed_steps k (step ∷ steps) s).shown) (step-are step s)
-    (calls-next k s (λ t. obeyed_steps k steps t) (λ t. tried k steps t) (λ t. are-calls k steps t) (step_end step s))
+    calls-append (step_calls step s) (tried_next k s (λ t. tried k steps t) (step_end step s)) (seen s) (seen (left s (step_end step s))) (seen (executed_steps k (step ∷ steps) s).shown) (step-are step s)
+    (calls-next k s (λ t. executed_steps k steps t) (λ t. tried k steps t) (λ t. are-calls k steps t) (step_end step s))
 
 -- ---- each does as stated
 
@@ -165,7 +165,7 @@ granted-replies [] h = tt
 granted-replies (r ∷ replies) h = (cons-first r Granted replies (replicate (length replies) Granted) h, granted-replies replies (cons-rest r Granted replies (replicate (length replies) Granted) h))
 
 -- if all calls of some `undo` were granted, nothing was refused or reported, and the run is the same if it stops at a refusal
-none-next : (k : Bool) (c : CommandAt) (s : Shown (List ℕ)) (others all : Shown (List ℕ) → Obeyed) (calls : Shown (List ℕ) → List Call)
+none-next : (k : Bool) (c : CommandAt) (s : Shown (List ℕ)) (others all : Shown (List ℕ) → Executed) (calls : Shown (List ℕ) → List Call)
     → ((t : Shown (List ℕ)) → AllGranted (calls t) → ((others t).refused ≡ 0) × ((others t).report ≡ []) × ((others t).shown ≡ (all t).shown))
     → (a : Answer) → AllGranted ((c.command, reply_of a) ∷ tried_next true s calls (alone_end c.line a))
     → ((steps_next k s others (alone_end c.line a)).refused ≡ 0) × ((steps_next k s others (alone_end c.line a)).report ≡ [])
@@ -175,10 +175,10 @@ none-next k c s others all calls hyp (Ok new) granted = hyp new granted.1
 none-next k c s others all calls hyp (Err q) granted = let no = granted.0 in absurd (cc)
 
 none-refused : (k : Bool) (undos : List Step) (s : Shown (List ℕ)) → AreUndos undos → AllGranted (tried true undos s)
-    → ((obeyed_steps k undos s).refused ≡ 0) × ((obeyed_steps k undos s).report ≡ []) × ((obeyed_steps k undos s).shown ≡ (obeyed_steps true undos s).shown)
+    → ((executed_steps k undos s).refused ≡ 0) × ((executed_steps k undos s).report ≡ []) × ((executed_steps k undos s).shown ≡ (executed_steps true undos s).shown)
 none-refused k [] s are granted = (refl, refl, refl)
 none-refused k (Alone c ∷ undos) s are granted =
-    none-next k c s (λ t. obeyed_steps k undos t) (λ t. obeyed_steps true undos t) (λ t. tried true undos t) (λ t. none-refused k undos t are.1) (answer c.command s) granted
+    none-next k c s (λ t. executed_steps k undos t) (λ t. executed_steps true undos t) (λ t. tried true undos t) (λ t. none-refused k undos t are.1) (answer c.command s) granted
 none-refused k (Tried e ∷ undos) s are granted = absurd are.0
 none-refused k (Chain first second others ∷ undos) s are granted = absurd are.0
 
@@ -201,12 +201,12 @@ output-holds false (suc n) text P p = tt
 no-output_of : (result : RunResult) (outcome : o.Outcome) (P : List ℕ → Type 0) → result ≡ stopped outcome → IfSome result.output P
 no-output_of result outcome P is = rw is tt
 
-module _ (makefile script : List ℕ) (depth : ℕ) (k : Bool) (steps : List Step) (result : RunResult) (P : List ℕ → Type 0) (p : P (obeyed_steps k steps (shown_opened depth makefile)).shown.text) where
+module _ (makefile script : List ℕ) (depth : ℕ) (k : Bool) (steps : List Step) (result : RunResult) (P : List ℕ → Type 0) (p : P (executed_steps k steps (shown_opened depth makefile)).shown.text) where
   of-steps : IsRunOf steps makefile depth k result → IfSome result.output P
   of-steps (inl (long, is)) = no-output_of result TooLong P is
   of-steps (inr (short, inl (deep, is))) = no-output_of result TooDeep P is
   of-steps (inr (short, inr (shallow, is))) =
-      let did = obeyed_steps k steps (shown_opened depth makefile) in
+      let did = executed_steps k steps (shown_opened depth makefile) in
       rw is (output-holds k did.refused (ended did.shown).text P (subst P (sym (ended-text did.shown)) p))
 
   of-run : IsScript script steps → IsRun makefile script depth k result → IfSome result.output P
@@ -218,7 +218,7 @@ module _ (makefile script : List ℕ) (depth : ℕ) (k : Bool) (steps : List Ste
 
 -- ---- steps, and others behind them that are all granted and lead to this text
 
-joined-result : (k : Bool) (did rest : Obeyed) (text : List ℕ) → GoesOn k did.refused → rest.refused ≡ 0 → rest.report ≡ [] → rest.shown.text ≡ text
+joined-result : (k : Bool) (did rest : Executed) (text : List ℕ) → GoesOn k did.refused → rest.refused ≡ 0 → rest.report ≡ [] → rest.shown.text ≡ text
     → result_after k (joined did rest) ≡ record { outcome = outcome_after did.refused; report = did.report; output = Some text }
 joined-result k did rest text on none silent back =
     let number : did.refused + rest.refused ≡ did.refused = omega (arith, none) in
@@ -233,21 +233,21 @@ joined-result k did rest text on none silent back =
 
 module _ (makefile : List ℕ) (depth : ℕ) (k : Bool) (steps : List Step) where
   last : Shown (List ℕ)
-  last = (obeyed_steps k steps (shown_opened depth makefile)).shown
+  last = (executed_steps k steps (shown_opened depth makefile)).shown
 
   session-calls : AreCalls (tried k steps (shown_opened depth makefile)) (seen_opened depth makefile) (seen last)
   unfolding seen last
   session-calls = are-calls k steps (shown_opened depth makefile)
 
-  replayed : (obeyed_steps k steps (shown_opened depth makefile)).shown.text ≡ replay edited makefile (standing (machine_after k steps makefile depth))
+  replayed : (executed_steps k steps (shown_opened depth makefile)).shown.text ≡ replay edited makefile (standing (machine_after k steps makefile depth))
   unfolding seen last
   replayed = (standing-replayed depth makefile (tried k steps (shown_opened depth makefile)) (seen last) session-calls).1
 
   -- as many `undo` as members stand
   record AreTakenBack (undos : List Step) : Type 0 where
-    pub none : (obeyed_steps k undos last).refused ≡ 0
-    pub silent : (obeyed_steps k undos last).report ≡ []
-    pub back : (obeyed_steps k undos last).shown.text ≡ makefile
+    pub none : (executed_steps k undos last).refused ≡ 0
+    pub silent : (executed_steps k undos last).report ≡ []
+    pub back : (executed_steps k undos last).shown.text ≡ makefile
 
   all-back : (machine_after k steps makefile depth).floor ≡ 0 → (machine_after k steps makefile depth).group ≡ None
       → (undos : List Step) → AreUndos undos → length undos ≡ length (machine_after k steps makefile depth).done
@@ -255,21 +255,21 @@ module _ (makefile : List ℕ) (depth : ℕ) (k : Bool) (steps : List Step) wher
   unfolding seen last
   all-back floor group undos are number =
       let them = undo-replies undos last are in
-      let calls = subst (λ (cs : List Call). AreCalls cs (seen last) (seen (obeyed_steps true undos last).shown)) them.calls_are (are-calls true undos last) in
-      let back = all-undone depth makefile (tried k steps (shown_opened depth makefile)) (seen last) session-calls floor group them.replies (seen (obeyed_steps true undos last).shown) (them.number_is ∙ number) calls in
+      let calls = subst (λ (cs : List Call). AreCalls cs (seen last) (seen (executed_steps true undos last).shown)) them.calls_are (are-calls true undos last) in
+      let back = all-undone depth makefile (tried k steps (shown_opened depth makefile)) (seen last) session-calls floor group them.replies (seen (executed_steps true undos last).shown) (them.number_is ∙ number) calls in
       let granted = subst AllGranted (sym them.calls_are) (granted-replies them.replies back.0) in
       let same = none-refused k undos last are granted in
       record { none = same.0; silent = same.1; back = ap (λ (s : Shown (List ℕ)). s.text) same.2 ∙ back.1 }
 
   -- the steps with such `undo` behind them
-  put-back : (undos : List Step) → AreTakenBack undos → GoesOn k (obeyed_steps k steps (shown_opened depth makefile)).refused
-      → result_after k (obeyed_steps k (steps ++ undos) (shown_opened depth makefile))
-      ≡ record { outcome = outcome_after (obeyed_steps k steps (shown_opened depth makefile)).refused; report = (obeyed_steps k steps (shown_opened depth makefile)).report; output = Some makefile }
+  put-back : (undos : List Step) → AreTakenBack undos → GoesOn k (executed_steps k steps (shown_opened depth makefile)).refused
+      → result_after k (executed_steps k (steps ++ undos) (shown_opened depth makefile))
+      ≡ record { outcome = outcome_after (executed_steps k steps (shown_opened depth makefile)).refused; report = (executed_steps k steps (shown_opened depth makefile)).report; output = Some makefile }
   unfolding last
   put-back undos them on =
-      let did = obeyed_steps k steps (shown_opened depth makefile) in
-      ap (result_after k) (obeyed-append k steps undos (shown_opened depth makefile) on)
-      ∙ joined-result k did (obeyed_steps k undos did.shown) makefile on them.none them.silent them.back
+      let did = executed_steps k steps (shown_opened depth makefile) in
+      ap (result_after k) (executed-append k steps undos (shown_opened depth makefile) on)
+      ∙ joined-result k did (executed_steps k undos did.shown) makefile on them.none them.silent them.back
 
   every-byte_kept : KeepEveryByte k steps makefile depth
   unfolding seen last
@@ -290,21 +290,21 @@ runs-keep makefile script depth k steps result are run = (
 
 -- ---- scripts without alternatives
 
-commands-next : (k : Bool) (c : CommandAt) (s : Shown (List ℕ)) (others all : Shown (List ℕ) → Obeyed) → ((t : Shown (List ℕ)) → others t ≡ all t)
-    → (a : Answer) → steps_next k s others (alone_end c.line a) ≡ obeyed_next k c s all a
+commands-next : (k : Bool) (c : CommandAt) (s : Shown (List ℕ)) (others all : Shown (List ℕ) → Executed) → ((t : Shown (List ℕ)) → others t ≡ all t)
+    → (a : Answer) → steps_next k s others (alone_end c.line a) ≡ executed_next k c s all a
 commands-next k c s others all hyp (Ok new) = hyp new
 commands-next true c s others all hyp (Err q) = ap (λ o. after_refusal c.line q o) (hyp s)
 commands-next false c s others all hyp (Err q) = refl
 
 -- commands alone come to what commands come to
-commands-obeyed : (k : Bool) (commands : List CommandAt) (s : Shown (List ℕ)) → obeyed_steps k (map Alone commands) s ≡ obeyed k commands s
-commands-obeyed k [] s = refl
-commands-obeyed k (c ∷ commands) s =
-    commands-next k c s (λ t. obeyed_steps k (map Alone commands) t) (λ t. obeyed k commands t) (λ t. commands-obeyed k commands t) (answer c.command s)
+commands-executed : (k : Bool) (commands : List CommandAt) (s : Shown (List ℕ)) → executed_steps k (map Alone commands) s ≡ executed k commands s
+commands-executed k [] s = refl
+commands-executed k (c ∷ commands) s =
+    commands-next k c s (λ t. executed_steps k (map Alone commands) t) (λ t. executed k commands t) (λ t. commands-executed k commands t) (answer c.command s)
 
 module _ (makefile script : List ℕ) (depth : ℕ) (k : Bool) (commands : List CommandAt) (result : RunResult) (are : IsScriptOfCommands script commands) where
-  same-result : result_after k (obeyed_steps k (map Alone commands) (shown_opened depth makefile)) ≡ result_after k (obeyed k commands (shown_opened depth makefile))
-  same-result = ap (result_after k) (commands-obeyed k commands (shown_opened depth makefile))
+  same-result : result_after k (executed_steps k (map Alone commands) (shown_opened depth makefile)) ≡ result_after k (executed k commands (shown_opened depth makefile))
+  same-result = ap (result_after k) (commands-executed k commands (shown_opened depth makefile))
 
   -- the run of these commands alone is that of the commands
   to-commands : IsRunOf (map Alone commands) makefile depth k result → IsRunOfCommands commands makefile depth k result

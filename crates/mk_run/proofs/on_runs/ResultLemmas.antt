@@ -8,7 +8,7 @@ use Rattle.mk_history.specs.Shown.{shown_opened}
 use Rattle.mk_session.specs.Sessions.{IsBadDepth}
 use Rattle.mk_script.specs.Scripts.{Step, IsScript, HasNoCommand}
 use Rattle.mk_script.proofs.on_scripts.OneLemmas.{steps-one, not-both, fault-one, script-read}
-use Rattle.mk_run.specs.ObeyedSteps.{obeyed_steps}
+use Rattle.mk_run.specs.ExecutedSteps.{executed_steps}
 use Rattle.mk_run.specs.Runs.{RunResult, IsTooLong, InCase, IsRunOf, IsRun, stopped, result_after}
 use Rattle.mk_run.specs.declared.outcome.Outcome.TheVariants.{NotACommand, BadDepth, TooLong, TooDeep}
 
@@ -39,7 +39,7 @@ module _ (makefile script : List ℕ) (depth : ℕ) (k : Bool) where
       → (r : RunResult) × IsRunOf steps makefile depth k r
   steps-run steps (inl long) deep = (stopped TooLong, inl (long, refl))
   steps-run steps (inr short) (inl deep) = (stopped TooDeep, inr (short, inl (deep, refl)))
-  steps-run steps (inr short) (inr shallow) = (result_after k (obeyed_steps k steps (shown_opened depth makefile)), inr (short, inr (shallow, refl)))
+  steps-run steps (inr short) (inr shallow) = (result_after k (executed_steps k steps (shown_opened depth makefile)), inr (short, inr (shallow, refl)))
 
   script-run : (IsBadDepth depth → ⊥) → (IsTooLong script → ⊥) → ((steps : List Step) × IsScript script steps) ⊎ ((line : ℕ) × HasNoCommand script line)
       → (r : RunResult) × IsRun makefile script depth k r
@@ -71,8 +71,8 @@ not-case (inl (c, a)) none = absurd (none c)
 not-case (inr (other, b)) none = b
 
 module _ (makefile : List ℕ) (depth : ℕ) (k : Bool) (steps : List Step) (r q : RunResult) where
-  deep-same : InCase (IsTooDeep makefile) (r ≡ stopped TooDeep) (r ≡ result_after k (obeyed_steps k steps (shown_opened depth makefile)))
-      → InCase (IsTooDeep makefile) (q ≡ stopped TooDeep) (q ≡ result_after k (obeyed_steps k steps (shown_opened depth makefile))) → r ≡ q
+  deep-same : InCase (IsTooDeep makefile) (r ≡ stopped TooDeep) (r ≡ result_after k (executed_steps k steps (shown_opened depth makefile)))
+      → InCase (IsTooDeep makefile) (q ≡ stopped TooDeep) (q ≡ result_after k (executed_steps k steps (shown_opened depth makefile))) → r ≡ q
   deep-same (inl (deep, is)) other = is ∙ sym (in-case other deep)
   deep-same (inr (shallow, is)) other = is ∙ sym (not-case other shallow)
 

@@ -6,11 +6,11 @@ use Rattle.std.proofs.KnownBytes.{Appends-nil, Keeps-refl}
 use Rattle.mk_history.specs.Shown.{Shown, shown_opened}
 use Rattle.mk_session.specs.Sessions.{Seen, IsBadDepth}
 use Rattle.mk_script.specs.Scripts.{Step}
-use Rattle.mk_run.specs.ObeyedSteps.{obeyed_steps}
+use Rattle.mk_run.specs.ExecutedSteps.{executed_steps}
 use Rattle.mk_run.specs.Runs.{RunResult, stopped, ended, outcome_after, output_after, result_after}
 use Rattle.mk_run.specs.RunEnds.{HasText, GoesOn, Written, written, IsOut, IsPrefixOut, IsWhole, IsCut, EndsAs, IsLeft, IsLeftRefused, IsLeftShort, IsLeftCut, HandsBack, Leaves, IsRunOver}
 use Rattle.mk_run.specs.Outcome.{is_printed, may_report}
-use Rattle.mk_run.specs.RunSteps.{GivesSteps, GivesSession, AreObeyed, AreEnded, StopsScript, StopsMakefile, StopsSteps, EndsSteps}
+use Rattle.mk_run.specs.RunSteps.{GivesSteps, GivesSession, AreExecuted, AreEnded, StopsScript, StopsMakefile, StopsSteps, EndsSteps}
 use Rattle.mk_run.specs.declared.outcome.Outcome as o
 use Rattle.mk_run.specs.declared.outcome.Outcome.TheVariants.{Done, Refused, NotACommand, BadDepth, TooLong, TooDeep, Read, Write, NoMemory}
 use Rattle.mk_run.proofs.on_runs.ResultLemmas.{has-run}
@@ -172,9 +172,9 @@ printed-refused false n on some = absurd (some (on refl))
 
 module _ (k : Bool) (steps : List Step) (first : Shown (List ℕ)) where
   ended-by_refusal : (last : Shown (List ℕ)) (n : ℕ) (report : Written) (out : Option (List ℕ)) → AreEnded k steps first last n report
-      → IsWhole (result_after k (obeyed_steps k steps first)) (Refused n) report (written out out)
+      → IsWhole (result_after k (executed_steps k steps first)) (Refused n) report (written out out)
   ended-by_refusal last n report out are =
-      let did = obeyed_steps k steps first in
+      let did = executed_steps k steps first in
       record {
         outcome_is = rw are.one (ap outcome_after (sym are.one ∙ are.number));
         reported = are.reported;
@@ -185,7 +185,7 @@ module _ (k : Bool) (steps : List Step) (first : Shown (List ℕ)) where
   left-by_refusal : (last : Shown (List ℕ)) (n : ℕ) (report out : Written) → AreEnded k steps first last n report → IsLeftRefused k steps first last out
   left-by_refusal last n report out are =
       subst (λ (q : Bool). IsLeftRefused q steps first last out) (sym are.ends)
-      (subst (λ (q : Bool). last ≡ (obeyed_steps q steps first).shown) are.ends are.shown)
+      (subst (λ (q : Bool). last ≡ (executed_steps q steps first).shown) are.ends are.shown)
 
   -- the steps did not come to their end, and nothing is out
   pub stopped-ends : (last : Shown (List ℕ)) (failed : Bool) (outcome : o.Outcome) (report : Written) (out : Option (List ℕ)) → StopsSteps k steps first last failed report outcome
@@ -193,7 +193,7 @@ module _ (k : Bool) (steps : List Step) (first : Shown (List ℕ)) where
   stopped-ends last failed (Refused n) report out (works, are) = (ended-by_refusal last n report out are, left-by_refusal last n report (written out out) are)
   stopped-ends last failed NoMemory report out (works, short) = short
   stopped-ends last failed Write report out (fails, cut, left) = (
-    subst (λ (f : Bool). IsCut (result_after k (obeyed_steps k steps first)) f report (written out out)) (sym fails) cut,
+    subst (λ (f : Bool). IsCut (result_after k (executed_steps k steps first)) f report (written out out)) (sym fails) cut,
     subst (λ (f : Bool). IsLeftCut k f steps first last) (sym fails) left,
   )
   stopped-ends last failed Done report out stops = absurd stops
@@ -203,19 +203,19 @@ module _ (k : Bool) (steps : List Step) (first : Shown (List ℕ)) where
   stopped-ends last failed TooDeep report out stops = absurd stops
   stopped-ends last failed Read report out stops = absurd stops
 
-  module _ (last : Shown (List ℕ)) (n : ℕ) (report : Written) (are : AreObeyed k steps first last n report) where
+  module _ (last : Shown (List ℕ)) (n : ℕ) (report : Written) (are : AreExecuted k steps first last n report) where
     -- the text goes out
-    text-goes : output_after k (obeyed_steps k steps first).refused (ended (obeyed_steps k steps first).shown).text ≡ Some (ended last).text
+    text-goes : output_after k (executed_steps k steps first).refused (ended (executed_steps k steps first).shown).text ≡ Some (ended last).text
     text-goes =
-        let did = obeyed_steps k steps first in
+        let did = executed_steps k steps first in
         output-some k did.refused (ended did.shown).text (λ off. sym are.number ∙ are.goes_on off) ∙ ap (λ (x : Shown (List ℕ)). Some (ended x).text) (sym are.shown)
 
     wholly : (outcome : o.Outcome) (out : Written) → outcome ≡ outcome_after n → IsOut out (ended last).text
-        → IsWhole (result_after k (obeyed_steps k steps first)) outcome report out
+        → IsWhole (result_after k (executed_steps k steps first)) outcome report out
     wholly outcome out is whole = record {
       outcome_is = is ∙ ap outcome_after are.number;
       reported = are.reported;
-      written = if_some-is (output_after k (obeyed_steps k steps first).refused (ended (obeyed_steps k steps first).shown).text) (ended last).text (λ text. IsOut out text) text-goes whole;
+      written = if_some-is (output_after k (executed_steps k steps first).refused (ended (executed_steps k steps first).shown).text) (ended last).text (λ text. IsOut out text) text-goes whole;
     }
 
     -- what is shown at the end
@@ -241,7 +241,7 @@ module _ (k : Bool) (steps : List Step) (first : Shown (List ℕ)) where
       -- the text could not be written or flushed
       pub cut-ends : (failed : Bool) (out : Written) → failed ≡ false → IsPrefixOut out (ended last).text → EndsSteps k steps first new failed report out Write
       cut-ends failed out works cut = (
-        subst (λ (f : Bool). IsCut (result_after k (obeyed_steps k steps first)) f report out) (sym works)
+        subst (λ (f : Bool). IsCut (result_after k (executed_steps k steps first)) f report out) (sym works)
             (are.reported, ((ended last).text, text-goes, cut)),
         subst (λ (f : Bool). IsLeftCut k f steps first new) (sym works) (is ∙ ap ended are.shown),
       )
@@ -279,12 +279,12 @@ reached-other outcome other reached off h = let on : may_report outcome ≡ may_
 -- a run of steps over a makefile
 module _ (makefile script : Option (List ℕ)) (depth : ℕ) (k : Bool) (steps : List Step) (seen : Seen) (good : IsBadDepth depth → ⊥) (says : GivesSteps script steps) (opens : GivesSession makefile depth seen) where
   of-steps : (outcome : o.Outcome) (failed : Bool) (report out : Written)
-      → EndsAs opens.text says.text depth k (result_after k (obeyed_steps k steps (shown_opened depth opens.text))) failed report out outcome
+      → EndsAs opens.text says.text depth k (result_after k (executed_steps k steps (shown_opened depth opens.text))) failed report out outcome
       → IsRunOver makefile script depth k outcome failed report out
   of-steps outcome failed report out ends = record {
     makefile_text = opens.text;
     script_text = says.text;
-    result = result_after k (obeyed_steps k steps (shown_opened depth opens.text));
+    result = result_after k (executed_steps k steps (shown_opened depth opens.text));
     of_makefile = opens.has_text;
     of_script = says.has_text;
     is_run = inr (good, inr (says.short, inr (steps, says.is_script, inr (opens.short, inr (opens.shallow, refl)))));

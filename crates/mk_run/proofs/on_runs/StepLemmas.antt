@@ -1,4 +1,4 @@
--- One step, obeyed by a session.
+-- One step, executed by a session.
 use Rattle.std.proofs.Common.{◌≡◌, refl, sym, ap, subst, ◌∙◌, ℕ, Bool, true, false, cond, ◌<◌, List, [], ◌∷◌, length, map, arith, inl, inr, Ok, Err}
 use Rattle.std.specs.Prelude.{Result, ◌||◌}
 use Rattle.mk_edit_language.specs.Edits.{Edit}
@@ -12,8 +12,8 @@ use Rattle.mk_session.specs.Sessions.{Seen, answer, session_refusal}
 use Rattle.mk_session.specs.Calls.{Reply, IsCall, IsTold, IsAnswered, takes_memory}
 use Rattle.mk_session.proofs.on_sessions.RefusalLemmas.{answer-other}
 use Rattle.mk_script.specs.Scripts.{CommandAt, EditAt, Alone, Tried, chain_of}
-use Rattle.mk_run.specs.ObeyedSteps.{StepEnd, is_missing, is_met, unless, alone_end, tried_end, last_end, is_passed, chain_end, step_end, ChainTries, Tries}
-use Rattle.mk_run.specs.RunSteps.{ComesTo, IsObeyed, passes_over, chain_answer}
+use Rattle.mk_run.specs.ExecutedSteps.{StepEnd, is_missing, is_met, unless, alone_end, tried_end, last_end, is_passed, chain_end, step_end, ChainTries, Tries}
+use Rattle.mk_run.specs.RunSteps.{ComesTo, IsExecuted, passes_over, chain_answer}
 use Rattle.mk_run.specs.declared.step.RefusedCommand.{RefusedCommand}
 
 -- ---- what a call gave back
@@ -81,7 +81,7 @@ none-comes end c f x y h other ends =
 
 -- ---- a command alone
 
-pub alone-err : (c : CommandAt) (f : Refusal) (x y : Seen) → IsAnswered c.command (Err f) x y → IsObeyed (Alone c) (Err (record { line = c.line; refusal = f })) x.shown y.shown
+pub alone-err : (c : CommandAt) (f : Refusal) (x y : Seen) → IsAnswered c.command (Err f) x y → IsExecuted (Alone c) (Err (record { line = c.line; refusal = f })) x.shown y.shown
 alone-err c f x y h =
     told-comes (step_end (Alone c) x.shown) (λ d. Tries (Alone c) x.shown d) c.line c.command f x y h refl
     (λ q refused told. ap (λ a. alone_end c.line a) refused)
@@ -94,7 +94,7 @@ tried-refused e s f b q idle refused told =
     ap (λ a. tried_end e.line s a) refused ∙ ap (λ (c : Bool). unless c e.line s q) (subst (λ r. (is_missing r || is_met r) ≡ b) told idle)
 
 pub tried-err : (e : EditAt) (f : Refusal) (x y : Seen) → IsAnswered (Apply e.edit) (Err f) x y → (is_missing f || is_met f) ≡ false
-    → IsObeyed (Tried e) (Err (record { line = e.line; refusal = f })) x.shown y.shown
+    → IsExecuted (Tried e) (Err (record { line = e.line; refusal = f })) x.shown y.shown
 tried-err e f x y h busy =
     told-comes (step_end (Tried e) x.shown) (λ d. Tries (Tried e) x.shown d) e.line (Apply e.edit) f x y h refl
     (λ q refused told. tried-refused e x.shown f false q busy refused told)
@@ -188,10 +188,10 @@ chain-lasts first others e r x y h answered =
     (last-comes e (λ c. ChainTries e [] x.shown c) r x y answered refl)
 
 -- a chain with alternatives is a step
-pub chain-obeyed : (first : EditAt) (others : List EditAt) (r : Result (Unit {0}) RefusedCommand) (s t : Shown (List ℕ)) → (others ≡ [] → ⊥)
-    → ComesTo (chain_end first others s) (λ c. ChainTries first others s c) r s t → IsObeyed (chain_of first others) r s t
-chain-obeyed first [] r s t some h = absurd (some refl)
-chain-obeyed first (o ∷ others) r s t some h = h
+pub chain-executed : (first : EditAt) (others : List EditAt) (r : Result (Unit {0}) RefusedCommand) (s t : Shown (List ℕ)) → (others ≡ [] → ⊥)
+    → ComesTo (chain_end first others s) (λ c. ChainTries first others s c) r s t → IsExecuted (chain_of first others) r s t
+chain-executed first [] r s t some h = absurd (some refl)
+chain-executed first (o ∷ others) r s t some h = h
 
 -- the same, from what was shown before the chain
 pub from-first : (first : EditAt) (others : List EditAt) (r : Result (Unit {0}) RefusedCommand) (s t u : Shown (List ℕ)) → s ≡ t

@@ -2,7 +2,7 @@ use Rattle.std.proofs.Common.{◌≡◌, refl, map, false, true}
 use Rattle.mk_script.specs.Scripts.{step_of}
 use Rattle.mk_run.proofs.on_runs.ReadLemmas.{short-script}
 use Rattle.mk_run.proofs.on_runs.RunLemmas.{depth-stops, script-stops}
-use Rattle.mk_run.proofs.on_runs.TellingLemmas.{untold-script}
+use Rattle.mk_run.proofs.on_runs.EventLemmas.{untold-script}
 use Rattle.mk_run.proofs.engine.run.Goals as goal
 
 -- what the test does not find does not hold

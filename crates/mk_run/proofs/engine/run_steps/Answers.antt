@@ -4,7 +4,7 @@ use Rattle.mk_run.specs.RunSteps.{StopsMakefile}
 use Rattle.mk_run.specs.declared.outcome.Outcome.{Outcome}
 use Rattle.mk_run.specs.declared.outcome.Outcome.TheVariants.{BadDepth, NotACommand, Read}
 use Rattle.mk_run.proofs.on_runs.RunLemmas.{makefile-stops, makefile-unopened, steps-over, reached-other}
-use Rattle.mk_run.proofs.on_runs.TellingLemmas.{told-run, untold-makefile}
+use Rattle.mk_run.proofs.on_runs.EventLemmas.{told-run, untold-makefile}
 use Rattle.mk_run.proofs.engine.run_steps.Goals as goal
 
 pub returns-in-Err-clause-over : goal.returns-in-Err-clause-over
@@ -28,14 +28,14 @@ returns-in-Err-clause-out g c =
 pub returns-clause-over : goal.returns-clause-over
 returns-clause-over g c = λ script says.
     steps-over _ script c.args.depth c.args.keep_going (map step_of c.args.steps.now) c.in-Ok.session c.requires.depth says c.in-Ok.ensures.opened
-    _ _ _ c.obey_and_put_out.new.session _ c.obey_and_put_out.result (rw c.insert-session.ensures.value at c.obey_and_put_out.ensures.ends)
+    _ _ _ c.execute_and_put_out.new.session _ c.execute_and_put_out.result (rw c.insert-session.ensures.value at c.execute_and_put_out.ensures.ends)
 
 pub returns-clause-begun : goal.returns-clause-begun
-returns-clause-begun g c = λ line. reached-other c.obey_and_put_out.result (NotACommand line) c.obey_and_put_out.ensures.reached refl
+returns-clause-begun g c = λ line. reached-other c.execute_and_put_out.result (NotACommand line) c.execute_and_put_out.ensures.reached refl
 
 pub returns-clause-faults : goal.returns-clause-faults
 returns-clause-faults g c =
-    let reached = c.obey_and_put_out.ensures.reached in
+    let reached = c.execute_and_put_out.ensures.reached in
     record {
       bad_depth = (λ is. absurd (reached-other _ BadDepth reached refl is), λ bad. absurd (c.requires.depth bad));
       read = (λ is. absurd (reached-other _ Read reached refl is), λ fails. absurd (let works = c.in-Ok.ensures.works in cc));
@@ -47,5 +47,5 @@ returns-in-Err-clause-told g c = λ script says. untold-makefile (g.R.ByteSource
 
 pub returns-clause-told : goal.returns-clause-told
 returns-clause-told g c = λ script says.
-    told-run _ script c.args.depth c.args.keep_going (map step_of c.args.steps.now) c.in-Ok.session says c.in-Ok.ensures.opened _ _ c.obey_and_put_out.result
-    (rw c.insert-session.ensures.value at c.obey_and_put_out.ensures.told)
+    told-run _ script c.args.depth c.args.keep_going (map step_of c.args.steps.now) c.in-Ok.session says c.in-Ok.ensures.opened _ _ c.execute_and_put_out.result
+    (rw c.insert-session.ensures.value at c.execute_and_put_out.ensures.told)

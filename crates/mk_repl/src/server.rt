@@ -1,0 +1,543 @@
+//! A makefile that is open, and what it answers to requests.
+ghost use Rattle.std.specs.Prelude.{◌≡◌, IfOk, IsSomeAnd, OnErr, OnOk, Some, is_ok, option_and_then};
+ghost use Rattle.mk_repl.specs.AnswerLines.{lines_between};
+ghost use Rattle.mk_repl.specs.Replies.{IsLineExecuted};
+ghost use Rattle.mk_repl.specs.Requests.{Of, Word, asked_of};
+ghost use Rattle.mk_repl.specs.declared.request.RequestOf.TheVariants as of;
+ghost use Rattle.mk_session.specs.Sessions.{seen_opened};
+ghost use Rattle.mk_tree.specs.Documents.{document_lines};
+ghost use Rattle.mk_repl.specs.QueryTexts.{query_text};
+ghost use Rattle.mk_repl.specs.SessionForms.{in_form};
+ghost use Rattle.mk_repl.specs.SessionReplies.{HasAnswer, IsRequestDone, IsReverted, after_request, answer_in, answer_text, is_quit};
+
+use crate::command_log::{CommandLog, EditMade};
+use crate::help_text::HELP;
+use crate::not_done::{NotDone, shown_name};
+use crate::on_disk::{look, look_missing, put, put_or_make};
+use crate::question::{json_lines, put_lines};
+use crate::text_lines::text_lines;
+use crate::{
+    After, Executed, Request, RequestOf, RequestWord, Reverted, TextSink, execute_line,
+    lines_between, revert,
+};
+use mk_cli::{Form, Query, SessionWords, command_called, put_explanation, put_help, refusal_of};
+use mk_diff::{diff, patch_name};
+use mk_fs::{AsRead, Expected};
+use mk_json as json;
+use mk_lines::Fault;
+use mk_lookup::get;
+use mk_queries::{recipes_for, rules_for, vars_named};
+use mk_session::{Refusal, Session};
+use mk_tree::text_of;
+use std::alloc::Global;
+use std::str::from_utf8;
+
+/// How a makefile was opened.
+#[derive(Drop)]
+pub struct Opened<'a> {
+    /// Its name, as the command line has it.
+    pub name: &'a str,
+    /// How answers are written.
+    pub form: Form,
+    /// Its text then.
+    pub text: Vec<u8>,
+}
+
+/// A makefile that is open.
+#[derive(Drop)]
+pub struct Server<'a> {
+    rt: &'a HostRuntime,
+    session: Session<Global>,
+    opened: Opened<'a>,
+    // The text as it was written last, if it was.
+    written: Option<Vec<u8>>,
+    // Whether there is no file yet.
+    is_missing: bool,
+    command_log: CommandLog,
+    // Whether the last request was a `quit` that was not done.
+    is_warned: bool,
+}
+
+/// What came of a request.
+#[derive(Drop)]
+pub struct Asked {
+    /// The text of the answer, or why the request is not done.
+    pub answer: Result<Vec<u8>, NotDone>,
+    /// Whether the session goes on.
+    pub after: After,
+}
+
+// Whether a request asks that the session ends.
+fn is_quit(request: Request<'_>) -> bool
+    ensures { result ≡ is_quit (asked_of request.entry) }
+{
+    match request {
+        Request::Word(RequestWord::Quit | RequestWord::QuitAnyway) => true,
+        _ => false,
+    }
+}
+
+// Whether the session goes on after a request that was done or not.
+fn after_request(request: Request<'_>, is_done: bool) -> After
+    ensures { result ≡ after_request (asked_of request.entry) is_done }
+{
+    if is_quit(request) && is_done {
+        After::Ends
+    } else {
+        After::GoesOn
+    }
+}
+
+impl<'a> Server<'a> {
+    /// Opens a text, which is that of the makefile, or that of a makefile that is missing.
+    ///
+    /// # Errors
+    ///
+    /// Those of [`Session::open_vec`].
+    pub fn open(
+        rt: &'a HostRuntime,
+        words: SessionWords<'a>,
+        text: Vec<u8>,
+        is_missing: bool,
+    ) -> Result<Server<'a>, Fault>
+        ensures session { IfOk result (λ server. server.session ≡ seen_opened words.entry.depth text.items) }
+        ensures opened { IfOk result (λ server. server.opened.text.items ≡ text.items) }
+        ensures name { IfOk result (λ server. server.opened.name ≡ words.entry.file) }
+        ensures form { IfOk result (λ server. server.opened.form ≡ words.entry.form) }
+    {
+        let opened = Opened {
+            name: words.file,
+            form: words.form,
+            text: Vec::from_slice(rt.alloc(), text.as_slice())?,
+        };
+        let session = Session::open_vec(rt.alloc(), text, words.depth)?;
+        Ok(Server {
+            rt,
+            session,
+            opened,
+            written: None,
+            is_missing,
+            command_log: CommandLog::new(rt.alloc(), words.depth as usize),
+            is_warned: false,
+        })
+    }
+
+    /// The runtime.
+    pub fn runtime(&self) -> &'a HostRuntime {
+        self.rt
+    }
+
+    /// The name of the makefile, as the command line has it.
+    pub fn name(&self) -> &'a str {
+        self.opened.name
+    }
+
+    /// The bytes that the makefile was left with.
+    pub fn left(&self) -> &[u8] {
+        match &self.written {
+            Some(text) => text.as_slice(),
+            None => self.opened.text.as_slice(),
+        }
+    }
+
+    /// The text that is shown.
+    ///
+    /// # Errors
+    ///
+    /// [`NotDone::NoMemory`].
+    pub fn text(&self) -> Result<Vec<u8>, NotDone>
+        ensures { IfOk result (λ text. text.items ≡ self.now.session.shown.text) }
+    {
+        Ok(text_of(self.rt.alloc(), self.session.doc())?)
+    }
+
+    // The lines of the text from one number to another.
+    fn print(&self, from: u64, to: u64) -> Result<Vec<u8>, NotDone>
+        ensures { IfOk result (λ lines. lines.items ≡ lines_between from to self.now.session.shown.text) }
+    {
+        let text = self.text()?;
+        let lines = lines_between(text.as_slice(), from, to);
+        Ok(Vec::from_slice(self.rt.alloc(), lines)?)
+    }
+
+    // What has changed since the text was opened.
+    fn diff(&self) -> Result<Vec<u8>, NotDone> {
+        let text = self.text()?;
+        let name = patch_name(self.opened.name.as_bytes());
+        match diff(
+            self.rt.alloc(),
+            self.opened.text.as_slice(),
+            text.as_slice(),
+            name,
+        ) {
+            Ok(text) => Ok(text),
+            Err(_) => Err(NotDone::NoMemory),
+        }
+    }
+
+    // An answer in the form that is asked for.
+    fn in_form(&self, text: Vec<u8>) -> Result<Vec<u8>, NotDone>
+        ensures { HasAnswer (in_form self.now.opened.form text.items) (answer_text result) }
+    {
+        match self.opened.form {
+            Form::Text => Ok(text),
+            Form::Json => Ok(text_lines(self.rt.alloc(), text.as_slice())?),
+        }
+    }
+
+    // The answer to a query, for a person.
+    fn query_text(&self, query: Query<'_>) -> Result<Vec<u8>, NotDone>
+        ensures { HasAnswer (query_text query.entry (document_lines self.now.session.shown.text))
+            (answer_text result) }
+    {
+        let mut sink = TextSink::new(self.rt.alloc());
+        match put_lines(query, self.session.doc(), &mut sink) {
+            Ok(()) => Ok(sink.text),
+            Err(_) => Err(NotDone::NoMemory),
+        }
+    }
+
+    // The answer to a query, in the form that is asked for.
+    fn query(&self, query: Query<'_>) -> Result<Vec<u8>, NotDone>
+        ensures { HasAnswer (option_and_then (in_form self.now.opened.form)
+            (query_text query.entry (document_lines self.now.session.shown.text)))
+            (answer_text result) }
+    {
+        let alloc = self.rt.alloc();
+        match self.opened.form {
+            Form::Text => self.query_text(query),
+            Form::Json => Ok(json_lines(alloc, query, self.opened.name, self.session.doc())?),
+        }
+    }
+
+    // What is said of the refusal that a word calls.
+    fn explain(&self, word: &[u8]) -> Result<Vec<u8>, NotDone> {
+        let Ok(word) = from_utf8(word) else {
+            return Err(NotDone::NoRefusal);
+        };
+        let Some(refusal) = refusal_of(word) else {
+            return Err(NotDone::NoRefusal);
+        };
+        let mut sink = TextSink::new(self.rt.alloc());
+        match put_explanation(&refusal, &mut sink) {
+            Ok(()) => Ok(sink.text),
+            Err(_) => Err(NotDone::NoMemory),
+        }
+    }
+
+    // What is said of the command that has a word.
+    fn help(&self, word: &[u8]) -> Result<Vec<u8>, NotDone> {
+        let Ok(word) = from_utf8(word) else {
+            return Err(NotDone::NoCommand);
+        };
+        let Some(command) = command_called(word) else {
+            return Err(NotDone::NoCommand);
+        };
+        let mut sink = TextSink::new(self.rt.alloc());
+        match put_help(command, &mut sink) {
+            Ok(()) => Ok(sink.text),
+            Err(_) => Err(NotDone::NoMemory),
+        }
+    }
+
+    // The value of a variable, which `set` would change, and the end of its line.
+    fn get(&self, nth: Option<u32>, name: &[u8]) -> Result<Vec<u8>, NotDone> {
+        match get(self.session.doc(), nth, name) {
+            Ok(value) => {
+                let mut text = Vec::from_slice(self.rt.alloc(), value)?;
+                text.extend_from_slice(b"\n")?;
+                Ok(text)
+            }
+            Err(refusal) => Err(NotDone::Refused(refusal)),
+        }
+    }
+
+    // The value of one of several assignments.
+    fn get_nth(&self, nth: u64, name: &[u8]) -> Result<Vec<u8>, NotDone> {
+        match u32::try_from(nth) {
+            Ok(nth) => self.get(Some(nth), name),
+            Err(_) => Err(NotDone::Refused(Refusal::NoSuch)),
+        }
+    }
+
+    // The assignments of a name.
+    fn vars_named(&self, name: &[u8]) -> Result<Vec<u8>, NotDone>
+        ensures { HasAnswer (answer_in self.now.opened self.now.session.shown.text (Of of.Vars name.now))
+            (answer_text result) }
+    {
+        let (alloc, doc) = (self.rt.alloc(), self.session.doc());
+        if self.opened.form == Form::Json {
+            let file = self.opened.name.as_bytes();
+            return Ok(json::vars(alloc, file, doc, Some(name))?);
+        }
+        let mut sink = TextSink::new(alloc);
+        match vars_named(doc, name, &mut sink) {
+            Ok(()) => Ok(sink.text),
+            Err(_) => Err(NotDone::NoMemory),
+        }
+    }
+
+    // The rules for a target.
+    fn rules_for(&self, target: &[u8]) -> Result<Vec<u8>, NotDone>
+        ensures { HasAnswer (answer_in self.now.opened self.now.session.shown.text (Of of.Rules target.now))
+            (answer_text result) }
+    {
+        let (alloc, doc) = (self.rt.alloc(), self.session.doc());
+        if self.opened.form == Form::Json {
+            let file = self.opened.name.as_bytes();
+            return Ok(json::rules(alloc, file, doc, Some(target))?);
+        }
+        let mut sink = TextSink::new(alloc);
+        match rules_for(doc, target, &mut sink) {
+            Ok(()) => Ok(sink.text),
+            Err(_) => Err(NotDone::NoMemory),
+        }
+    }
+
+    // The recipe lines of the rules for a target.
+    fn recipes_for(&self, target: &[u8]) -> Result<Vec<u8>, NotDone>
+        ensures { HasAnswer (answer_in self.now.opened self.now.session.shown.text (Of of.Recipes target.now))
+            (answer_text result) }
+    {
+        let (alloc, doc) = (self.rt.alloc(), self.session.doc());
+        if self.opened.form == Form::Json {
+            let file = self.opened.name.as_bytes();
+            return Ok(json::recipes(alloc, file, doc, Some(target))?);
+        }
+        let mut sink = TextSink::new(alloc);
+        match recipes_for(doc, target, &mut sink) {
+            Ok(()) => Ok(sink.text),
+            Err(_) => Err(NotDone::NoMemory),
+        }
+    }
+
+    // Puts the text into the makefile's place, and answers it.
+    fn put_text(&self) -> Result<Vec<u8>, NotDone>
+        ensures { IfOk result (λ text. text.items ≡ self.now.session.shown.text) }
+    {
+        let (rt, name, text) = (self.rt, self.opened.name, self.text()?);
+        if self.is_missing {
+            put_or_make(rt, name, text.as_slice())?;
+        } else {
+            put(rt, name, Expected::AnyFile, text.as_slice())?;
+        }
+        Ok(text)
+    }
+
+    // The same, if the makefile is as it was left.
+    fn put_if_left(&self) -> Result<Vec<u8>, NotDone>
+        ensures { IfOk result (λ text. text.items ≡ self.now.session.shown.text) }
+    {
+        let (rt, name, text) = (self.rt, self.opened.name, self.text()?);
+        if self.is_missing {
+            look_missing(rt, name)?;
+            put(rt, name, Expected::Nothing, text.as_slice())?;
+            return Ok(text);
+        }
+        let left = self.left();
+        let file = &look(rt, name, left)?;
+        let expected = Expected::AsRead(AsRead { file, text: left });
+        put(rt, name, expected, text.as_slice())?;
+        Ok(text)
+    }
+
+    // Takes note of the text that the makefile has now.
+    fn note_written(&mut self, text: Vec<u8>)
+        ensures session { self.new.session ≡ self.old.session }
+        ensures opened { self.new.opened ≡ self.old.opened }
+        ensures written { self.new.written ≡ Some text }
+    {
+        self.is_missing = false;
+        self.written = Some(text);
+    }
+
+    // Puts the text into the makefile's place.
+    fn write_text(&mut self) -> Result<(), NotDone>
+        ensures session { self.new.session ≡ self.old.session }
+        ensures opened { self.new.opened ≡ self.old.opened }
+        ensures written { OnOk result (IsSomeAnd self.new.written
+            (λ text. text.items ≡ self.old.session.shown.text)) }
+        ensures unwritten { OnErr result (self.new.written ≡ self.old.written) }
+    {
+        let text = self.put_text()?;
+        self.note_written(text);
+        Ok(())
+    }
+
+    // The same, if the makefile is as it was left.
+    fn write_if_left(&mut self) -> Result<(), NotDone>
+        ensures session { self.new.session ≡ self.old.session }
+        ensures opened { self.new.opened ≡ self.old.opened }
+        ensures written { OnOk result (IsSomeAnd self.new.written
+            (λ text. text.items ≡ self.old.session.shown.text)) }
+        ensures unwritten { OnErr result (self.new.written ≡ self.old.written) }
+    {
+        let text = self.put_if_left()?;
+        self.note_written(text);
+        Ok(())
+    }
+
+    // Puts the text into a file of this name. The makefile's own name is `write`.
+    fn write_to(&mut self, file: &[u8]) -> Result<(), NotDone>
+        ensures session { self.new.session ≡ self.old.session }
+        ensures opened { self.new.opened ≡ self.old.opened }
+    {
+        let Ok(file) = from_utf8(file) else {
+            return Err(NotDone::CannotWrite);
+        };
+        if file == self.opened.name {
+            return self.write_if_left();
+        }
+        let text = self.text()?;
+        put_or_make(self.rt, file, text.as_slice())
+    }
+
+    // Undoes all that can be undone.
+    fn revert(&mut self) -> Result<(), NotDone>
+        ensures reverted { IsReverted self.old.opened.text.items self.old.session.shown self.new.session.shown result }
+        ensures opened { self.new.opened ≡ self.old.opened }
+    {
+        let reverted = revert(
+            self.rt.alloc(),
+            &mut self.session,
+            self.opened.text.as_slice(),
+        );
+        if reverted.is_ok() {
+            self.command_log.note_reverted();
+        }
+        match reverted {
+            Ok(Reverted::Opened) => Ok(()),
+            Ok(Reverted::BeyondDepth) => Err(NotDone::BeyondDepth),
+            Ok(Reverted::Unknown) => Err(NotDone::NoMemory),
+            Err(refusal) => Err(NotDone::Refused(refusal)),
+        }
+    }
+
+    // Whether all changes are in the makefile, or the request before was a `quit` that was not done.
+    fn quit(&self) -> Result<(), NotDone> {
+        if self.is_warned {
+            return Ok(());
+        }
+        let text = self.text()?;
+        if text.as_slice() == self.left() {
+            Ok(())
+        } else {
+            Err(NotDone::Unwritten)
+        }
+    }
+
+    // The commands and the requests, for a person.
+    fn commands(&self) -> Result<Vec<u8>, NotDone> {
+        Ok(Vec::from_slice(self.rt.alloc(), HELP.as_bytes())?)
+    }
+
+    // What is answered to a request of one word; the text of the answer.
+    fn done_word(&mut self, word: RequestWord) -> Result<Vec<u8>, NotDone>
+        ensures done { IsRequestDone (Word word) self.old.opened self.old.session.shown
+            self.new.session.shown (answer_text result) }
+        ensures opened { self.new.opened ≡ self.old.opened }
+    {
+        match word {
+            RequestWord::Diff => return self.in_form(self.diff()?),
+            RequestWord::Vars => return self.query(Query::Vars(None)),
+            RequestWord::Rules => return self.query(Query::Rules(None)),
+            RequestWord::Recipes => return self.query(Query::Recipes(None)),
+            RequestWord::Check => return self.query(Query::Check),
+            RequestWord::Caveats => return self.query(Query::Caveats),
+            RequestWord::History => return self.in_form(self.command_log.text()?),
+            RequestWord::Help => return self.in_form(self.commands()?),
+            RequestWord::Write => self.write_if_left()?,
+            RequestWord::WriteAnyway => self.write_text()?,
+            RequestWord::Revert => self.revert()?,
+            RequestWord::Quit => self.quit()?,
+            RequestWord::QuitAnyway => {}
+        }
+        Ok(Vec::new(self.rt.alloc()))
+    }
+
+    // What is answered to a request of two words; the text of the answer.
+    fn done_of(&mut self, of: RequestOf, word: &[u8]) -> Result<Vec<u8>, NotDone>
+        ensures answer { HasAnswer (answer_in self.old.opened self.old.session.shown.text (Of of word.now))
+            (answer_text result) }
+        ensures session { self.new.session ≡ self.old.session }
+        ensures opened { self.new.opened ≡ self.old.opened }
+    {
+        match of {
+            RequestOf::Explain => self.in_form(self.explain(word)?),
+            RequestOf::Help => self.in_form(self.help(word)?),
+            RequestOf::Get => self.in_form(self.get(None, word)?),
+            RequestOf::Vars => self.vars_named(word),
+            RequestOf::Rules => self.rules_for(word),
+            RequestOf::Recipes => self.recipes_for(word),
+            RequestOf::Write => {
+                self.write_to(word)?;
+                Ok(Vec::new(self.rt.alloc()))
+            }
+        }
+    }
+
+    // What is answered to a request.
+    fn done(&mut self, request: Request<'_>) -> Result<Vec<u8>, NotDone>
+        ensures done { IsRequestDone (asked_of request.entry) self.old.opened self.old.session.shown
+            self.new.session.shown (answer_text result) }
+        ensures opened { self.new.opened ≡ self.old.opened }
+    {
+        match request {
+            Request::Print(from, to) => self.in_form(self.print(from, to)?),
+            Request::GetNth(nth, name) => self.in_form(self.get_nth(nth, name)?),
+            Request::Of(of, word) => self.done_of(of, word),
+            Request::Word(word) => self.done_word(word),
+        }
+    }
+
+    /// Executes the command of a line, if it is one.
+    pub fn execute(&mut self, line: &[u8]) -> Executed
+        ensures executed { IsLineExecuted line.now self.old.session.shown self.new.session.shown result }
+        ensures opened { self.new.opened ≡ self.old.opened }
+        ensures written { self.new.written ≡ self.old.written }
+        ensures name { self.new.opened.name ≡ self.old.opened.name }
+    {
+        let mut made = EditMade(false);
+        let executed = execute_line(self.rt.alloc(), &mut self.session, line, &mut made);
+        if executed == Executed::Done {
+            self.command_log.note(line, &made);
+        }
+        if matches!(executed, Executed::Done | Executed::Refused(_)) {
+            self.is_warned = false;
+        }
+        executed
+    }
+
+    /// Takes note of a line that is neither a command nor a request: a `quit` behind it is the first one.
+    pub(crate) fn forget_quit(&mut self)
+        ensures session { self.new.session ≡ self.old.session }
+        ensures opened { self.new.opened ≡ self.old.opened }
+    {
+        self.is_warned = false;
+    }
+
+    /// The name by which a reply to a request shows a file: that of the makefile, or of the file that the
+    /// request names.
+    pub fn shown_in<'b>(&self, request: Request<'b>) -> &'b [u8]
+    where
+        'a: 'b,
+    {
+        match request {
+            Request::Of(RequestOf::Write, file) => file,
+            _ => shown_name(self.opened.name),
+        }
+    }
+
+    /// Answers a request. The second `quit` in a row ends the session.
+    pub fn ask(&mut self, request: Request<'_>) -> Asked
+        ensures done { IsRequestDone (asked_of request.entry) self.old.opened self.old.session.shown
+            self.new.session.shown (answer_text result.answer) }
+        ensures opened { self.new.opened ≡ self.old.opened }
+        ensures after { result.after ≡ after_request (asked_of request.entry) (is_ok result.answer) }
+    {
+        let answer = self.done(request);
+        self.is_warned = matches!(request, Request::Word(RequestWord::Quit));
+        let after = after_request(request, answer.is_ok());
+        Asked { answer, after }
+    }
+}
