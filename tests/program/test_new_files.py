@@ -1,5 +1,6 @@
 """Tests of a file that a session makes: it is there with its whole text, or not at all."""
 
+import contextlib
 import os
 import re
 import shutil
@@ -33,8 +34,9 @@ class NewFiles(RoomCase):
         command = ["strace", "-f", "-qq", *options, self.room.program.path, "session", *words]
         streams = {it: subprocess.PIPE for it in ("stdin", "stdout", "stderr")}
         process = subprocess.Popen(command, cwd=self.room.folder, **streams)
-        process.stdin.write(given)
-        process.stdin.flush()
+        with contextlib.suppress(BrokenPipeError):
+            process.stdin.write(given)
+            process.stdin.flush()
         if meanwhile:
             meanwhile()
         out, err = process.communicate(timeout=SECONDS)

@@ -66,7 +66,9 @@ fn put_into_place<'a>(
     ensures looked { IfOk result (λ persisted. IsLookedAt expected.entry persisted.same) }
     ensures temporary { IfErr result (λ not_committed. not_committed.temporary ≡ temporary.entry) }
 {
-    make_sure(rt, temporary, backup)?.look(rt, expected)?.rename(rt)
+    make_sure(rt, temporary, backup)?
+        .look(rt, expected)?
+        .rename(rt)
 }
 
 // Puts the text into the makefile's place, or leaves the makefile alone where that is its text.

@@ -80,11 +80,7 @@ impl<'a> Backup<'a> {
     /// # Errors
     ///
     /// That of the step that fails. What had that path has it then.
-    pub fn make(
-        rt: &HostRuntime,
-        makefile: &PathBuf,
-        suffix: &'a str,
-    ) -> io::Result<Backup<'a>>
+    pub fn make(rt: &HostRuntime, makefile: &PathBuf, suffix: &'a str) -> io::Result<Backup<'a>>
         ensures { IfOk result (λ backup. backup.suffix ≡ suffix.entry) }
     {
         let path = path_with_suffix(rt, makefile, suffix)?;

@@ -125,11 +125,7 @@ fn or_removed<T>(rt: &HostRuntime, path: PathBuf, step: io::Result<T>) -> io::Re
 }
 
 // Makes a new file in the makefile's folder.
-fn new_file_beside(
-    rt: &HostRuntime,
-    makefile: &PathBuf,
-    mode: u32,
-) -> io::Result<(PathBuf, File)> {
+fn new_file_beside(rt: &HostRuntime, makefile: &PathBuf, mode: u32) -> io::Result<(PathBuf, File)> {
     let path = name_beside(rt, makefile)?;
     let file = new_file_options(mode).open(rt, &path)?;
     or_removed(rt, path, beside_standard_streams(file))
@@ -196,7 +192,6 @@ pub(super) fn second_name_beside(rt: &HostRuntime, file: &PathBuf) -> io::Result
         Err(_) => copy_beside(rt, file),
     }
 }
-
 
 // Opens a file to be read.
 fn source(rt: &HostRuntime, path: &PathBuf) -> io::Result<StdSource<File>>
@@ -306,7 +301,9 @@ impl<'a> TemporaryFile<'a> {
     fn begin_new(rt: &HostRuntime, name: &'a str) -> Result<TemporaryFile<'a>, Cause>
         ensures { IfOk result (λ temporary. (temporary.name.now ≡ name.now) × (temporary.is_new ≡ true)) }
     {
-        let makefile = Path::new(name).to_path_buf(rt.alloc()).map_err(io::Error::from)?;
+        let makefile = Path::new(name)
+            .to_path_buf(rt.alloc())
+            .map_err(io::Error::from)?;
         match new_file_beside(rt, &makefile, NEW_MODE) {
             Ok((path, file)) => Ok(TemporaryFile {
                 name,
