@@ -4,12 +4,11 @@
 ghost use Rattle.std.specs.Prelude.{◌≡◌, true, None, IfOk, OnOk};
 
 use anyhow::{Context, Result};
-use mk_lines::source::read_all;
-use mk_lines::{StdSink, StdSource};
-use mk_listing::{assignments, assignments_of, rules_for};
-use mk_session::laws::{groups_are_taken_back, undo_takes_back_an_edit};
-use mk_session::{Edit, Refusal, Session};
-use mk_tree::text_of;
+use mk::laws::{groups_are_taken_back, undo_takes_back_an_edit};
+use mk::{
+    Edit, Refusal, Session, StdSink, StdSource, assignments, assignments_of, read_all, rules_for,
+    text_of,
+};
 use std::env;
 use std::fs::File;
 
