@@ -18,6 +18,6 @@ class Client(RoomCase):
             env={**os.environ, "MKEDIT": str(self.room.program.path)},
             capture_output=True,
             text=True,
-            timeout=SECONDS,
+            timeout=5 * SECONDS,
         )
         self.assertEqual(ended.returncode, 0, ended.stderr)

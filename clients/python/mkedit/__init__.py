@@ -9,16 +9,28 @@ A text is a str. Bytes that are not UTF-8 stand in it as `surrogateescape` puts 
 were.
 """
 
+from .errors import BadReply, Ended, Error, Fault, Refused, TimedOut
+from .found import Assignment, Condition, Found, Line, RecipeLine, Rule, Step
 from .places import BOTTOM, Place, after_var, before_rule, before_var
 from .session import Session, open
-from .talk import Fault, Refused
 
 __all__ = [
     "BOTTOM",
+    "Assignment",
+    "BadReply",
+    "Condition",
+    "Ended",
+    "Error",
     "Fault",
+    "Found",
+    "Line",
     "Place",
+    "RecipeLine",
     "Refused",
+    "Rule",
     "Session",
+    "Step",
+    "TimedOut",
     "after_var",
     "before_rule",
     "before_var",

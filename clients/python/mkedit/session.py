@@ -3,10 +3,14 @@
 import os
 from contextlib import contextmanager
 from types import TracebackType
-from typing import Iterator, Optional, Type
+from typing import Iterator, List, Optional, Type
 
+from . import answers
+from .errors import Error, put_behind
+from .found import Assignment, RecipeLine, Rule, Step
 from .places import Place
-from .talk import PathName, Talk, field, word
+from .talk import PathName, Talk
+from .words import MOST_OF_REQUEST, digits, field, word
 
 
 class Session:
@@ -14,13 +18,23 @@ class Session:
 
     Each edit raises `Refused` where docs/EDITS.md says so, and has changed nothing then. nth is the number,
     from 1, of the line that is meant among those of the same name or target; without it the edit means the
-    only one. `Fault` is raised where the session cannot answer.
+    only one. `Fault` is raised where the session cannot answer, and `Ended`, which is a `Fault`, where it
+    has ended. Fields that no command can have are a ValueError or a TypeError, and nothing is sent.
+
+    Threads may share a session: each call is done whole before that of another thread begins. A group is
+    one of the session, so it has the edits that other threads make meanwhile too. A call that an exception
+    breaks off, such as KeyboardInterrupt, ends the session.
     """
 
     def __init__(
-        self, path: PathName, depth: Optional[int] = None, program: str = "mkedit", new: bool = False
+        self,
+        path: PathName,
+        depth: Optional[int] = None,
+        program: str = "mkedit",
+        new: bool = False,
+        timeout: Optional[float] = None,
     ) -> None:
-        self._talk = Talk(path, depth, program, new)
+        self._talk = Talk(path, depth, program, new, timeout)
 
     def __enter__(self) -> "Session":
         return self
@@ -31,17 +45,22 @@ class Session:
         self.close()
 
     def close(self) -> None:
-        """Ends the session. What is not written is lost."""
+        """Ends the session, after the call of another thread if there is one. What is not written is lost."""
         self._talk.end()
 
     # ---- how commands and requests are sent
 
     def _do(self, word: str, *fields: str, nth: Optional[int] = None, before: str = "") -> None:
-        number = ["nth", str(nth)] if nth is not None else []
-        self._talk.ask(*number, *([before] if before else []), word, *map(field, fields))
+        first = ["nth", digits(nth)] if nth is not None else [before] if before else []
+        self._talk.ask(answers.nothing, *first, word, *map(field, fields))
+
+    def _put_in(self, word: str, place: Place, *fields: str) -> None:
+        if not isinstance(place, Place):
+            raise TypeError(f"a place is a Place, and not of type {type(place).__name__}")
+        self._do(word, *place.fields, *fields, nth=place.nth)
 
     def _told(self, *words: str) -> str:
-        return self._talk.ask(*words).decode("utf-8", "surrogateescape")
+        return self._talk.ask(answers.text, *words)
 
     # ---- variables
 
@@ -83,13 +102,13 @@ class Session:
 
     def assign(self, place: Place, name: str, operator: str, value: str) -> None:
         """Puts in the line of an assignment."""
-        self._do("assign", *place.fields, name, operator, value, nth=place.nth)
+        self._put_in("assign", place, name, operator, value)
 
     # ---- rules
 
     def rule(self, place: Place, targets: str, separator: str, prerequisites: str) -> None:
         """Puts in the line of a rule."""
-        self._do("rule", *place.fields, targets, separator, prerequisites, nth=place.nth)
+        self._put_in("rule", place, targets, separator, prerequisites)
 
     def unrule(self, target: str, nth: Optional[int] = None) -> None:
         """Takes a rule away, with its recipe."""
@@ -113,15 +132,15 @@ class Session:
 
     def recipe_insert(self, target: str, number: int, line: str, nth: Optional[int] = None) -> None:
         """Puts a line before the recipe line of a number, from 1."""
-        self._do("recipe-insert", target, str(number), line, nth=nth)
+        self._do("recipe-insert", target, digits(number), line, nth=nth)
 
     def recipe_set(self, target: str, number: int, line: str, nth: Optional[int] = None) -> None:
         """Replaces the recipe line of a number, from 1."""
-        self._do("recipe-set", target, str(number), line, nth=nth)
+        self._do("recipe-set", target, digits(number), line, nth=nth)
 
     def recipe_del(self, target: str, number: int, nth: Optional[int] = None) -> None:
         """Takes the recipe line of a number, from 1, away."""
-        self._do("recipe-del", target, str(number), nth=nth)
+        self._do("recipe-del", target, digits(number), nth=nth)
 
     def recipe_replace(self, target: str, old: str, line: str, nth: Optional[int] = None) -> None:
         """Replaces the recipe line that says old."""
@@ -147,14 +166,25 @@ class Session:
 
     @contextmanager
     def group(self) -> Iterator["Session"]:
-        """Edits as one: an exception takes all of them back."""
+        """Edits as one: an exception takes all of them back, and comes out.
+
+        Where they cannot be taken back, for instance since the session has ended, the error that says so is
+        in the context of the exception.
+        """
         self._do("begin")
         try:
             yield self
-        except BaseException:
-            self._do("cancel")
+        except BaseException as fault:
+            self._cancel(fault)
             raise
         self._do("end")
+
+    def _cancel(self, fault: BaseException) -> None:
+        """Takes a group back after an exception, which no error of this hides."""
+        try:
+            self._do("cancel")
+        except Error as later:
+            put_behind(fault, later)
 
     def revert(self) -> None:
         """Takes back all that can be; a fault where the depth was too small for that."""
@@ -168,7 +198,7 @@ class Session:
 
     def lines(self, first: int, last: int) -> str:
         """Its lines from one number to another; the first line has the number 1."""
-        return self._told("print", str(first), str(last))
+        return self._told("print", digits(first, MOST_OF_REQUEST), digits(last, MOST_OF_REQUEST))
 
     def diff(self) -> str:
         """The difference from the file as it was opened, as `mkedit edit --diff` prints it."""
@@ -176,32 +206,32 @@ class Session:
 
     def get(self, name: str, nth: Optional[int] = None) -> str:
         """The value of the assignment that `set` would change; refused as `set` is."""
-        number = ["nth", str(nth)] if nth is not None else []
-        return self._told(*number, "get", word(name))[:-1]
+        first = ["nth", digits(nth, MOST_OF_REQUEST)] if nth is not None else []
+        return self._told(*first, "get", word(name))[:-1]
 
-    def vars(self, name: Optional[str] = None) -> str:
-        """What `mkedit vars` prints, or `mkedit vars --name NAME`."""
-        return self._told("vars", *([word(name)] if name is not None else []))
+    def vars(self, name: Optional[str] = None) -> List[Assignment]:
+        """The assignments in their order, or those of a name."""
+        return self._talk.ask(answers.assignments, "vars", *([word(name)] if name is not None else []))
 
-    def rules(self, target: Optional[str] = None) -> str:
-        """What `mkedit rules` prints, or `mkedit rules --target TARGET`."""
-        return self._told("rules", *([word(target)] if target is not None else []))
+    def rules(self, target: Optional[str] = None) -> List[Rule]:
+        """The rules in their order, or those for a target."""
+        return self._talk.ask(answers.rules, "rules", *([word(target)] if target is not None else []))
 
-    def recipes(self, target: Optional[str] = None) -> str:
-        """What `mkedit recipes` prints, or `mkedit recipes --target TARGET`."""
-        return self._told("recipes", *([word(target)] if target is not None else []))
+    def recipes(self, target: Optional[str] = None) -> List[RecipeLine]:
+        """The recipe lines of the rules in their order, or those of the rules for a target."""
+        return self._talk.ask(answers.recipe_lines, "recipes", *([word(target)] if target is not None else []))
 
-    def history(self) -> str:
-        """What can be undone and redone, a line each, the last first."""
-        return self._told("history")
+    def history(self) -> List[Step]:
+        """What can be undone and redone, the last first; a group that is open comes before that."""
+        return self._talk.ask(answers.steps, "history")
 
     def check(self) -> str:
         """What `mkedit check` prints."""
-        return self._told("check")
+        return self._talk.ask(answers.check_text, "check")
 
     def caveats(self) -> str:
         """What `mkedit caveats` prints."""
-        return self._told("caveats")
+        return self._talk.ask(answers.caveats_text, "caveats")
 
     def explain(self, refusal: str) -> str:
         """What `mkedit explain` prints of a refusal, by its name or its number."""
@@ -223,10 +253,16 @@ class Session:
 
 
 def open(
-    path: PathName, depth: Optional[int] = None, program: str = "mkedit", new: bool = False
+    path: PathName,
+    depth: Optional[int] = None,
+    program: str = "mkedit",
+    new: bool = False,
+    timeout: Optional[float] = None,
 ) -> Session:
     """Opens a makefile. depth is how many edits can be undone, from 1 to 10,000; without it 100.
 
     If new is true, a makefile that is missing is opened as an empty one, which the first `write` makes.
+    timeout is how many seconds each reply may take. Where one takes longer, `TimedOut` is raised, and the
+    session has ended. Without it there is no limit.
     """
-    return Session(path, depth, program, new)
+    return Session(path, depth, program, new, timeout)

@@ -1,122 +1,147 @@
-"""A talk with `mkedit session`: a line goes in, and the lines of its answer and its reply come out.
+"""A talk with `mkedit session --json`: a line goes in, and the lines of its answer and its reply come out.
 
 docs/PROTOCOL.md of mkedit has the protocol. This is a client of its version 1.
 """
 
+import json
+import math
 import os
 import re
-import subprocess
-from typing import List, Optional, Sequence, Union
+import threading
+from typing import Callable, List, Optional, TypeVar, Union
+
+from .answers import Members
+from .errors import BadReply, Ended, Error, Fault, Refused, TimedOut
+from .process import PATIENCE, Deadline, Gone, Process
+from .words import digits
 
 # The name of a file.
 PathName = Union[str, "os.PathLike[str]"]
+T = TypeVar("T")
 
-GREETING = b"mkedit session 1\n"
-# What stands before a line of an answer, and before its last line if that has no line feed.
-LINE, OPEN_LINE = b"| ", b"|~ "
-# What has to stand between quotes, and what gets a backslash there.
-QUOTED, ESCAPED = re.compile(r'[ \t\r"]'), re.compile(r'(["\\])')
-
-# What ends a word of a request.
-WORD_END = re.compile(r"[ \t\r\n]")
-
-
-class Refused(Exception):
-    """A command was refused, and nothing has changed.
-
-    number and name are those of docs/EDITS.md. detail is the count or the field that comes with some.
-    """
-
-    def __init__(self, number: int, name: str, detail: Union[int, str, None]) -> None:
-        super().__init__(f"{number} {name}" if detail is None else f"{number} {name} {detail}")
-        self.number = number
-        self.name = name
-        self.detail = detail
+GREETING = b"mkedit session 1"
+# What stands before a line of an answer.
+MARK = b"| "
+FAULT, REFUSED = re.compile(r"fault (.+)"), re.compile(r"refused ([0-9]+) (\w+)(?: (.+))?")
+MOST_DEPTH = 10_000
+# Why a session has ended.
+CLOSED = "it was closed"
+BROKEN_OFF = "a call was broken off before its reply was there"
 
 
-class Fault(Exception):
-    """A line could not be answered, or the session has ended. The text is that of the reply."""
+def outcome(reply: str) -> Optional[Error]:
+    """What a reply says. It is None where that is `ok`."""
+    if reply == "ok":
+        return None
+    fault, refused = FAULT.fullmatch(reply), REFUSED.fullmatch(reply)
+    if fault:
+        return Fault(fault[1])
+    if not refused:
+        raise ValueError(f"{reply[:100]!r}")
+    code, name, detail = refused.groups()
+    is_count = detail is not None and re.fullmatch("[0-9]+", detail)
+    return Refused(int(code), name, int(detail) if is_count else detail)
 
 
-def field(text: str) -> str:
-    """A field of a command, as it stands in the line: between quotes where it has to."""
-    if "\n" in text:
-        raise ValueError("no command has a line feed in it")
-    if text and not QUOTED.search(text):
-        return text
-    return '"' + ESCAPED.sub(r"\\\1", text) + '"'
+def members(line: bytes) -> Members:
+    """The object that a line of an answer is."""
+    found = json.loads(line[len(MARK) :].decode("utf-8"))
+    if not line.startswith(MARK) or not isinstance(found, dict):
+        raise ValueError(f"{line[:100]!r}")
+    return found
 
 
-def word(text: str) -> str:
-    """A word of a request, which has no quotes."""
-    if not text or WORD_END.search(text):
-        raise ValueError("a word of a request is not empty, and has no blank in it")
-    return text
-
-
-def refusal(words: Sequence[str]) -> Refused:
-    """The refusal of a reply, by its words after the first."""
-    number, name, *others = words
-    detail: Union[int, str, None] = " ".join(others) or None
-    if detail is not None and detail.isdigit():
-        detail = int(detail)
-    return Refused(int(number), name, detail)
+def seconds(timeout: Optional[float]) -> Optional[float]:
+    """A timeout, if it is one."""
+    if timeout is None:
+        return None
+    if isinstance(timeout, bool) or not isinstance(timeout, (int, float)):
+        raise TypeError(f"a timeout is a number of seconds, and not of type {type(timeout).__name__}")
+    if not 0 < timeout < math.inf:
+        raise ValueError("a timeout is a number of seconds that is greater than 0")
+    return timeout
 
 
 class Talk:
-    """A running `mkedit session`."""
+    """A running `mkedit session --json`.
 
-    def __init__(self, path: PathName, depth: Optional[int], program: str, new: bool = False) -> None:
-        options = ["-d", str(depth)] if depth is not None else []
+    Each exchange, a line with its whole reply, is under one lock. One that is not done to its end is the
+    last: what the program says later could be taken for the reply to another line.
+    """
+
+    def __init__(
+        self, path: PathName, depth: Optional[int], program: str, new: bool, timeout: Optional[float]
+    ) -> None:
+        options = ["-d", digits(depth, MOST_DEPTH, 1)] if depth is not None else []
         options += ["--new"] if new else []
-        words = [program, "session", *options, "--", os.fspath(path)]
-        pipe = subprocess.PIPE
-        self._process = subprocess.Popen(words, stdin=pipe, stdout=pipe, stderr=pipe)
-        if self._read() != GREETING:
-            raise Fault(self._last_words() or "this is no session of version 1")
+        name = os.fspath(path)
+        self._timeout = seconds(timeout)
+        self._lock = threading.RLock()
+        # Why the session has ended, if it has; and whether a call is being done.
+        self._over: Optional[str] = None
+        self._is_talking = False
+        words = [program, "session", "--json", *options, "--", name]
+        self._process = Process(words, f"the session of {name}")
+        self._exchange(self._greeted)
 
-    def _read(self) -> bytes:
-        assert self._process.stdout is not None
-        return self._process.stdout.readline()
-
-    def _last_words(self) -> str:
-        """Ends the process; what it said on standard error."""
-        self._process.kill()
-        _, errors = self._process.communicate()
-        return errors.decode("utf-8", "replace").strip()
-
-    def ask(self, *fields: str) -> bytes:
-        """Sends a command or a request; the text of its answer."""
-        return self.send(" ".join(fields).encode("utf-8", "surrogateescape"))
-
-    def send(self, line: bytes) -> bytes:
-        """Sends a line without its line feed; the text of its answer."""
-        assert self._process.stdin is not None
-        try:
-            self._process.stdin.write(line + b"\n")
-            self._process.stdin.flush()
-        except (BrokenPipeError, ValueError):
-            raise Fault("the session has ended") from None
-        answer: List[bytes] = []
-        while True:
-            told = self._read()
-            if told.startswith(LINE):
-                answer.append(told[len(LINE) :])
-            elif told.startswith(OPEN_LINE):
-                answer.append(told[len(OPEN_LINE) : -1])
-            else:
-                break
-        self._settle(told.decode("utf-8", "replace").rstrip("\n"))
-        return b"".join(answer)
-
-    @staticmethod
-    def _settle(reply: str) -> None:
-        word, *others = reply.split(" ") if reply else [""]
-        if word == "refused":
-            raise refusal(others)
-        if word != "ok":
-            raise Fault(" ".join(others) or "the session has ended")
+    def ask(self, read: Callable[[List[Members]], T], *words: str) -> T:
+        """Sends the words of a command or a request; what `read` makes of the lines of its answer."""
+        line = " ".join(words).encode("utf-8", "surrogateescape") + b"\n"
+        answer = self._exchange(lambda deadline: self._answered(line, read, deadline))
+        if isinstance(answer, Error):
+            raise answer
+        return answer
 
     def end(self) -> None:
-        """Ends the process, and drops what is not written."""
-        self._process.communicate()
+        """Ends the session, and drops what is not written."""
+        with self._lock:
+            if self._is_talking:
+                # This is a signal handler, and the call that it has interrupted ends the session.
+                self._process.kill()
+                return
+            if self._over is None:
+                self._over = CLOSED
+            self._process.end()
+
+    def _exchange(self, work: Callable[[Deadline], T]) -> T:
+        """What comes of an exchange that is done to its end. If it is not, the session has ended."""
+        with self._lock:
+            if self._over is not None:
+                raise Ended(f"the session has ended: {self._over}")
+            try:
+                # This stays so if an exception comes before the reply, wherever it does.
+                self._is_talking, self._over = True, BROKEN_OFF
+                found = work(Deadline(self._timeout))
+                self._over = None
+                return found
+            except Gone as fault:
+                self._over = self._process.end()
+                raise Ended(self._over) from fault
+            except BaseException as fault:
+                self._over = str(fault) if isinstance(fault, Error) else BROKEN_OFF
+                self._process.end(0 if isinstance(fault, TimedOut) else PATIENCE)
+                raise
+            finally:
+                self._is_talking = False
+
+    def _greeted(self, deadline: Deadline) -> None:
+        """Hears the first line, which has the version."""
+        greeting = self._process.line(deadline)
+        if greeting != GREETING:
+            raise BadReply(f"this is no session of version 1: {greeting[:100]!r}")
+
+    def _answered(
+        self, line: bytes, read: Callable[[List[Members]], T], deadline: Deadline
+    ) -> Union[T, Error]:
+        """Sends a line, and hears its reply: what `read` makes of the answer, or the error that is replied."""
+        if self._process.has_more():
+            raise BadReply("the program said more than one reply to a line")
+        self._process.send(line, deadline)
+        heard = [self._process.line(deadline)]
+        while heard[-1].startswith(b"|"):
+            heard.append(self._process.line(deadline))
+        try:
+            answer = [members(it) for it in heard[:-1]]
+            return outcome(heard[-1].decode("utf-8", "replace")) or read(answer)
+        except (LookupError, TypeError, ValueError, RecursionError) as fault:
+            raise BadReply(f"this is no reply of the protocol: {fault}") from fault

@@ -1,37 +1,13 @@
-"""Tests of the client over the program: the one that the variable MKEDIT names, or the one in PATH."""
+"""Tests of the client over the program: each command and each request."""
 
-import os
-import tempfile
 import unittest
-from pathlib import Path
 
 import mkedit
 
-PROGRAM = os.environ.get("MKEDIT", "mkedit")
-MAKEFILE = """\
-CC = gcc # c
-CFLAGS = -O2 -Werror
-X = 1
-X = 2
-
-all: a.o b.o
-\tcc -o $@ $^
-\trm -f x
-"""
+from .cases import MAKEFILE, PROGRAM, ClientCase
 
 
-class Client(unittest.TestCase):
-    def setUp(self):
-        folder = tempfile.TemporaryDirectory()
-        self.addCleanup(folder.cleanup)
-        self.path = Path(folder.name) / "Makefile"
-        self.path.write_text(MAKEFILE)
-
-    def open(self, **how):
-        session = mkedit.open(self.path, program=PROGRAM, **how)
-        self.addCleanup(session.close)
-        return session
-
+class Client(ClientCase):
     def assert_edit(self, edit, old, new):
         """An edit that exchanges one part of the text, and that can be taken back and made again."""
         with self.open() as makefile:
@@ -130,9 +106,9 @@ class Client(unittest.TestCase):
         makefile = self.open()
         self.assertEqual(makefile.lines(2, 3), "CFLAGS = -O2 -Werror\nX = 1\n")
         self.assertEqual(makefile.diff(), "")
-        self.assertEqual(makefile.vars().splitlines()[0], "1:0: CC = gcc")
-        self.assertEqual(makefile.rules(), "6:0: all: a.o b.o [2]\n")
-        self.assertEqual(makefile.recipes().splitlines()[1], "8:0: all [2] rm -f x")
+        self.assertEqual([(it.name, it.value) for it in makefile.vars()][::3], [("CC", "gcc"), ("X", "2")])
+        self.assertEqual([it.prerequisites for it in makefile.rules()], [("a.o", "b.o")])
+        self.assertEqual([(it.number, it.text) for it in makefile.recipes()][1:], [(2, "rm -f x")])
         self.assertEqual((makefile.check(), makefile.caveats()), ("", ""))
         self.assertIn("NoSuch", makefile.explain("4"))
         makefile.set("CC", "clang")
@@ -144,9 +120,9 @@ class Client(unittest.TestCase):
         with self.assertRaises(mkedit.Refused) as caught:
             makefile.get("X")
         self.assertEqual(caught.exception.number, 5)
-        self.assertEqual(makefile.vars("X"), "3:0: X = 1\n4:0: X = 2\n")
-        self.assertEqual(makefile.rules("all"), "6:0: all: a.o b.o [2]\n")
-        self.assertEqual((makefile.rules("b.o"), makefile.recipes("b.o")), ("", ""))
+        self.assertEqual([(it.line, it.value) for it in makefile.vars("X")], [(3, "1"), (4, "2")])
+        self.assertEqual([it.line for it in makefile.rules("all")], [6])
+        self.assertEqual((makefile.rules("b.o"), makefile.recipes("b.o")), ([], []))
         self.assertIn("set NAME VALUE", makefile.help("set"))
         for name in ("", "a b", "a\nundo"):
             with self.assertRaises(ValueError):
@@ -157,7 +133,8 @@ class Client(unittest.TestCase):
         makefile.set("CC", "clang")
         makefile.unset("CFLAGS")
         makefile.undo()
-        self.assertEqual(makefile.history(), "undo set CC clang\nredo unset CFLAGS\n")
+        told = [(it.kind, it.commands) for it in makefile.history()]
+        self.assertEqual(told, [("undo", ("set CC clang",)), ("redo", ("unset CFLAGS",))])
 
     def test_another_file_may_be_written(self):
         makefile, other = self.open(), self.path.parent / "other"
@@ -189,10 +166,12 @@ class Client(unittest.TestCase):
         makefile.set("CC", "clang")
 
     def test_what_cannot_be_opened(self):
-        for how in ({"depth": 0}, {}):
-            with self.subTest(how):
-                with self.assertRaises(mkedit.Fault):
-                    mkedit.open(self.path if how else self.path.parent / "none", program=PROGRAM, **how)
+        for path in (self.folder / "none", self.folder, "", "-"):
+            with self.subTest(path):
+                with self.assertRaisesRegex(mkedit.Fault, "^mkedit: |^error: "):
+                    mkedit.open(path, program=PROGRAM)
+        with self.assertRaises(ValueError):
+            mkedit.open("a\0b", program=PROGRAM)
 
     def test_the_depth_bounds_what_can_be_undone(self):
         makefile = self.open(depth=1)

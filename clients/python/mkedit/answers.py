@@ -1,0 +1,147 @@
+"""What is made of the lines of an answer, each of which is an object of JSON.
+
+An object that is not as docs/LIBRARY.md has it ("Lines of JSON") is a LookupError, a TypeError or a
+ValueError here.
+"""
+
+import re
+from base64 import b64decode
+from typing import Any, Dict, List, Optional, Tuple
+
+from .found import Assignment, Condition, Line, RecipeLine, Rule, Step
+
+# An object of JSON.
+Members = Dict[str, Any]
+
+# A command in an answer to `history`, where a `;` that is a part of one stands between quotes.
+COMMAND = re.compile(r'(?:[^";]|"(?:[^"\\]|\\.)*")+')
+
+
+def text_in(value: Any) -> str:
+    """A text: a string, or an object that has the bytes in base64, since they are not UTF-8."""
+    if isinstance(value, dict):
+        return b64decode(value["base64"], validate=True).decode("utf-8", "surrogateescape")
+    if not isinstance(value, str):
+        raise TypeError(f"{value!r} is no text")
+    return value
+
+
+def texts_in(values: Any) -> Tuple[str, ...]:
+    """The texts of an array."""
+    if not isinstance(values, list):
+        raise TypeError(f"{values!r} is no array")
+    return tuple(map(text_in, values))
+
+
+def number_in(value: Any) -> int:
+    """A number."""
+    if isinstance(value, bool) or not isinstance(value, int):
+        raise TypeError(f"{value!r} is no number")
+    return value
+
+
+def line_in(it: Any) -> Line:
+    """A line by its number and its text."""
+    return Line(number_in(it["line"]), text_in(it["text"]))
+
+
+def place_in(it: Members) -> Dict[str, Any]:
+    """The fields of `Found`."""
+    conditions = tuple(Condition(line_in(each["branch"]), line_in(each["first"])) for each in it["conditions"])
+    line, depth = number_in(it["line"]), number_in(it["depth"])
+    return {"file": text_in(it["file"]), "line": line, "depth": depth, "conditions": conditions}
+
+
+def assignment(it: Members) -> Assignment:
+    """An object of `vars`."""
+    return Assignment(
+        **place_in(it),
+        modifiers=texts_in(it["modifiers"]),
+        name=text_in(it["name"]),
+        operator=text_in(it["operator"]),
+        value=text_in(it["value"]),
+        targets=texts_in(it["targets"]) if "targets" in it else None,
+        separator=text_in(it["separator"]) if "separator" in it else None,
+    )
+
+
+def rule(it: Members) -> Rule:
+    """An object of `rules`."""
+    return Rule(
+        **place_in(it),
+        targets=texts_in(it["targets"]),
+        separator=text_in(it["separator"]),
+        prerequisites=texts_in(it["prerequisites"]),
+        order_only=texts_in(it["order_only"]),
+        pattern=text_in(it["pattern"]) if "pattern" in it else None,
+        inline_recipe=text_in(it["inline_recipe"]) if "inline_recipe" in it else None,
+    )
+
+
+def recipe_line(it: Members) -> RecipeLine:
+    """An object of `recipes`."""
+    targets, number, text = texts_in(it["targets"]), number_in(it["number"]), text_in(it["text"])
+    return RecipeLine(**place_in(it), targets=targets, number=number, text=text)
+
+
+def step(it: Members) -> Step:
+    """A line of `history`."""
+    kind, _, text = text_in(it["text"]).partition(" ")
+    if kind not in ("undo", "redo", "open") or not text:
+        raise ValueError(f"{kind!r} begins no line of a history")
+    if text != "begin" and not text.startswith("begin; "):
+        return Step(kind, (text,), False)
+    commands = [each.strip(" ") for each in COMMAND.findall(text)]
+    return Step(kind, tuple(commands[1:] if kind == "open" else commands[1:-1]), True)
+
+
+# ---- whole answers
+
+
+def nothing(found: List[Members]) -> None:
+    """The answer to a command: none."""
+    if found:
+        raise ValueError("a command has no answer")
+
+
+def text(found: List[Members]) -> str:
+    """A text by its lines, of which the last may have no line feed."""
+    return "".join(text_in(it["text"]) + ("" if "is_open" in it else "\n") for it in found)
+
+
+def assignments(found: List[Members]) -> List[Assignment]:
+    """The answer to `vars`."""
+    return [assignment(it) for it in found]
+
+
+def rules(found: List[Members]) -> List[Rule]:
+    """The answer to `rules`."""
+    return [rule(it) for it in found]
+
+
+def recipe_lines(found: List[Members]) -> List[RecipeLine]:
+    """The answer to `recipes`."""
+    return [recipe_line(it) for it in found]
+
+
+def steps(found: List[Members]) -> List[Step]:
+    """The answer to `history`."""
+    return [step(it) for it in found]
+
+
+def unread_lines(it: Members) -> List[str]:
+    """What `mkedit check` prints for an object: a line, or one for each kind of thing that is open at the end."""
+    if it["kind"] != "end":
+        return [f"{number_in(it['line'])}: {text_in(it['kind'])}\n"]
+    counts = {each: number_in(it[each]) for each in ("conditionals", "defines")}
+    return [f"end: {each} {count}\n" for each, count in counts.items() if count]
+
+
+def check_text(found: List[Members]) -> str:
+    """What `mkedit check` prints without JSON."""
+    return "".join(line for it in found for line in unread_lines(it))
+
+
+def caveats_text(found: List[Members]) -> str:
+    """What `mkedit caveats` prints without JSON."""
+    return "".join(f"{number_in(it['line'])}: {text_in(it['sentence'])}\n" for it in found)

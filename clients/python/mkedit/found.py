@@ -1,0 +1,76 @@
+"""What a session tells of its makefile, as objects.
+
+The fields have the names and the meaning of the members in docs/LIBRARY.md, "Lines of JSON".
+"""
+
+from dataclasses import dataclass
+from typing import NamedTuple, Optional, Tuple
+
+
+class Line(NamedTuple):
+    """A line of a makefile: its number, from 1, and its text."""
+
+    line: int
+    text: str
+
+
+class Condition(NamedTuple):
+    """A conditional round a line: where the branch of that line begins, and where the conditional does."""
+
+    branch: Line
+    first: Line
+
+
+@dataclass(frozen=True)
+class Found:
+    """Where something stands: the file, the number of the line, and the conditionals that are open there."""
+
+    file: str
+    line: int
+    depth: int
+    conditions: Tuple[Condition, ...]
+
+
+@dataclass(frozen=True)
+class Assignment(Found):
+    """An assignment. One that is for targets has these, and the separator behind them."""
+
+    modifiers: Tuple[str, ...]
+    name: str
+    operator: str
+    value: str
+    targets: Optional[Tuple[str, ...]] = None
+    separator: Optional[str] = None
+
+
+@dataclass(frozen=True)
+class Rule(Found):
+    """A rule. pattern is that of a static pattern rule, and inline_recipe is what follows a `;`."""
+
+    targets: Tuple[str, ...]
+    separator: str
+    prerequisites: Tuple[str, ...]
+    order_only: Tuple[str, ...]
+    pattern: Optional[str] = None
+    inline_recipe: Optional[str] = None
+
+
+@dataclass(frozen=True)
+class RecipeLine(Found):
+    """A recipe line: the targets of its rule, and the number by which `recipe_set` and the others mean it."""
+
+    targets: Tuple[str, ...]
+    number: int
+    text: str
+
+
+class Step(NamedTuple):
+    """An edit or a group that can be undone or redone, or the group that is open.
+
+    kind is "undo", "redo" or "open". commands are the lines of its edits, as a script has them; those of a
+    group stand without `begin` and `end`.
+    """
+
+    kind: str
+    commands: Tuple[str, ...]
+    is_group: bool

@@ -1,0 +1,47 @@
+"""What may stand in a line to the program. All that a caller hands over is tested here, before it is sent."""
+
+import re
+
+# The greatest number in a command (docs/EDITS.md: K, and N of `nth N`), and in a request (docs/PROTOCOL.md).
+MOST_OF_COMMAND, MOST_OF_REQUEST = 4_294_967_295, 999_999_999
+
+# What ends a line, or is in none.
+NEVER = re.compile(r"[\n\r\0]")
+# What has to stand between quotes, and what gets a backslash there. A form feed and a `;` could stand
+# without quotes; but an answer to `history` has each line without the former at its end, and the latter
+# between two lines.
+QUOTED, ESCAPED = re.compile(r'[ \t\f";]'), re.compile(r'(["\\])')
+# What ends a word of a request.
+WORD_END = re.compile(r"[ \t]")
+
+
+def line_part(text: str) -> str:
+    """A text that stands in one line."""
+    if not isinstance(text, str):
+        raise TypeError(f"a field is a str, and not of type {type(text).__name__}")
+    if NEVER.search(text):
+        raise ValueError("a field has no line feed, no carriage return and no NUL in it")
+    return text
+
+
+def field(text: str) -> str:
+    """A field of a command, as it stands in the line: between quotes where it has to."""
+    if line_part(text) and not QUOTED.search(text):
+        return text
+    return '"' + ESCAPED.sub(r"\\\1", text) + '"'
+
+
+def word(text: str) -> str:
+    """A word of a request, which has no quotes."""
+    if not line_part(text) or WORD_END.search(text):
+        raise ValueError("a word of a request is not empty, and has no blank in it")
+    return text
+
+
+def digits(value: int, most: int = MOST_OF_COMMAND, least: int = 0) -> str:
+    """A number, as it stands in a line."""
+    if isinstance(value, bool) or not isinstance(value, int):
+        raise TypeError(f"a number is an int, and not of type {type(value).__name__}")
+    if not least <= value <= most:
+        raise ValueError(f"this number goes from {least:,} to {most:,}")
+    return format(value, "d")

@@ -1,0 +1,151 @@
+"""Tests of what callers hand over: what no line may have in it is refused before anything is sent."""
+
+import unittest
+
+import mkedit
+from mkedit import BOTTOM, after_var, before_rule, before_var
+
+from .cases import MAKEFILE, ClientCase
+
+BAD_TEXTS = ("a\nwrite!", "\n", "a\n", "a\rb", "a\r", "a\0b", "\ud800")
+# Each call with one text, or one number, that is not what it should be.
+WITH_FIELD = (
+    lambda it, bad: it.set(bad, "1"),
+    lambda it, bad: it.set("X", bad),
+    lambda it, bad: it.append("X", bad),
+    lambda it, bad: it.add("X", bad),
+    lambda it, bad: it.drop(bad, "1"),
+    lambda it, bad: it.set_all("X", bad),
+    lambda it, bad: it.append_all(bad, "1"),
+    lambda it, bad: it.add_all("X", bad),
+    lambda it, bad: it.drop_all("X", bad),
+    lambda it, bad: it.unset(bad),
+    lambda it, bad: it.assign(BOTTOM, bad, "=", "1"),
+    lambda it, bad: it.assign(BOTTOM, "Y", bad, "1"),
+    lambda it, bad: it.assign(BOTTOM, "Y", "=", bad),
+    lambda it, bad: it.assign(before_var(bad), "Y", "=", "1"),
+    lambda it, bad: it.rule(after_var(bad), "a", ":", "b"),
+    lambda it, bad: it.rule(before_rule(bad), "a", ":", "b"),
+    lambda it, bad: it.rule(mkedit.Place((bad,)), "a", ":", "b"),
+    lambda it, bad: it.rule(BOTTOM, bad, ":", "b"),
+    lambda it, bad: it.rule(BOTTOM, "a", bad, "b"),
+    lambda it, bad: it.rule(BOTTOM, "a", ":", bad),
+    lambda it, bad: it.unrule(bad),
+    lambda it, bad: it.depend("all", bad),
+    lambda it, bad: it.depend_order(bad, "a"),
+    lambda it, bad: it.undepend("all", bad),
+    lambda it, bad: it.recipe("all", bad),
+    lambda it, bad: it.recipe_insert("all", 1, bad),
+    lambda it, bad: it.recipe_set(bad, 1, "ls"),
+    lambda it, bad: it.recipe_del(bad, 1),
+    lambda it, bad: it.recipe_replace("all", bad, "ls"),
+    lambda it, bad: it.recipe_remove("all", bad),
+    lambda it, bad: it.rename("all", bad),
+)
+WITH_WORD = (
+    lambda it, bad: it.get(bad),
+    lambda it, bad: it.get(bad, nth=1),
+    lambda it, bad: it.vars(bad),
+    lambda it, bad: it.rules(bad),
+    lambda it, bad: it.recipes(bad),
+    lambda it, bad: it.explain(bad),
+    lambda it, bad: it.help(bad),
+    lambda it, bad: it.write_to(bad),
+)
+WITH_NUMBER = (
+    lambda it, bad: it.set("X", "1", nth=bad),
+    lambda it, bad: it.append("X", "1", nth=bad),
+    lambda it, bad: it.add("X", "1", nth=bad),
+    lambda it, bad: it.drop("X", "1", nth=bad),
+    lambda it, bad: it.unset("X", nth=bad),
+    lambda it, bad: it.assign(before_var("X", nth=bad), "Y", "=", "1"),
+    lambda it, bad: it.rule(after_var("X", nth=bad), "a", ":", "b"),
+    lambda it, bad: it.rule(before_rule("all", nth=bad), "a", ":", "b"),
+    lambda it, bad: it.unrule("all", nth=bad),
+    lambda it, bad: it.depend("all", "a", nth=bad),
+    lambda it, bad: it.depend_order("all", "a", nth=bad),
+    lambda it, bad: it.undepend("all", "a", nth=bad),
+    lambda it, bad: it.recipe("all", "ls", nth=bad),
+    lambda it, bad: it.recipe_insert("all", bad, "ls"),
+    lambda it, bad: it.recipe_insert("all", 1, "ls", nth=bad),
+    lambda it, bad: it.recipe_set("all", bad, "ls"),
+    lambda it, bad: it.recipe_set("all", 1, "ls", nth=bad),
+    lambda it, bad: it.recipe_del("all", bad),
+    lambda it, bad: it.recipe_del("all", 1, nth=bad),
+    lambda it, bad: it.recipe_replace("all", "ls", "ls", nth=bad),
+    lambda it, bad: it.recipe_remove("all", "ls", nth=bad),
+)
+WITH_NUMBER_OF_REQUEST = (
+    lambda it, bad: it.lines(bad, 1),
+    lambda it, bad: it.lines(1, bad),
+    lambda it, bad: it.get("X", nth=bad),
+)
+
+
+class Words(ClientCase):
+    def assert_nothing_is_sent(self, calls, bad_ones, fault):
+        """Each of these calls raises an exception with each of these, and the program hears of none."""
+        makefile = self.open(self.talker("""say(b"ok\\n")"""))
+        for index, call in enumerate(calls):
+            for bad in bad_ones:
+                with self.subTest(call=index, bad=bad):
+                    with self.assertRaises(fault):
+                        call(makefile, bad)
+        makefile.undo()
+        self.assertEqual(self.sent(), "undo\n")
+
+    def test_no_field_has_a_line_end_or_a_nul(self):
+        self.assert_nothing_is_sent(WITH_FIELD, BAD_TEXTS, ValueError)
+
+    def test_a_word_of_a_request_has_no_blank_either(self):
+        self.assert_nothing_is_sent(WITH_WORD, (*BAD_TEXTS, "", "a b", "a\tb", " a", "a "), ValueError)
+
+    def test_a_field_is_a_str(self):
+        self.assert_nothing_is_sent((*WITH_FIELD, *WITH_WORD[1:2]), (1, b"a", ["a"]), TypeError)
+
+    def test_a_number_is_an_int(self):
+        calls = (*WITH_NUMBER, *WITH_NUMBER_OF_REQUEST)
+        bad_ones = ("1", "1 set X HACKED\nwrite!\nnth 1", True, False, 1.0, b"1", [1])
+        self.assert_nothing_is_sent(calls, bad_ones, TypeError)
+
+    def test_a_number_of_a_command_has_ten_digits(self):
+        self.assert_nothing_is_sent(WITH_NUMBER, (-1, 4_294_967_296, 10**30), ValueError)
+
+    def test_a_number_of_a_request_has_nine_digits(self):
+        self.assert_nothing_is_sent(WITH_NUMBER_OF_REQUEST, (-1, 1_000_000_000), ValueError)
+
+    def test_the_program_takes_each_number_of_the_range(self):
+        makefile = self.open()
+        for nth in (0, 4_294_967_295):
+            with self.assertRaises(mkedit.Refused) as caught:
+                makefile.set("X", "3", nth=nth)
+            self.assertEqual(caught.exception.name, "NoSuch")
+        with self.assertRaises(mkedit.Refused):
+            makefile.get("X", nth=999_999_999)
+        self.assertEqual(makefile.lines(0, 999_999_999), MAKEFILE)
+
+    def test_a_place_is_a_place(self):
+        calls = (lambda it, bad: it.assign(bad, "Y", "=", "1"), lambda it, bad: it.rule(bad, "a", ":", "b"))
+        self.assert_nothing_is_sent(calls, ("bottom", ("bottom",), None), TypeError)
+
+    def test_a_depth_and_a_timeout_are_numbers(self):
+        for how in ({"depth": 0}, {"depth": 10_001}, {"timeout": 0}, {"timeout": -1.0}, {"timeout": float("nan")}):
+            with self.subTest(how), self.assertRaises(ValueError):
+                self.open(**how)
+        for how in ({"depth": "1"}, {"depth": True}, {"timeout": "1"}, {"timeout": True}):
+            with self.subTest(how), self.assertRaises(TypeError):
+                self.open(**how)
+
+    def test_no_argument_is_a_command(self):
+        makefile = self.open()
+        for nth in ("1 set X HACKED\nwrite!\nnth 1", "1 set X HACKED\nwrite!\n#"):
+            with self.assertRaises(TypeError):
+                makefile.set("X", "1", nth=nth)
+        with self.assertRaises(TypeError):
+            makefile.lines("1\nset CC HACKED\nwrite!\nprint 1", 1)
+        self.assertEqual((makefile.text(), makefile.history()), (MAKEFILE, []))
+        self.assertEqual(self.path.read_text(), MAKEFILE)
+
+
+if __name__ == "__main__":
+    unittest.main()
