@@ -3,7 +3,6 @@
 //!
 //! - [`refusal_notes`]: the notes on a refusal.
 //! - [`edit_notes`]: the notes on an edit that was made.
-//! - [`NotesBelow`], [`NotesKept`]: the observers of a run that write both, or keep them.
 //! - [`script_mistake`], [`push_mistake`]: the note on a line of a script that is no command.
 //!
 //! A note is a line of text: the name of a file, mostly the number of a line in it, and what is said of
@@ -17,7 +16,6 @@
 //! - `address`: the lines that an edit means.
 //! - `refused`: the notes on a refusal.
 //! - `made`: the notes on an edit that was made.
-//! - `observer`: the observers of a run.
 //! - `mistakes`: the notes on mistakes in a script.
 #![tactic(auto)]
 
@@ -26,12 +24,10 @@ mod branch;
 mod line;
 mod made;
 mod mistakes;
-mod observer;
 mod refused;
 mod text;
 
 pub use made::edit_notes;
 pub use mistakes::{COMMAND_LINES, ScriptMistake, push_mistake, script_mistake};
-pub use observer::{NotesBelow, NotesKept};
 pub use refused::refusal_notes;
 pub use text::Names;

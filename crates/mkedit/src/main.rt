@@ -10,6 +10,7 @@
 //! - `query`: what a makefile has, by [`mk_repl::found_for`].
 //! - `kept`: a source whose bytes are kept; `exchanged`: whether script and makefile may be exchanged.
 //! - `named`: lines that begin with the name of a file.
+//! - `observer`: the observers of a run that write the notes on its edits, or keep them, by [`mk_notes`].
 //! - `ending`: the message and the status.
 //! - `session`: a makefile that is edited step by step, by [`mk_repl`].
 #![tactic(auto)]
@@ -25,6 +26,7 @@ mod exchanged;
 mod in_place;
 mod kept;
 mod named;
+mod observer;
 mod query;
 mod session;
 mod several;

@@ -20,6 +20,7 @@ use crate::exchanged::with_exchanged;
 use crate::in_place::run_in_place;
 use crate::kept::Kept;
 use crate::named::named_lines;
+use crate::observer::NotesKept;
 use mk_cli::{EditWords, Input, Output, Progress, Script};
 use mk_fs::{
     CannotOpen, Cause, OutFile, STANDARD_INPUT, STANDARD_OUTPUT, SystemFault, WithError, open,
@@ -27,7 +28,7 @@ use mk_fs::{
 use mk_history::history::is_bad_depth;
 use mk_lines::sink::write_all;
 use mk_lines::{ByteSink, ByteSource, Fault, StdSink, StdSource};
-use mk_notes::{COMMAND_LINES, NotesKept};
+use mk_notes::COMMAND_LINES;
 use mk_run::{Observer, Outcome, Step, read_script, run_steps, status};
 use std::alloc::{Allocator, Global};
 use std::fs::File;

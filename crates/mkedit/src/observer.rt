@@ -1,11 +1,9 @@
 //! The observers of a run that make the notes on its edits, those that were refused and those that were
 //! made: of one makefile at once, of several later.
 
-use crate::made::edit_notes;
-use crate::refused::refusal_notes;
-use crate::text::Names;
 use mk_lines::sink::write_all;
 use mk_lines::{ByteSink, StdSink};
+use mk_notes::{Names, edit_notes, refusal_notes};
 use mk_run::{Observer, Reported};
 use mk_session::{Edit, Session};
 use std::alloc::Allocator;
