@@ -1,6 +1,8 @@
 """A room: the folder in which a test runs the program. And a unittest case that has one."""
 
+import os
 import shutil
+import subprocess
 import tempfile
 import unittest
 from pathlib import Path
@@ -120,6 +122,16 @@ class RoomCase(unittest.TestCase):
         problems = list(problems)
         if problems:
             self.fail("; ".join(problems))
+
+    def need_strace(self):
+        """Skips a test where strace is not there, or may not trace."""
+        words = ["strace", "-qq", "-o", "/dev/null", "true"]
+        if not shutil.which("strace") or subprocess.run(words, capture_output=True).returncode:
+            self.skipTest("there is no strace, or it may not trace")
+
+    def names(self):
+        """Every name in the room's folder."""
+        return sorted(os.listdir(self.room.folder))
 
     def assert_run(self, wanted, *words, **how):
         """Runs the program, whose outcome has to be the wanted one."""

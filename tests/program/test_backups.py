@@ -1,7 +1,6 @@
 """Tests of `--backup`: the old file is kept beside a FILE that `-i` replaces."""
 
 import os
-import shutil
 import signal
 import subprocess
 
@@ -14,18 +13,12 @@ TIME = 1_000_000_000
 
 
 class Backups(RoomCase):
-    def names(self):
-        """Every name in the room's folder."""
-        return sorted(os.listdir(self.room.folder))
-
     def stat(self, name):
         return os.lstat(self.room.folder / name)
 
     def traced(self, *options):
         """Runs the edit under strace."""
-        tool = ["strace", "-qq", "-o", "/dev/null"]
-        if not shutil.which("strace") or subprocess.run([*tool, "true"], capture_output=True).returncode:
-            self.skipTest("there is no strace, or it may not trace")
+        self.need_strace()
         words = ["strace", "-f", "-qq", *options, self.room.program.path, *WORDS]
         ran = subprocess.run(words, cwd=self.room.folder, capture_output=True, timeout=SECONDS)
         return Outcome(ran.stdout, ran.stderr, ran.returncode)

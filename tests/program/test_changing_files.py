@@ -1,7 +1,6 @@
 """Tests of files that another process changes while the program reads them, or before it replaces them."""
 
 import os
-import shutil
 import subprocess
 import threading
 import time
@@ -109,14 +108,10 @@ class ChangedBeforeReplaced(RoomCase):
         self.makefile = self.room.folder / "Makefile"
         self.room.write("other", OTHER)
 
-    def names(self):
-        return sorted(os.listdir(self.room.folder))
-
     def run_and_change(self, change, *words, given=b""):
         """Runs the program, which waits once its text is in the new file, and then changes something."""
+        self.need_strace()
         tool = ["strace", "-f", "-qq", "-o", "/dev/null"]
-        if not shutil.which("strace") or subprocess.run([*tool, "true"], capture_output=True).returncode:
-            self.skipTest("there is no strace, or it may not trace")
         wait = ("-e", "inject=fsync:delay_enter=500000:when=1")
         streams = {it: subprocess.PIPE for it in ("stdin", "stdout", "stderr")}
         words = [*tool, *wait, self.room.program.path, *words]

@@ -3,7 +3,6 @@
 import os
 import random
 import re
-import shutil
 import signal
 import subprocess
 import time
@@ -15,11 +14,6 @@ WORDS = ("edit", "-i", "script", "Makefile")
 CALL = re.compile(r"^(?:\d+ +)?(\w+)\(", re.M)
 # A group that nobody else is in.
 GROUP = 54_321
-
-
-def names(room):
-    """Every name in the room's folder."""
-    return sorted(os.listdir(room.folder))
 
 
 def traced(room, *options):
@@ -52,21 +46,15 @@ def become_nobody():
 class InPlace(RoomCase):
     def assert_stays(self, wanted, *words, **how):
         """Runs the program, which may neither change the makefile nor leave a file behind."""
-        makefile, there = self.room.folder / "Makefile", names(self.room)
+        makefile, there = self.room.folder / "Makefile", self.names()
         number = makefile.stat().st_ino
         self.assert_run(wanted, *words, **how)
         self.assert_well(self.room.changed())
         self.assertEqual(makefile.stat().st_ino, number, "the makefile is another file")
-        self.assertEqual(names(self.room), there)
-
-    def need_strace(self):
-        """Skips a test where strace is not there, or may not trace."""
-        words = ["strace", "-qq", "-o", "/dev/null", "true"]
-        if not shutil.which("strace") or subprocess.run(words, capture_output=True).returncode:
-            self.skipTest("there is no strace, or it may not trace")
+        self.assertEqual(self.names(), there)
 
     def test_the_file_gets_the_text(self):
-        there = names(self.room)
+        there = self.names()
         for words in (
             WORDS,
             ("edit", "--in-place", "script", "Makefile"),
@@ -78,7 +66,7 @@ class InPlace(RoomCase):
             self.room.write("Makefile", TEXT)
             self.assert_run(silent(0), *words)
             self.assert_holds("Makefile", EDITED.stdout)
-        self.assertEqual(names(self.room), there)
+        self.assertEqual(self.names(), there)
 
     def test_a_long_text_and_an_empty_one_get_into_place(self):
         text = b"# a comment of forty bytes, and its end\n" * 100_000
@@ -225,14 +213,14 @@ class InPlace(RoomCase):
             self.assert_stays(WRITE_FAULT, *words, greatest_file=size)
 
     def test_too_few_descriptors_leave_the_file_whole(self):
-        there = names(self.room)
+        there = self.names()
         met = set()
         for many in range(4, 12):
             self.room.write("Makefile", TEXT)
             got = self.room.run(*WORDS, files=many)
             met.add(got)
             self.assert_holds("Makefile", EDITED.stdout if got == silent(0) else TEXT)
-            self.assertEqual(names(self.room), there)
+            self.assertEqual(self.names(), there)
         self.assertLessEqual({WRITE_FAULT, silent(0)}, met)
 
     def test_standard_streams_are_not_needed(self):
@@ -244,10 +232,10 @@ class InPlace(RoomCase):
     def test_names_that_are_taken_beforehand_stop_nothing(self):
         for number in range(10_000):
             os.symlink("absent", self.room.folder / f".mkedit-{number}.tmp")
-        there = names(self.room)
+        there = self.names()
         self.assert_run(silent(0), *WORDS)
         self.assert_holds("Makefile", EDITED.stdout)
-        self.assertEqual(names(self.room), there)
+        self.assertEqual(self.names(), there)
 
     def test_each_run_takes_a_name_of_its_own(self):
         self.need_strace()
@@ -295,19 +283,19 @@ class InPlace(RoomCase):
 
     def test_a_folder_that_cannot_be_put_on_the_disk_has_the_new_file(self):
         self.need_strace()
-        there = names(self.room)
+        there = self.names()
         self.assertEqual(injected(self.room, "fsync:error=EINVAL:when=2"), silent(0))
         self.assert_holds("Makefile", EDITED.stdout)
-        self.assertEqual(names(self.room), there)
+        self.assertEqual(self.names(), there)
 
     def test_a_call_that_fails_leaves_the_file_whole(self):
         self.need_strace()
-        there = names(self.room)
+        there = self.names()
         for call in ("write:error=ENOSPC", "fsync:error=EIO", "rename:error=EXDEV", "fchmod:error=EPERM"):
             got = injected(self.room, call)
             self.assertEqual((got.stdout, got.status), (b"", WRITE_FAULT.status), call)
             self.assert_well(self.room.changed())
-            self.assertEqual(names(self.room), there, call)
+            self.assertEqual(self.names(), there, call)
         # a file that may not be given away has another owner
         self.assertEqual(injected(self.room, "fchown:error=EPERM"), silent(0))
         self.assert_holds("Makefile", EDITED.stdout)

@@ -3,7 +3,6 @@
 import contextlib
 import os
 import re
-import shutil
 import signal
 import subprocess
 import time
@@ -22,12 +21,7 @@ SESSIONS = (
 class NewFiles(RoomCase):
     def setUp(self):
         super().setUp()
-        tool = ["strace", "-qq", "-o", "/dev/null", "true"]
-        if not shutil.which("strace") or subprocess.run(tool, capture_output=True).returncode:
-            self.skipTest("there is no strace, or it may not trace")
-
-    def names(self):
-        return sorted(os.listdir(self.room.folder))
+        self.need_strace()
 
     def traced(self, words, given, *options, meanwhile=None):
         """Runs a session under strace."""
