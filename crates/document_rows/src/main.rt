@@ -41,15 +41,7 @@ impl Calls for DocumentCalls {
             ("first", [text]) => lines::first_of(case, text),
             ("read", [text, step, call]) => lines::read(case, text, step, call),
             ("read-whole", [text]) => lines::read_whole(case, text),
-            ("read-std", [ends]) => devices::read(case, ends),
-            ("write-std", [ends]) => devices::write(case, ends),
-            ("give-back", [text]) => devices::give_back(case, text),
-            ("tests", [text]) => classes::tests_of(case, text),
-            ("class", [line]) => classes::class_of(case, line),
-            ("context", [text]) => classes::context_after(case, text),
-            ("diff", [name, old, new]) => diffs::between(case, name, old, new),
-            ("painted", [diff]) => diffs::in_colours(case, diff),
-            _ => return answer_on_document(case),
+            _ => return of_devices(case),
         };
         Ok(Some(answer?))
     }
@@ -59,8 +51,25 @@ impl Calls for DocumentCalls {
     }
 }
 
-/// Makes a call on a document.
-fn answer_on_document(case: &Case<'_>) -> Result<Option<Vec<u8>>, Fault> {
+/// Makes a call on a device, a line by itself or two texts, or another one.
+fn of_devices(case: &Case<'_>) -> Result<Option<Vec<u8>>, Fault> {
+    let answer = match (case.table, case.fields) {
+        ("read-std", [ends]) => devices::read(case, ends),
+        ("write-std", [ends]) => devices::write(case, ends),
+        ("give-back", [text]) => devices::give_back(case, text),
+        ("tests", [text]) => classes::tests_of(case, text),
+        ("class", [line]) => classes::class_of(case, line),
+        ("context", [text]) => classes::context_after(case, text),
+        ("diff", [name, old, new]) => diffs::between(case, name, old, new),
+        ("painted", [diff]) => diffs::in_colours(case, diff),
+
+        _ => return of_documents(case),
+    };
+    Ok(Some(answer?))
+}
+
+/// Makes a call on a document, or another one.
+fn of_documents(case: &Case<'_>) -> Result<Option<Vec<u8>>, Fault> {
     let answer = match (case.table, case.fields) {
         ("parse", [text]) => documents::parsed(case, text),
         ("parse-vec", [text]) => documents::parsed_vec(case, text),
@@ -69,6 +78,14 @@ fn answer_on_document(case: &Case<'_>) -> Result<Option<Vec<u8>>, Fault> {
         ("own-bytes", [text]) => documents::own_bytes(case, text),
         ("document-writes", [text]) => documents::writes(case, text),
         ("text-of", [text]) => views::text_again(case, text),
+        _ => return of_views(case),
+    };
+    Ok(Some(answer?))
+}
+
+/// Makes a call that lists a document.
+fn of_views(case: &Case<'_>) -> Result<Option<Vec<u8>>, Fault> {
+    let answer = match (case.table, case.fields) {
         ("parts", [text]) => views::parts(case, text),
         ("positions", [text]) => views::positions(case, text),
         ("assignments", [text, name]) => views::assignments_in(case, text, name),
@@ -78,6 +95,7 @@ fn answer_on_document(case: &Case<'_>) -> Result<Option<Vec<u8>>, Fault> {
         ("json", [query, text]) => json::lines(case, query, text),
         ("json-lines", [query, text]) => json::count_lines(case, query, text),
         ("text-line", [text]) => json::text_line(case, text),
+
         _ => return Ok(None),
     };
     Ok(Some(answer?))

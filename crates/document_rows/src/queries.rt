@@ -21,7 +21,7 @@ pub fn write(case: &Case<'_>, out: &mut MemorySink) -> Result<bool, Fault>
     match case.fields {
         [makefile] => write_all(case.table, &document(case.alloc, makefile)?, out),
         [makefile, word] => write_of(case.table, &document(case.alloc, makefile)?, word, out),
-        [first, second, third] if case.table == "parts" => {
+        [first, second, third] if case.table == "write-parts" => {
             write_parts(out, &[first, second, third])?;
             Ok(true)
         }

@@ -44,22 +44,7 @@ impl Calls for RunCalls {
             ("mistake", [script, line]) => scripts::mistake(case, script, line),
             ("alike", [one, other]) => scripts::alike(case, one, other),
             ("made", [call, line]) => made::made(case, call, line),
-            ("laws", []) => changes::laws(case),
-            ("history", []) => changes::history(case),
-            ("sequence", []) => changes::sequence(case),
-            ("history-errors", []) => changes::errors(case),
-            ("patch", []) => changes::patch(case),
-            ("request", [line]) => replies::request(case, line),
-            ("answer-lines", [text]) => replies::lines_of_answer(case, text),
-            ("lines-between", [text, from, to]) => replies::between(case, text, from, to),
-            ("replies", [makefile, lines]) => replies::heard(case, makefile, lines),
-            ("reply", [makefile, line]) => replies::reply(case, makefile, line),
-            ("revert", [makefile, depth]) => replies::reverted(case, makefile, depth),
-            ("read-line", [text]) => talks::lines_of(case, text),
-            ("read-line-fails", [text, from, to]) => talks::failing_line(case, text, from, to),
-            ("talk", [lines, call]) => talks::talk(case, lines, call),
-            ("failing-talk", [lines, text]) => talks::failing_talk(case, lines, text),
-            _ => return answer_of_session(case),
+            _ => return of_changes(case),
         };
         Ok(Some(answer?))
     }
@@ -73,8 +58,48 @@ impl Calls for RunCalls {
     }
 }
 
-/// Makes a call of a session or a run.
-fn answer_of_session(case: &Case<'_>) -> Result<Option<Vec<u8>>, Fault> {
+/// Makes a call of changes, or another one.
+fn of_changes(case: &Case<'_>) -> Result<Option<Vec<u8>>, Fault> {
+    let answer = match (case.table, case.fields) {
+        ("laws", []) => changes::laws(case),
+        ("history", []) => changes::history(case),
+        ("sequence", []) => changes::sequence(case),
+        ("history-errors", []) => changes::errors(case),
+        ("patch", []) => changes::patch(case),
+        _ => return of_replies(case),
+    };
+    Ok(Some(answer?))
+}
+
+/// Makes a call on a line of a session, or another one.
+fn of_replies(case: &Case<'_>) -> Result<Option<Vec<u8>>, Fault> {
+    let answer = match (case.table, case.fields) {
+        ("request", [line]) => replies::request(case, line),
+        ("answer-lines", [text]) => replies::lines_of_answer(case, text),
+        ("lines-between", [text, from, to]) => replies::between(case, text, from, to),
+        ("replies", [makefile, lines]) => replies::heard(case, makefile, lines),
+        ("reply", [makefile, line]) => replies::reply(case, makefile, line),
+        ("revert", [makefile, depth]) => replies::reverted(case, makefile, depth),
+        _ => return of_talks(case),
+    };
+    Ok(Some(answer?))
+}
+
+/// Makes a call on a talk, or another one.
+fn of_talks(case: &Case<'_>) -> Result<Option<Vec<u8>>, Fault> {
+    let answer = match (case.table, case.fields) {
+        ("read-line", [text]) => talks::lines_of(case, text),
+        ("read-line-fails", [text, from, to]) => talks::failing_line(case, text, from, to),
+        ("talk", [lines, call]) => talks::talk(case, lines, call),
+        ("failing-talk", [lines, text]) => talks::failing_talk(case, lines, text),
+
+        _ => return of_sessions(case),
+    };
+    Ok(Some(answer?))
+}
+
+/// Makes a call on a session, or another one.
+fn of_sessions(case: &Case<'_>) -> Result<Option<Vec<u8>>, Fault> {
     let answer = match (case.table, case.fields) {
         ("lookup", [makefile, name]) => sessions::lookup(case, makefile, name),
         ("session", [makefile, depth]) => sessions::opened(case, makefile, depth),
@@ -90,10 +115,26 @@ fn answer_of_session(case: &Case<'_>) -> Result<Option<Vec<u8>>, Fault> {
         ("dry-run", [makefile, before, edits]) => {
             groups::answered(case, makefile, before, edits, true)
         }
+        _ => return of_memory(case),
+    };
+    Ok(Some(answer?))
+}
+
+/// Makes a call that tells how much memory is taken, or another one.
+fn of_memory(case: &Case<'_>) -> Result<Option<Vec<u8>>, Fault> {
+    let answer = match (case.table, case.fields) {
         ("memory", [makefile, edit, lines]) => memory::by_lines(case, makefile, edit, lines),
         ("same-memory", [short, long, edit]) => memory::same(case, short, long, edit),
         ("memory-by-index", [text, edit, lines]) => memory::by_index(case, text, edit, lines),
         ("memory-by-edits", [text, edit, edits]) => memory::by_edits(case, text, edit, edits),
+        _ => return of_indexes(case),
+    };
+    Ok(Some(answer?))
+}
+
+/// Makes a call on an index, or another one.
+fn of_indexes(case: &Case<'_>) -> Result<Option<Vec<u8>>, Fault> {
+    let answer = match (case.table, case.fields) {
         ("expected-edits", [makefile, edit]) => index::expected_edits(case, makefile, edit),
         ("found-lines", [makefile, name]) => index::found_lines(case, makefile, name),
         ("told", [makefile, name]) => index::told(case, makefile, name),
@@ -102,6 +143,14 @@ fn answer_of_session(case: &Case<'_>) -> Result<Option<Vec<u8>>, Fault> {
         ("known-after", [makefile, first, second]) => {
             index::known_after(case, makefile, first, second)
         }
+        _ => return of_runs(case),
+    };
+    Ok(Some(answer?))
+}
+
+/// Makes a run.
+fn of_runs(case: &Case<'_>) -> Result<Option<Vec<u8>>, Fault> {
+    let answer = match (case.table, case.fields) {
         ("run", [makefile, script, flags, report]) => {
             runs::ended(case, [makefile, script, flags], report)
         }
@@ -111,6 +160,7 @@ fn answer_of_session(case: &Case<'_>) -> Result<Option<Vec<u8>>, Fault> {
         ("reported-at-once", [makefile, script, flags, report]) => {
             runs::reported_at_once(case, [makefile, script, flags], report)
         }
+
         _ => return Ok(None),
     };
     Ok(Some(answer?))
