@@ -7,7 +7,7 @@
                 TimedOut  no reply came in time
                 BadReply  the program said what the protocol does not have
 
-A bad argument is a ValueError or a TypeError, as elsewhere in Python, and nothing is sent then.
+A bad argument raises ValueError or TypeError before anything is sent.
 """
 
 from typing import Union

@@ -1,4 +1,4 @@
-"""What a session tells of its makefile, as objects.
+"""Assignments, rules, recipe lines and history of a makefile, as objects.
 
 The fields have the names and the meaning of the members in docs/LIBRARY.md, "Lines of JSON".
 """

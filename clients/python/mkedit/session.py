@@ -19,7 +19,7 @@ class Session:
     Each edit raises `Refused` where docs/EDITS.md says so, and has changed nothing then. nth is the number,
     from 1, of the line that is meant among those of the same name or target; without it the edit means the
     only one. `Fault` is raised where the session cannot answer, and `Ended`, which is a `Fault`, where it
-    has ended. Fields that no command can have are a ValueError or a TypeError, and nothing is sent.
+    has ended. Fields that no command can have raise ValueError or TypeError before anything is sent.
 
     Threads may share a session: each call is done whole before that of another thread begins. A group is
     one of the session, so it has the edits that other threads make meanwhile too. A call that an exception

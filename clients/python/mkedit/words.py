@@ -1,4 +1,4 @@
-"""What may stand in a line to the program. All that a caller hands over is tested here, before it is sent."""
+"""Checks of the words of a line before it is sent to the program."""
 
 import re
 

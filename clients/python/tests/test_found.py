@@ -1,4 +1,4 @@
-"""Tests of what a session tells of its makefile, as objects and as text."""
+"""Tests of the objects and texts that a session answers."""
 
 import subprocess
 import unittest
