@@ -16,32 +16,32 @@ WORD_END = re.compile(r"[ \t]")
 
 
 def line_part(text: str) -> str:
-    """A text that stands in one line."""
+    """Returns a text unchanged, or raises ValueError if it would end the line."""
     if not isinstance(text, str):
-        raise TypeError(f"a field is a str, and not of type {type(text).__name__}")
+        raise TypeError(f"a field must be a str, not {type(text).__name__}")
     if NEVER.search(text):
-        raise ValueError("a field has no line feed, no carriage return and no NUL in it")
+        raise ValueError("a field must not contain a line feed, a carriage return or a NUL")
     return text
 
 
 def field(text: str) -> str:
-    """A field of a command, as it stands in the line: between quotes where it has to."""
+    """Quotes a field of a command if it needs quotes."""
     if line_part(text) and not QUOTED.search(text):
         return text
     return '"' + ESCAPED.sub(r"\\\1", text) + '"'
 
 
 def word(text: str) -> str:
-    """A word of a request, which has no quotes."""
+    """Returns a word of a request, which cannot be quoted; raises ValueError if it has a blank or is empty."""
     if not line_part(text) or WORD_END.search(text):
-        raise ValueError("a word of a request is not empty, and has no blank in it")
+        raise ValueError("a word of a request must not be empty or contain a blank")
     return text
 
 
 def digits(value: int, most: int = MOST_OF_COMMAND, least: int = 0) -> str:
-    """A number, as it stands in a line."""
+    """Formats a number, or raises TypeError or ValueError if the program would not take it."""
     if isinstance(value, bool) or not isinstance(value, int):
-        raise TypeError(f"a number is an int, and not of type {type(value).__name__}")
+        raise TypeError(f"a number must be an int, not {type(value).__name__}")
     if not least <= value <= most:
-        raise ValueError(f"this number goes from {least:,} to {most:,}")
+        raise ValueError(f"this number must be from {least:,} to {most:,}")
     return format(value, "d")

@@ -1,4 +1,4 @@
-"""What the tests share: a folder with a makefile, the program, and programs that stand in for it."""
+"""Shared by the tests: a folder with a makefile, the program, and stand-ins for the program."""
 
 import os
 import sys
@@ -72,7 +72,7 @@ class ClientCase(unittest.TestCase):
         return self.program(TALK + textwrap.indent(textwrap.dedent(replies), "    "))
 
     def sent(self):
-        """What a program that stands in was sent."""
+        """Returns what a stand-in received."""
         path = self.folder / "sent"
         return path.read_text() if path.exists() else ""
 
