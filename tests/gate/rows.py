@@ -57,6 +57,7 @@ STORED = (
     Stored("edit_rows", "stdout", "answer_rows.py edit_rows"),
     Stored("document_rows", "stdout", "answer_rows.py document_rows"),
     Stored("run_rows", "stdout", "answer_rows.py run_rows"),
+    Stored("repl_rows", "stdout", "answer_rows.py repl_rows"),
 )
 
 

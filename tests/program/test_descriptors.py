@@ -169,7 +169,7 @@ class Descriptors(RoomCase):
         self.assert_holds("out", EDITED.stdout)
 
     def test_an_out_that_is_not_written_for_want_of_descriptors_keeps_its_bytes(self):
-        words = ["edit", "-o", "out", "script", "Makefile"]
+        words = ["edit", "-o", "out", "-e", "set CC clang", "Makefile"]
         older = TEXT * 1_000
         met = set()
         for many in range(4, 12):

@@ -132,6 +132,14 @@ class Diffs(RoomCase):
         got = self.room.run("edit", "--diff", "script", str(self.room.folder / "below/Makefile"))
         self.assertTrue(got.stdout.startswith(b"--- a" + bytes(self.room.folder) + b"/below/Makefile\n"))
 
+    def test_a_name_that_goes_up_leads_down_from_where_it_went(self):
+        (self.room.folder / "lib/deep").mkdir(parents=True)
+        for name in ("lib/../Makefile", "lib/deep/../../Makefile", "./lib/.././Makefile"):
+            got = self.room.run("edit", "--diff", "script", name)
+            with self.subTest(name):
+                self.assertEqual(got.stdout, DIFF)
+                self.assert_well(wrong_ways(got.stdout, TEXT, EDITED.stdout))
+
     def test_the_examples(self):
         for folder in sorted(it for it in EXAMPLES.iterdir() if it.is_dir()):
             with self.subTest(folder.name):

@@ -164,9 +164,14 @@ class Files(RoomCase):
             (self.room.folder / os.fsdecode(name)).write_bytes(TEXT)
         except OSError:
             self.skipTest("this file system has no such names")
-        got = self.room.run("edit", "script", name)
-        is_told = not got.stdout and got.stderr.startswith(b"mkedit: ") and got.status in (2, 3)
-        self.assertTrue(got == EDITED or is_told, f"neither edited nor told: {got}")
+        said = b"mkedit: word %d of the command line is not UTF-8\n"
+        shut = b"mkedit: cannot open bad\\000\n"
+        self.assert_run(Outcome(b"", said % 3 + shut, 3), "edit", "script", name)
+        self.assert_run(Outcome(b"", said % 2, 2), "edit", name, "Makefile")
+        self.assert_run(Outcome(b"", said % 3, 2), "vars", "--name", name, "Makefile")
+        self.assert_run(Outcome(b"", said % 2, 2), "session", name)
+        told = Outcome(b"Makefile:1:0: CC = gcc\n", said % 2 + shut, 3)
+        self.assert_run(told, "vars", name, "Makefile")
 
     def test_empty_files_give_an_empty_text(self):
         self.assert_run(silent(0), "edit", "empty", "empty")

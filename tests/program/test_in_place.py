@@ -217,7 +217,7 @@ class InPlace(RoomCase):
         met = set()
         for many in range(4, 12):
             self.room.write("Makefile", TEXT)
-            got = self.room.run(*WORDS, files=many)
+            got = self.room.run("edit", "-i", "-e", "set CC clang", "Makefile", files=many)
             met.add(got)
             self.assert_holds("Makefile", EDITED.stdout if got == silent(0) else TEXT)
             self.assertEqual(self.names(), there)

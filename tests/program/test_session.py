@@ -301,11 +301,11 @@ class Session(RoomCase):
             ("quit", "ok"),
         )
 
-    def test_a_fault_has_the_name_up_to_a_line_feed(self):
+    def test_a_fault_has_the_number_of_a_line_feed_in_the_name(self):
         self.room.write("a\nb", TEXT)
         talk = self.talk("a\nb")
         self.room.write("a\nb", b"")
-        self.assertEqual(talk.reply("write"), "fault a has changed")
+        self.assertEqual(talk.reply("write"), "fault a\\012b has changed")
 
     def test_quit_asks_once_where_changes_are_unwritten(self):
         talk = self.talk("Makefile")

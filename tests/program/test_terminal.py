@@ -234,7 +234,7 @@ class Terminal(RoomCase):
             user,
             (
                 b"nth 2 append X 0\n",
-                red + b"-X = 2" + plain + b"\r\n" + green + b"+X = 2 0" + plain + b"\r\nlines*> ",
+                red + rb"-X = 2\015" + plain + b"\n" + green + rb"+X = 2 0\015" + plain + b"\nlines*> ",
             ),
             (
                 b"set Y 4\n",

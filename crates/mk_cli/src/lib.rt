@@ -4,6 +4,7 @@
 //! [`read_request`] reads the words. What a refusal is, which `mkedit explain` takes, the caller says by a
 //! type, such as [`CalledRefusal`].
 //!
+//! - `utf8`: the words, each as UTF-8.
 //! - `request`: what the words can ask for.
 //! - `arguments`: the arguments of the commands.
 //! - `commands`: the commands with their arguments, as `clap` has to read them.
@@ -24,6 +25,7 @@ mod help;
 mod progress;
 mod reading;
 pub mod request;
+mod utf8;
 
 pub use command_help::{CommandHelp, asked_command, command_called, put_help};
 pub use explain::{CalledRefusal, NoRefusal, put_explanation, refusal_of};
@@ -34,3 +36,4 @@ pub use request::{
     Backup, Color, EditWords, Form, GetWords, Input, MAX_DEPTH, Output, Query, QueryWords, Request,
     Script, SessionWords,
 };
+pub use utf8::{bad_files, is_utf8, words};

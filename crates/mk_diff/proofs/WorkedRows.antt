@@ -3,7 +3,7 @@ use Rattle.std.proofs.Common.{◌≡◌, ℕ, List, [], ◌∷◌, ◌++◌, cod
 use Rattle.std.specs.Fmt.{digits}
 use Rattle.mk_diff.specs.Hunks.{Change, Hunk, applied, turned}
 use Rattle.mk_diff.specs.HunkTexts.{diff_text}
-use Rattle.mk_diff.specs.NameTexts.{name_text}
+use Rattle.mk_diff.specs.NameTexts.{name_text, patch_name}
 use Rattle.mk_diff.specs.PaintedDiffs.{painted_diff}
 
 -- one line alone
@@ -114,6 +114,26 @@ quote = refl
 
 tab : name_text (codes "b/") (codes "x\ty z") ≡ codes "\"b/x\\011y z\""
 tab = refl
+
+-- ---- names as `patch` takes them: the folder in which it does is `.`, `/`, `..`, `..`, `d/..` and `.`
+
+name_1 : patch_name (codes "./d//m") ≡ codes "d//m"
+name_1 = refl
+
+name_2 : patch_name (codes "//x/m") ≡ codes "x/m"
+name_2 = refl
+
+name_3 : patch_name (codes "../m") ≡ codes "m"
+name_3 = refl
+
+name_4 : patch_name (codes "./.././m") ≡ codes "m"
+name_4 = refl
+
+name_5 : patch_name (codes "d/../e/m") ≡ codes "e/m"
+name_5 = refl
+
+name_6 : patch_name (codes "a../..b/m") ≡ codes "a../..b/m"
+name_6 = refl
 
 -- ---- a diff in colours, as GNU diff paints it
 

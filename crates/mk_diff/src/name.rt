@@ -1,8 +1,9 @@
 //! The name of a file in a diff.
-ghost use Rattle.std.specs.Prelude.{◌≡◌, ◌<◌, ◌++◌, IfOk, IsOkUnless};
-ghost use Rattle.mk_diff.specs.NameTexts.{escaped, has_blank, has_special, is_special, name_text, octal};
+ghost use Rattle.std.specs.Prelude.{◌≡◌, ◌<◌, ◌++◌, false, IfOk, IsOkUnless};
+ghost use Rattle.mk_diff.specs.NameTexts.{after_ups, below, dots_after, escaped, has_blank, has_special, is_special, name_text, patch_name};
 
 use crate::text::put;
+use mk_escape::octal;
 use mk_lines::Fault;
 use std::alloc::Allocator;
 
@@ -69,18 +70,6 @@ fn has_blank(name: &[u8]) -> bool
     false
 }
 
-// A backslash, and the number of a byte in three octal digits.
-fn octal(byte: u8) -> [u8; 4]
-    ensures { result ≡ octal byte }
-{
-    [
-        b'\\',
-        b'0' + byte / 64,
-        b'0' + byte / 8 % 8,
-        b'0' + byte % 8,
-    ]
-}
-
 // Puts a name behind a text, each special byte by its number.
 fn put_escaped<A: Allocator>(text: &mut Vec<u8, A>, name: &[u8]) -> Result<(), Fault>
     ensures bytes { IfOk result (λ _. text.new.items ≡ text.old.items ++ escaped name.now) }
@@ -96,15 +85,67 @@ fn put_escaped<A: Allocator>(text: &mut Vec<u8, A>, name: &[u8]) -> Result<(), F
     Ok(())
 }
 
-/// A name without the `/` and `./` before it, so that `patch` takes it.
-pub fn patch_name(name: &[u8]) -> &[u8] {
-    let mut rest = name;
-    for _ in 0..name.len() {
-        rest = match rest {
-            [b'/', below @ ..] => below,
-            [b'.', b'/', below @ ..] => below,
-            _ => return rest,
-        };
+// How many dots the name of a folder has so far and nothing else, where it has a byte more; 3 for any other
+// name.
+fn dots_after(dots: u8, byte: u8) -> u8
+    ensures { result ≡ dots_after dots byte }
+{
+    if byte == b'.' && dots < 3 {
+        dots + 1
+    } else {
+        3
     }
-    rest
+}
+
+// A name behind the last `..` of its folders.
+fn after_ups(name: &[u8]) -> &[u8]
+    ensures { result.now ≡ after_ups 0 name.now name.now }
+{
+    let mut kept = name;
+    let mut rest = name;
+    let mut dots = 0u8;
+    'bytes: while !rest.is_empty() {
+        let byte = rest[0];
+        rest = rest.split_at(1).1;
+        if byte != b'/' {
+            dots = dots_after(dots, byte);
+            continue;
+        }
+        if dots == 2 {
+            kept = rest;
+        }
+        dots = 0;
+    }
+    kept
+}
+
+// A name without the `/` and `./` before it.
+fn below(name: &[u8]) -> &[u8]
+    ensures { result.now ≡ below false name.now name.now }
+{
+    let mut kept = name;
+    let mut rest = name;
+    let mut is_dot = false;
+    'bytes: while !rest.is_empty() {
+        let byte = rest[0];
+        rest = rest.split_at(1).1;
+        if byte == b'/' {
+            kept = rest;
+            is_dot = false;
+        } else if byte == b'.' && !is_dot {
+            is_dot = true;
+        } else {
+            return kept;
+        }
+    }
+    kept
+}
+
+/// The name of a file as `patch -p1` and `git apply` take it: from a folder down. Left off is what stands
+/// before it: all up to the last `..`, and `/` and `./`. They take it in the folder that this names; that
+/// of `/x/m` is `/`, and that of `../m` is `..`.
+pub fn patch_name(name: &[u8]) -> &[u8]
+    ensures { result.now ≡ patch_name name.now }
+{
+    below(after_ups(name))
 }

@@ -122,7 +122,8 @@ pub fn painted<A: Allocator>(alloc: A, diff: &[u8]) -> Result<Vec<u8, A>, Fault>
 ///
 /// [`Fault::NoMemory`] if a growth was refused.
 pub fn shown<A: Allocator>(alloc: A, text: Vec<u8, A>, has_color: bool) -> Result<Vec<u8, A>, Fault>
-    ensures { IfOk result (λ shown. shown.items ≡ shown_diff has_color text.items) }
+    ensures text { IfOk result (λ shown. shown.items ≡ shown_diff has_color text.items) }
+    ensures fault { IsOkUnless result Fault.NoMemory }
 {
     if has_color {
         painted(alloc, &text)

@@ -14,6 +14,8 @@ pub const STANDARD_OUTPUT: &str = "standard output";
 pub enum Cause {
     /// The system said so.
     System(ErrorKind),
+    /// The system said so when it was to be opened to be read.
+    NotOpened(ErrorKind),
     /// The system said so of the new file that was to take the file's place.
     NewFile(ErrorKind),
     /// The system said so of the name under which the old file was to be kept.
@@ -26,7 +28,7 @@ pub enum Cause {
     TookNothing,
 }
 
-/// What failed, and why. It is shown as the line of its note.
+/// What failed, and why.
 #[derive(Clone, Copy)]
 pub struct SystemFault<'a> {
     /// The name of the file, as the command line has it, or what the stream is called.
@@ -67,7 +69,7 @@ fn said_by(kind: ErrorKind) -> &'static str {
 impl fmt::Display for Cause {
     fn fmt<W: fmt::Write>(&self, f: &mut fmt::Formatter<W>) -> fmt::Result {
         let (part, said) = match *self {
-            Cause::System(kind) => ("", said_by(kind)),
+            Cause::System(kind) | Cause::NotOpened(kind) => ("", said_by(kind)),
             Cause::NewFile(kind) => ("no new file beside it: ", said_by(kind)),
             Cause::OldFile(kind) => ("the old file is not kept: ", said_by(kind)),
             Cause::NotRegular => ("", "is no regular file"),
@@ -75,12 +77,5 @@ impl fmt::Display for Cause {
             Cause::TookNothing => ("", "takes nothing"),
         };
         write!(f, "{part}{said}")
-    }
-}
-
-impl fmt::Display for SystemFault<'_> {
-    fn fmt<W: fmt::Write>(&self, f: &mut fmt::Formatter<W>) -> fmt::Result {
-        let (name, cause) = (self.name, self.cause);
-        write!(f, "{name}: note: {cause}")
     }
 }

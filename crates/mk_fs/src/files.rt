@@ -6,18 +6,6 @@ use std::fs::{File, OpenOptions};
 use std::io::ErrorKind;
 use std::{fs, io};
 
-/// A file that cannot be opened, by its name, and why.
-#[derive(Clone, Copy)]
-pub struct CannotOpen<'a>(pub SystemFault<'a>);
-
-// A file of this name cannot be opened for this error.
-fn cannot_open<'a>(name: &'a str, error: io::Error) -> CannotOpen<'a>
-    ensures { result.0.name ≡ name.entry }
-{
-    let cause = Cause::from(error);
-    CannotOpen(SystemFault { name, cause })
-}
-
 // A file that is opened takes the number of a standard stream where that one is closed, and would
 // then be read or written in its place. A clone has a number above theirs.
 pub(crate) fn beside_standard_streams(file: File) -> io::Result<File> {
@@ -28,13 +16,17 @@ pub(crate) fn beside_standard_streams(file: File) -> io::Result<File> {
 ///
 /// # Errors
 ///
-/// [`CannotOpen`] with the name.
-pub fn open<'a>(rt: &HostRuntime, name: &'a str) -> Result<File, CannotOpen<'a>>
-    ensures cannot { IfErr result (λ error. error.0.name.now ≡ name.now) }
+/// The fault of this name, of the cause [`Cause::NotOpened`].
+pub fn open<'a>(rt: &HostRuntime, name: &'a str) -> Result<File, SystemFault<'a>>
+    ensures name { IfErr result (λ fault. fault.name.now ≡ name.now) }
+    ensures cause { IfErr result (λ fault. (kind : ErrorKind) × (fault.cause ≡ Cause.NotOpened kind)) }
 {
     match File::open(rt, name).and_then(beside_standard_streams) {
         Ok(file) => Ok(file),
-        Err(error) => Err(cannot_open(name, error)),
+        Err(error) => Err(SystemFault {
+            name,
+            cause: Cause::NotOpened(error.kind()),
+        }),
     }
 }
 
@@ -80,30 +72,18 @@ impl<'a> Created<'a> {
             synced => synced,
         }
     }
-
-    // Opens the file with the bytes that it has, or makes it where there is none. It is emptied
-    // when all else has succeeded.
-    fn open(rt: &HostRuntime, name: &'a str) -> io::Result<Created<'a>>
-        ensures name { IfOk result (λ created. created.name.now ≡ name.now) }
-    {
-        let file = OpenOptions::new().write(true).create(true).open(rt, name)?;
-        let file = emptied(beside_standard_streams(file)?)?;
-        Ok(Created { name, file })
-    }
 }
 
 /// Opens a file to be written, which it empties, or makes where there is none.
 ///
 /// # Errors
 ///
-/// [`CannotOpen`] with the name where one of the steps fails. The file is emptied in the last one,
-/// so a file that cannot be opened keeps its bytes.
-pub fn create<'a>(rt: &HostRuntime, name: &'a str) -> Result<Created<'a>, CannotOpen<'a>>
-    ensures name { IfOk result (λ created. created.name.now ≡ name.now) }
-    ensures cannot { IfErr result (λ error. error.0.name.now ≡ name.now) }
+/// That of the step that failed. The file is emptied in the last one, so a file that cannot be opened
+/// keeps its bytes.
+pub fn create<'a>(rt: &HostRuntime, name: &'a str) -> io::Result<Created<'a>>
+    ensures { IfOk result (λ created. created.name.now ≡ name.now) }
 {
-    match Created::open(rt, name) {
-        Ok(created) => Ok(created),
-        Err(error) => Err(cannot_open(name, error)),
-    }
+    let file = OpenOptions::new().write(true).create(true).open(rt, name)?;
+    let file = emptied(beside_standard_streams(file)?)?;
+    Ok(Created { name, file })
 }

@@ -3,7 +3,7 @@ ghost use Rattle.std.specs.Prelude.{◌≡◌, ◌||◌, ◌≤◌, None, Some, 
 ghost use Rattle.mk_lines.specs.Device.{is_refused};
 
 use crate::fault::{Cause, SystemFault};
-use crate::files::{CannotOpen, Created, create};
+use crate::files::{Created, create};
 use crate::with_error::WithError;
 use mk_lines::{ByteSink, Fault, StdSink};
 
@@ -63,9 +63,9 @@ impl<'a> OutFile<'a> {
         }
         match create(self.rt, self.name) {
             Ok(file) => Ok(file),
-            Err(CannotOpen(fault)) => {
+            Err(error) => {
                 self.is_failed = true;
-                self.cause = fault.cause;
+                self.cause = Cause::from(error);
                 Err(Fault::Write)
             }
         }

@@ -1,7 +1,8 @@
 //! The note on a line of a script that is no command: where in the line a mistake is, and what is wrong.
 
+use mk_escape::shown_name;
 use mk_script::{Mistake, MistakeCause, mistake_at, nearest_at};
-use std::alloc::AllocError;
+use std::alloc::{AllocError, Global};
 use std::fmt;
 
 /// What the lines of the command line are called, where they are the script.
@@ -94,10 +95,16 @@ fn said_of(cause: MistakeCause) -> &'static str {
 /// # Errors
 ///
 /// Want of memory.
-pub fn push_mistake(notes: &mut String, found: &ScriptMistake<'_>) -> Result<(), AllocError> {
-    let (script, line, column) = (found.script, found.line, found.mistake.column);
+pub fn push_mistake(
+    alloc: Global,
+    notes: &mut String,
+    found: &ScriptMistake<'_>,
+) -> Result<(), AllocError> {
+    let script = shown_name(alloc, found.script)?;
+    let (line, column) = (found.line, found.mistake.column);
     writeln!(notes, "{script}:{line}:{column}: note: {found}")?;
     if let Some(makefile) = found.exchanged {
+        let makefile = shown_name(alloc, makefile)?;
         writeln!(
             notes,
             "{script}: note: this is no script, and {makefile} is one: they may be exchanged"

@@ -3,6 +3,7 @@ ghost use Rattle.std.specs.Iterator.{IsFinite};
 
 use crate::branch::BranchStart;
 use crate::line::{after_blanks, kind};
+use mk_escape::{Layout, TextSink, write_escaped};
 use mk_listing::Position;
 use mk_tree::Doc;
 use std::alloc::{AllocError, Allocator};
@@ -31,7 +32,7 @@ pub(crate) struct Notes<'a, A: Allocator, B: Allocator> {
     names: Names<'a>,
     // The number of the line of the script, from 1.
     line: u64,
-    text: Vec<u8, B>,
+    text: TextSink<B>,
 }
 
 impl<'a, A: Allocator, B: Allocator> Notes<'a, A, B> {
@@ -41,13 +42,13 @@ impl<'a, A: Allocator, B: Allocator> Notes<'a, A, B> {
             doc,
             names,
             line,
-            text: Vec::new(alloc),
+            text: TextSink::new(alloc),
         }
     }
 
     /// The text of the notes.
     pub(crate) fn into_text(self) -> Vec<u8, B> {
-        self.text
+        self.text.text
     }
 
     /// Puts a note on the line of the script.
@@ -115,12 +116,8 @@ impl<'a, A: Allocator, B: Allocator> Notes<'a, A, B> {
         if count > MOST_LINES {
             let mut digits = itoa::Buffer::new();
             let more = digits.format(count - MOST_LINES).as_bytes();
-            self.push(&[
-                self.names.makefile.as_bytes(),
-                b": note: and ",
-                more,
-                b" more\n",
-            ])?;
+            self.escape(self.names.makefile.as_bytes(), Layout::Escaped)?;
+            self.push(&[b": note: and ", more, b" more\n"])?;
         }
         Ok(count)
     }
@@ -152,14 +149,26 @@ impl<'a, A: Allocator, B: Allocator> Notes<'a, A, B> {
     // Puts the name of a file and the number of a line in it.
     fn place(&mut self, file: &str, number: u64) -> Result<(), AllocError> {
         let mut digits = itoa::Buffer::new();
-        self.push(&[file.as_bytes(), b":", digits.format(number).as_bytes()])
+        self.escape(file.as_bytes(), Layout::Escaped)?;
+        self.push(&[b":", digits.format(number).as_bytes()])
     }
 
-    // Puts some texts, one after the other.
+    // Puts some texts, one after the other, of which some may be from the makefile or the script.
     fn push(&mut self, parts: &[&[u8]]) -> Result<(), AllocError> {
         for part in parts {
-            self.text.extend_from_slice(part)?;
+            self.escape(part, Layout::Kept)?;
         }
         Ok(())
+    }
+
+    // Puts a text, its control characters escaped.
+    fn escape(&mut self, text: &[u8], layout: Layout) -> Result<(), AllocError> {
+        if self.text.is_failed {
+            return Err(AllocError);
+        }
+        match write_escaped(&mut self.text, text, layout) {
+            Ok(()) => Ok(()),
+            Err(_) => Err(AllocError),
+        }
     }
 }

@@ -1,19 +1,21 @@
 -- What is replied in a session to a request that is not done.
 -- Told in docs/PROTOCOL.md, "Requests".
 use Rattle.std.specs.Prelude.{ℕ, List, ◌++◌, codes}
+use Rattle.mk_escape.specs.Escapes.{escaped}
+use Rattle.mk_escape.specs.declared.Layout.TheVariants.{Escaped}
 use Rattle.mk_run.specs.Report.{refusal_text}
 use Rattle.mk_repl.specs.declared.not_done.NotDone.{NotDone}
 use Rattle.mk_repl.specs.declared.not_done.NotDone.TheVariants.{NotACommand, NoMemory, Refused, NoRefusal, NoCommand, CannotRead, CannotWrite, HasChanged, BeyondDepth, Unwritten}
 
--- the reply, which shows the makefile by this name
+-- the reply, with the name of a makefile
 abbrev pub fault_text : NotDone → (name : List ℕ) → List ℕ
 fault_text (Refused refusal) name = refusal_text refusal
 fault_text NotACommand name = codes "fault not a command\n"
 fault_text NoMemory name = codes "fault no memory\n"
 fault_text NoRefusal name = codes "fault no such refusal\n"
 fault_text NoCommand name = codes "fault no such command\n"
-fault_text CannotRead name = codes "fault cannot read " ++ (name ++ codes "\n")
-fault_text CannotWrite name = codes "fault cannot write " ++ (name ++ codes "\n")
-fault_text HasChanged name = codes "fault " ++ (name ++ codes " has changed\n")
+fault_text CannotRead name = codes "fault cannot read " ++ (escaped Escaped name ++ codes "\n")
+fault_text CannotWrite name = codes "fault cannot write " ++ (escaped Escaped name ++ codes "\n")
+fault_text HasChanged name = codes "fault " ++ (escaped Escaped name ++ codes " has changed\n")
 fault_text BeyondDepth name = codes "fault edits beyond the depth\n"
 fault_text Unwritten name = codes "fault unwritten changes\n"

@@ -10,7 +10,6 @@
 //! - [`serve`]: line after line is read, and a [`Handler`] replies to each. What it says first and
 //!   what it replies to a line that is too long is [`write_greeting`] and [`write_too_long`] by the
 //!   protocol.
-//! - [`TextSink`]: what is written, in memory.
 //! - [`found_for`]: what a makefile has for a [`Question`]; [`put_found`] writes it.
 //! - [`Server`]: the makefile that `mkedit session` has open, a handler by the protocol;
 //!   [`serve_at_terminal`] replies to a person.
@@ -23,7 +22,6 @@
 //! - `lines`: the physical lines of a text.
 //! - `quote`: the lines of an answer.
 //! - `talk`: lines that are read and answered, one after the other.
-//! - `text`: a text in memory.
 //! - `undoing`: all that can be undone, undone.
 //! - `question`: what a makefile is asked for, and what is found.
 //! - `server`: a makefile that is open, and what it answers; `help_text`: what `help` says.
@@ -49,7 +47,6 @@ mod sentences;
 mod server;
 mod talk;
 mod terminal;
-mod text;
 mod text_lines;
 mod undoing;
 
@@ -63,5 +60,4 @@ pub use request::{Request, RequestOf, RequestWord, read_request};
 pub use server::{Asked, Opened, Server};
 pub use talk::{After, Handler, serve, write_greeting, write_too_long};
 pub use terminal::serve_at_terminal;
-pub use text::TextSink;
 pub use undoing::{Reverted, revert};

@@ -3,8 +3,8 @@ ghost use Rattle.std.specs.Prelude.{◌≡◌, false};
 ghost use Rattle.mk_lines.specs.Device.{Writes};
 ghost use Rattle.mk_repl.specs.SessionFaults.{fault_text};
 
-use memchr::memchr;
-use mk_lines::sink::{write_all, write_parts};
+use mk_escape::write_name;
+use mk_lines::sink::write_all;
 use mk_lines::{ByteSink, Fault};
 use mk_run::write_refusal;
 use mk_session::Refusal;
@@ -41,16 +41,8 @@ impl From<AllocError> for NotDone {
     }
 }
 
-/// The name of a makefile as a reply shows it: up to a line feed in it, since a reply is one line.
-pub fn shown_name(name: &str) -> &[u8] {
-    let name = name.as_bytes();
-    match memchr(b'\n', name) {
-        Some(feed) => &name[..feed],
-        None => name,
-    }
-}
-
-/// Writes the reply on a request that is not done. A makefile is shown by this name.
+/// Writes the reply on a request that is not done, with the name of a makefile, whose control characters are
+/// escaped: a reply is one line.
 ///
 /// # Errors
 ///
@@ -66,9 +58,9 @@ pub fn put_fault<W: ByteSink>(not_done: NotDone, name: &[u8], out: &mut W) -> Re
         NotDone::NoMemory => write_all(out, b"fault no memory\n"),
         NotDone::NoRefusal => write_all(out, b"fault no such refusal\n"),
         NotDone::NoCommand => write_all(out, b"fault no such command\n"),
-        NotDone::CannotRead => write_parts(out, &[b"fault cannot read ", name, b"\n"]),
-        NotDone::CannotWrite => write_parts(out, &[b"fault cannot write ", name, b"\n"]),
-        NotDone::HasChanged => write_parts(out, &[b"fault ", name, b" has changed\n"]),
+        NotDone::CannotRead => write_name(out, b"fault cannot read ", name, b"\n"),
+        NotDone::CannotWrite => write_name(out, b"fault cannot write ", name, b"\n"),
+        NotDone::HasChanged => write_name(out, b"fault ", name, b" has changed\n"),
         NotDone::BeyondDepth => write_all(out, b"fault edits beyond the depth\n"),
         NotDone::Unwritten => write_all(out, b"fault unwritten changes\n"),
     }

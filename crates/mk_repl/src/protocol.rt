@@ -5,7 +5,7 @@ ghost use Rattle.mk_repl.specs.Requests.{request_in};
 ghost use Rattle.mk_repl.specs.Talks.{SaysOut, greeting, too_long};
 ghost use Rattle.mk_repl.specs.SessionReplies.{IsHandled, IsOtherAnswered, IsReplyTo, answer_text};
 
-use crate::not_done::{NotDone, put_fault, shown_name};
+use crate::not_done::{NotDone, put_fault};
 use crate::server::Server;
 use crate::{
     After, Executed, Handler, answer_lines, read_request, write_greeting, write_reply,
@@ -31,7 +31,7 @@ impl Server<'_> {
         }
     }
 
-    // Replies to a request. A file is shown by this name.
+    // Replies to a request. A file has this name.
     fn put_answer<W: ByteSink>(
         &self,
         answer: Result<Vec<u8>, NotDone>,
@@ -62,11 +62,11 @@ impl Server<'_> {
     {
         let Some(request) = read_request(line) else {
             self.forget_quit();
-            put_fault(NotDone::NotACommand, shown_name(self.name()), out)?;
+            put_fault(NotDone::NotACommand, self.name().as_bytes(), out)?;
             return Ok(After::GoesOn);
         };
         let asked = self.ask(request);
-        self.put_answer(asked.answer, self.shown_in(request), out)?;
+        self.put_answer(asked.answer, self.file_of(request), out)?;
         Ok(asked.after)
     }
 

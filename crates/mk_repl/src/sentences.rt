@@ -1,8 +1,9 @@
 //! What is said at a terminal, as sentences.
 
+use crate::line_length;
 use crate::not_done::NotDone;
-use crate::{TextSink, line_length};
 use mk_cli::explanation;
+use mk_escape::TextSink;
 use mk_notes::{ScriptMistake, script_mistake};
 use mk_run::write_refusal;
 use mk_script::MistakeCause;

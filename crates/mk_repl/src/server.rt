@@ -12,16 +12,16 @@ ghost use Rattle.mk_repl.specs.SessionReplies.{HasAnswer, IsRequestDone, IsRever
 
 use crate::command_log::{CommandLog, EditMade};
 use crate::help_text::HELP;
-use crate::not_done::{NotDone, shown_name};
+use crate::not_done::NotDone;
 use crate::on_disk::{look, look_missing, put, put_or_make};
 use crate::question::{json_lines, put_lines};
 use crate::text_lines::text_lines;
 use crate::{
-    After, Executed, Request, RequestOf, RequestWord, Reverted, TextSink, execute_line,
-    lines_between, revert,
+    After, Executed, Request, RequestOf, RequestWord, Reverted, execute_line, lines_between, revert,
 };
 use mk_cli::{Form, Query, SessionWords, command_called, put_explanation, put_help, refusal_of};
 use mk_diff::{diff, patch_name};
+use mk_escape::TextSink;
 use mk_fs::{AsRead, Expected};
 use mk_json as json;
 use mk_lines::Fault;
@@ -516,15 +516,15 @@ impl<'a> Server<'a> {
         self.is_warned = false;
     }
 
-    /// The name by which a reply to a request shows a file: that of the makefile, or of the file that the
-    /// request names.
-    pub fn shown_in<'b>(&self, request: Request<'b>) -> &'b [u8]
+    /// The name of the file of which a reply to a request tells: that of the makefile, or of the file that
+    /// the request names.
+    pub fn file_of<'b>(&self, request: Request<'b>) -> &'b [u8]
     where
         'a: 'b,
     {
         match request {
             Request::Of(RequestOf::Write, file) => file,
-            _ => shown_name(self.opened.name),
+            _ => self.opened.name.as_bytes(),
         }
     }
 

@@ -3,12 +3,14 @@ ghost use Rattle.std.specs.Prelude.{◌≡◌, ◌++◌, codes, false, true, ⊤
 ghost use Rattle.mk_lines.specs.Device.{Writes};
 ghost use Rattle.mk_repl.specs.Talks.{SaysOut};
 ghost use Rattle.mk_diff.specs.PaintedDiffs.{shown_diff};
+ghost use Rattle.mk_escape.specs.Escapes.{escaped};
 
-use crate::not_done::{NotDone, shown_name};
+use crate::not_done::NotDone;
 use crate::sentences::{AS_IT_WAS, NO_MEMORY, TOO_LONG, changed_lines, mistake_sentence, sentence};
 use crate::server::Server;
 use crate::{After, Executed, Handler, Request, RequestOf, RequestWord, read_request, serve};
 use mk_diff::{diff, patch_name, shown};
+use mk_escape::{Layout, escaped};
 use mk_lines::sink::{write_all, write_parts};
 use mk_lines::{ByteSink, ByteSource, Fault};
 use mk_session::Refusal;
@@ -32,6 +34,8 @@ fn write_prompt<'b, W: ByteSink>(
 #[derive(Drop)]
 struct Terminal<'a> {
     server: Server<'a>,
+    // The name of the makefile, its control characters escaped.
+    name: Vec<u8>,
     // The text as it was shown last.
     shown: Vec<u8>,
     // Whether a diff has colours.
@@ -43,9 +47,12 @@ struct Terminal<'a> {
 impl<'a> Terminal<'a> {
     // The session is at its first line.
     fn open(server: Server<'a>, has_color: bool) -> Result<Terminal<'a>, Fault> {
-        let shown = Vec::from_slice(server.runtime().alloc(), server.left())?;
+        let alloc = server.runtime().alloc();
+        let name = escaped(alloc, server.name().as_bytes(), Layout::Escaped)?;
+        let shown = Vec::from_slice(alloc, server.left())?;
         Ok(Terminal {
             server,
+            name,
             shown,
             has_color,
             is_over: false,
@@ -68,19 +75,24 @@ impl<'a> Terminal<'a> {
         ensures fault { IfErr result (λ fault. (fault ≡ Fault.Write) × (W.failed out.new ≡ true)) }
         ensures works { OnOk result (W.failed out.new ≡ false) }
     {
-        write_prompt(said, shown_name(self.server.name()), self.mark(), out)
+        write_prompt(said, &self.name, self.mark(), out)
     }
 
-    // The sentence on a request that is not done. A file is shown by this name.
+    // The sentence on a request that is not done, of the file of this name.
     fn sentence(&self, not_done: NotDone, name: &[u8]) -> Result<Vec<u8>, NotDone> {
-        Ok(sentence(self.server.runtime().alloc(), not_done, name)?)
+        let alloc = self.server.runtime().alloc();
+        let name = escaped(alloc, name, Layout::Escaped)?;
+        Ok(sentence(alloc, not_done, name.as_slice())?)
     }
 
     // A diff as it is shown.
     fn diff_shown(&self, diff: Vec<u8>) -> Result<Vec<u8>, NotDone>
-        ensures { IfOk result (λ text. text.items ≡ shown_diff self.now.has_color diff.items) }
+        ensures { IfOk result (λ text. text.items
+            ≡ shown_diff self.now.has_color (escaped Layout.Kept diff.items)) }
     {
-        match shown(self.server.runtime().alloc(), diff, self.has_color) {
+        let alloc = self.server.runtime().alloc();
+        let diff = escaped(alloc, &diff, Layout::Kept)?;
+        match shown(alloc, diff, self.has_color) {
             Ok(text) => Ok(text),
             Err(_) => Err(NotDone::NoMemory),
         }
@@ -117,7 +129,7 @@ impl<'a> Terminal<'a> {
 
     // That a file is written.
     fn written(&self, name: &[u8]) -> Result<Vec<u8>, NotDone> {
-        let mut said = Vec::from_slice(self.server.runtime().alloc(), name)?;
+        let mut said = escaped(self.server.runtime().alloc(), name, Layout::Escaped)?;
         said.extend_from_slice(b" is written.\n")?;
         Ok(said)
     }
@@ -126,13 +138,15 @@ impl<'a> Terminal<'a> {
     fn answer(&mut self, request: Request<'_>) -> Result<Vec<u8>, NotDone> {
         let asked = self.server.ask(request);
         self.is_over = asked.after == After::Ends;
-        let mut text = asked.answer?;
+        let text = asked.answer?;
         match request {
             Request::Word(RequestWord::Write | RequestWord::WriteAnyway)
-            | Request::Of(RequestOf::Write, _) => self.written(self.server.shown_in(request)),
+            | Request::Of(RequestOf::Write, _) => self.written(self.server.file_of(request)),
             Request::Word(RequestWord::Revert) => self.done(),
             Request::Word(RequestWord::Diff) => self.diff_shown(text),
             _ => {
+                let alloc = self.server.runtime().alloc();
+                let mut text = escaped(alloc, &text, Layout::Kept)?;
                 if !matches!(text.last(), None | Some(b'\n')) {
                     text.extend_from_slice(b"\n")?;
                 }
@@ -147,7 +161,7 @@ impl<'a> Terminal<'a> {
             Ok(text) => Ok(text),
             Err(not_done) => {
                 let mut said = self.change()?;
-                let sentence = self.sentence(not_done, self.server.shown_in(request))?;
+                let sentence = self.sentence(not_done, self.server.file_of(request))?;
                 said.extend_from_slice(sentence.as_slice())?;
                 Ok(said)
             }

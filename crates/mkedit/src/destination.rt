@@ -1,10 +1,11 @@
-//! Where the text of a makefile goes, and what files are called.
+//! Where the text of a makefile goes.
 ghost use Rattle.std.specs.Prelude.{◌≡◌};
-ghost use Rattle.mkedit.specs.Destinations.{destination_of, input_name, name_of};
+ghost use Rattle.mkedit.specs.Destinations.{destination_of};
 
-use mk_cli::{Backup, EditWords, Input, Output, Script};
-use mk_fs::STANDARD_INPUT;
-use mk_notes::{COMMAND_LINES, Names};
+use crate::input::open_input;
+use mk_cli::{Backup, Input, Output};
+use mk_fs::{Stream, SystemFault, open};
+use std::fs::File;
 
 /// Where a text, or a diff in its place, is printed.
 #[derive(Clone, Copy)]
@@ -38,38 +39,28 @@ pub fn destination_of<'a>(output: Output<'a>, file: Input<'a>) -> Destination<'a
     }
 }
 
-/// What a makefile is called where lines begin with its name.
-pub fn name_of<'a>(file: Input<'a>) -> &'a str
-    ensures { result.now ≡ name_of file.entry }
-{
-    match file {
-        Input::File(name) => name,
-        Input::Standard => "-",
-    }
+/// A makefile that is open, and where its text goes.
+#[derive(Drop)]
+pub enum Makefile<'a> {
+    /// Its text is printed.
+    Printed(Stream<'a>, Printed<'a>),
+    /// Its text takes its place. It has this name, and the suffix is that of the old one's second name,
+    /// if it is kept.
+    InPlace(File, &'a str, Option<&'a str>),
 }
 
-/// What the words call the script and this makefile in notes.
-pub fn names_of<'a>(words: &EditWords<'a>, file: Input<'a>) -> Names<'a> {
-    Names {
-        makefile: input_name(file),
-        script: script_name(&words.script),
-    }
-}
-
-// What a file is called in notes.
-fn input_name<'a>(file: Input<'a>) -> &'a str
-    ensures { result.now ≡ input_name file.entry }
-{
-    match file {
-        Input::File(name) => name,
-        Input::Standard => STANDARD_INPUT,
-    }
-}
-
-// What a script is called in notes.
-fn script_name<'a>(script: &Script<'a>) -> &'a str {
-    match script {
-        Script::From(file) => input_name(*file),
-        Script::Lines(_) => COMMAND_LINES,
+/// Opens a makefile whose text goes there.
+///
+/// # Errors
+///
+/// The fault of a file that cannot be opened.
+pub fn open_makefile<'a>(
+    rt: &HostRuntime,
+    output: Output<'a>,
+    file: Input<'a>,
+) -> Result<Makefile<'a>, SystemFault<'a>> {
+    match destination_of(output, file) {
+        Destination::Printed(to) => Ok(Makefile::Printed(open_input(rt, file)?, to)),
+        Destination::InPlace(name, suffix) => Ok(Makefile::InPlace(open(rt, name)?, name, suffix)),
     }
 }

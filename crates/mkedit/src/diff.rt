@@ -12,48 +12,26 @@ ghost use Rattle.mk_lines.specs.PhysicalLines.{physical_lines};
 ghost use Rattle.mk_diff.specs.HunkTexts.{diff_text};
 ghost use Rattle.mk_diff.specs.Hunks.{Hunk, IsDiff};
 ghost use Rattle.mk_diff.specs.PaintedDiffs.{shown_diff};
+ghost use Rattle.mk_escape.specs.Escapes.{shown_text};
 ghost use Rattle.mkedit.specs.DiffRuns.{IsDiffRun};
 
-use crate::edit::run_to;
-use crate::several::run_steps_to;
-use mk_cli::{EditWords, Input};
+use crate::run::{Run, run_to};
+use mk_cli::Input;
 use mk_diff::{diff, patch_name, shown};
+use mk_escape::{TextSink, shown_text};
 use mk_lines::sink::write_all;
 use mk_lines::source::read_all;
 use mk_lines::{ByteSink, ByteSource, Fault, StdSource};
-use mk_repl::TextSink;
-use mk_run::{Observer, Outcome, Step};
-use std::alloc::Allocator;
-
-// The makefile where it could not be read to its end: a source that fails at once, or that never
-// ends. So a run over it ends as it would over the makefile, also where the script is at fault.
-#[derive(Drop)]
-struct Unread {
-    is_endless: bool,
-    is_failed: bool,
-}
-
-impl ByteSource for Unread {
-    ghost failed = { λ source. source.is_failed };
-
-    fn read(&mut self, buf: &mut [u8]) -> Result<usize, Fault> {
-        if self.is_endless {
-            return Ok(buf.len());
-        }
-        self.is_failed = true;
-        Err(Fault::Read)
-    }
-
-    fn failed(&self) -> bool {
-        self.is_failed
-    }
-}
+use mk_run::{Observer, Outcome};
+use std::alloc::{Allocator, Global};
 
 /// How a diff is shown.
 #[derive(Clone, Copy)]
 pub(crate) struct DiffForm<'a> {
     /// The name of the makefile in it.
     pub name: &'a [u8],
+    /// Whether it goes to a terminal, where control characters are escaped.
+    pub is_terminal: bool,
     /// Whether it has colours.
     pub has_color: bool,
 }
@@ -96,48 +74,12 @@ fn shown_diff<A: Allocator + Copy>(
 ) -> Result<Vec<u8, A>, Fault>
     ensures { IfOk result (λ shown. (hunks : List Hunk)
         × IsDiff (physical_lines old.now) (physical_lines text.now) hunks
-        × (shown.items ≡ shown_diff form.entry.has_color (diff_text form.entry.name.now hunks))) }
+        × (shown.items ≡ shown_diff form.entry.has_color
+        (shown_text form.entry.is_terminal (diff_text form.entry.name.now hunks)))) }
 {
     let diff = diff(alloc, old, text, form.name)?;
+    let diff = shown_text(alloc, diff, form.is_terminal)?;
     shown(alloc, diff, form.has_color)
-}
-
-// Runs the script over a makefile that could not be read to its end, for this fault.
-fn run_unread<A, S, P, T>(
-    alloc: A,
-    words: &EditWords<'_>,
-    fault: Fault,
-    script: &mut S,
-    report: &mut P,
-    observer: &mut T,
-) -> Outcome
-where
-    A: Allocator + Copy,
-    S: ByteSource,
-    P: ByteSink,
-    T: Observer<A>,
-    requires script_works { S.failed script.old ≡ false }
-    requires report_works { P.failed report.old ≡ false }
-    ensures unprinted { is_printed result words.now.keep_going ≡ false }
-{
-    let mut makefile = Unread {
-        is_endless: fault == Fault::TooLong,
-        is_failed: false,
-    };
-    let mut sink = TextSink::new(alloc);
-    let outcome = run_to(
-        alloc,
-        words,
-        &mut makefile,
-        script,
-        &mut sink,
-        report,
-        observer,
-    );
-    if fault == Fault::NoMemory || is_printed(&outcome, words.keep_going) {
-        return Outcome::NoMemory;
-    }
-    outcome
 }
 
 // Puts out the diff of a makefile and of the text that a run wrote into memory, where a run that ended
@@ -159,7 +101,8 @@ where
     ensures is_out { is_printed result keep_going ≡ true → (hunks : List Hunk)
         × IsDiff (physical_lines old.now) (physical_lines sink.now.text.items) hunks
         × IsOut (written (W.contents out.old) (W.contents out.new))
-        (shown_diff form.entry.has_color (diff_text form.entry.name.now hunks)) }
+        (shown_diff form.entry.has_color
+        (shown_text form.entry.is_terminal (diff_text form.entry.name.now hunks))) }
     ensures unprinted { is_printed result keep_going ≡ false → result ≢ Outcome.Write
         → out.new ≡ out.old }
 {
@@ -178,100 +121,41 @@ where
     }
 }
 
-/// Runs the script over the makefile as the words say, and puts the diff of the makefile and the text
-/// out in place of the text. Where the text would not go out, nothing does.
-pub(crate) fn run_diff<A, R, S, W, P, T>(
-    alloc: A,
-    words: &EditWords<'_>,
+/// Runs over a makefile, and puts the diff of the makefile and the text out in place of the text. Where
+/// the text would not go out, nothing does.
+pub(crate) fn run_diff<R, W, P, T>(
+    run: Run<'_>,
     form: DiffForm<'_>,
-    makefile: &mut R,
-    script: &mut S,
-    out: &mut W,
-    report: &mut P,
-    observer: &mut T,
-) -> Outcome
-where
-    A: Allocator + Copy,
-    R: ByteSource,
-    S: ByteSource,
-    P: ByteSink,
-    W: ByteSink,
-    T: Observer<A>,
-    requires script_works { S.failed script.old ≡ false }
-    requires makefile_works { R.failed makefile.old ≡ false }
-    requires report_works { P.failed report.old ≡ false }
-    requires out_works { W.failed out.old ≡ false }
-    ensures law { is_printed result words.now.keep_going ≡ true
-        → IsDiffRun (R.remaining makefile.old) (S.remaining script.old) words.now.depth
-        words.now.keep_going form.entry.name.now form.entry.has_color result (P.failed report.new)
-        (written (P.contents report.old) (P.contents report.new))
-        (written (W.contents out.old) (W.contents out.new)) }
-    ensures unprinted { is_printed result words.now.keep_going ≡ false → result ≢ Outcome.Write
-        → out.new ≡ out.old }
-{
-    let old = match read_all(alloc, makefile) {
-        Ok(old) => old,
-        Err(fault) => return run_unread(alloc, words, fault, script, report, observer),
-    };
-    let mut sink = TextSink::new(alloc);
-    let mut source = StdSource::new(old.as_slice());
-    let outcome = run_to(
-        alloc,
-        words,
-        &mut source,
-        script,
-        &mut sink,
-        report,
-        observer,
-    );
-    put_diff(alloc, words.keep_going, form, &old, &sink, outcome, out)
-}
-
-/// Runs steps over a makefile as the words say, and puts the diff of the makefile and the text out in
-/// place of the text. Where the text would not go out, nothing does.
-pub(crate) fn run_steps_diff<A, R, W, P, T>(
-    alloc: A,
-    words: &EditWords<'_>,
-    form: DiffForm<'_>,
-    steps: &[Step<A>],
     makefile: &mut R,
     out: &mut W,
     report: &mut P,
     observer: &mut T,
 ) -> Outcome
 where
-    A: Allocator + Copy,
     R: ByteSource,
-    P: ByteSink,
     W: ByteSink,
-    T: Observer<A>,
+    P: ByteSink,
+    T: Observer<Global>,
     requires makefile_works { R.failed makefile.old ≡ false }
     requires report_works { P.failed report.old ≡ false }
     requires out_works { W.failed out.old ≡ false }
-    requires depth { IsBadDepth words.now.depth → ⊥ }
-    ensures law { is_printed result words.now.keep_going ≡ true
-        → (script : Option (List ℕ)) → GivesSteps script (map step_of steps.now)
-        → IsDiffRun (R.remaining makefile.old) script words.now.depth
-        words.now.keep_going form.entry.name.now form.entry.has_color result (P.failed report.new)
+    requires depth { IsBadDepth run.depth → ⊥ }
+    ensures law { is_printed result run.entry.keep_going ≡ true
+        → (script : Option (List ℕ)) → GivesSteps script (map step_of run.entry.steps.now)
+        → IsDiffRun (R.remaining makefile.old) script run.entry.depth
+        run.entry.keep_going form.entry.name.now form.entry.is_terminal form.entry.has_color
+        result (P.failed report.new)
         (written (P.contents report.old) (P.contents report.new))
         (written (W.contents out.old) (W.contents out.new)) }
-    ensures unprinted { is_printed result words.now.keep_going ≡ false → result ≢ Outcome.Write
+    ensures unprinted { is_printed result run.entry.keep_going ≡ false → result ≢ Outcome.Write
         → out.new ≡ out.old }
 {
-    let old = match read_all(alloc, makefile) {
+    let old = match read_all(run.alloc, makefile) {
         Ok(old) => old,
         Err(fault) => return Outcome::from(fault),
     };
-    let mut sink = TextSink::new(alloc);
+    let mut sink = TextSink::new(run.alloc);
     let mut source = StdSource::new(old.as_slice());
-    let outcome = run_steps_to(
-        alloc,
-        words,
-        steps,
-        &mut source,
-        &mut sink,
-        report,
-        observer,
-    );
-    put_diff(alloc, words.keep_going, form, &old, &sink, outcome, out)
+    let outcome = run_to(run, &mut source, &mut sink, report, observer);
+    put_diff(run.alloc, run.keep_going, form, &old, &sink, outcome, out)
 }

@@ -1,15 +1,16 @@
 //! How the program ends: a message on standard error, and the status.
-ghost use Rattle.std.specs.Prelude.{◌≡◌, ◌≢◌, ◌++◌, [], IfErr, OnOk, false, max, option_map, string_bytes};
+ghost use Rattle.std.specs.Prelude.{◌≡◌, ◌≢◌, ◌++◌, [], IfErr, OnOk, false, max, string_bytes};
 ghost use Rattle.std.specs.Io.KnownBytes.{Appends};
 ghost use Rattle.std.specs.Process.{exit_status};
 ghost use Rattle.clap.specs.Values.{kind_of};
 ghost use Rattle.clap.specs.declared.error.kind.ErrorKind.TheVariants.{DisplayHelp, DisplayVersion};
 ghost use Rattle.mk_lines.specs.Device.{AppendsPrefix, Writes};
 ghost use Rattle.mk_run.specs.Outcome.{outcome_of, status_of};
-ghost use Rattle.mkedit.specs.EndMessages.{changed_name, end_message};
+ghost use Rattle.mkedit.specs.EndMessages.{end_message};
 
-use mk_fs::{CannotOpen, Cause, SystemFault};
-use mk_lines::sink::{write_all, write_parts};
+use mk_escape::{Layout, shown_name, write_escaped, write_name};
+use mk_fs::{Cause, SystemFault};
+use mk_lines::sink::write_all;
 use mk_lines::{ByteSink, Fault, StdSink};
 use mk_notes::{ScriptMistake, push_mistake};
 use mk_run::{Outcome, message, status};
@@ -18,9 +19,6 @@ use std::process::ExitCode;
 
 /// The status of a bad command line.
 pub const BAD_COMMAND_LINE: u8 = 2;
-
-/// The status of a file that cannot be opened.
-pub const CANNOT_OPEN: u8 = 3;
 
 /// How a run or a query ended.
 #[derive(Clone, Copy)]
@@ -52,7 +50,7 @@ impl<'a> End<'a> {
     {
         match print {
             Ok(()) => End::of(Outcome::Done),
-            Err(fault) => End::of(Outcome::from(fault)),
+            Err(fault) => End::from(fault),
         }
     }
 
@@ -73,31 +71,36 @@ impl<'a> End<'a> {
         End { mistake, ..self }
     }
 
-    // The name of the makefile, if the run ended since it has changed meanwhile.
-    fn changed(&self) -> Option<&'a str>
-        ensures { option_map (λ name. name.now) result ≡ changed_name self.now.fault }
-    {
-        match self.fault {
-            Some(
-                SystemFault {
-                    name,
-                    cause: Cause::Changed,
-                },
-            ) => Some(name),
-            _ => None,
-        }
-    }
-
     // The notes on its fault and on its mistake.
     fn notes(&self, alloc: Global) -> Result<String, AllocError> {
         let mut notes = String::new(alloc);
         if let Some(fault) = self.fault {
-            writeln!(notes, "{fault}")?;
+            let name = &shown_name(alloc, fault.name)?;
+            let cause = fault.cause;
+            writeln!(notes, "{name}: note: {cause}")?;
         }
         if let Some(found) = &self.mistake {
-            push_mistake(&mut notes, found)?;
+            push_mistake(alloc, &mut notes, found)?;
         }
         Ok(notes)
+    }
+}
+
+impl<'a> From<Fault> for End<'a> {
+    ghost from_gives = { λ fault end. end.outcome ≡ outcome_of fault };
+
+    fn from(fault: Fault) -> End<'a> {
+        End::of(Outcome::from(fault))
+    }
+}
+
+impl<'a> From<SystemFault<'a>> for End<'a> {
+    ghost use Rattle.mk_run.specs.declared.outcome.Outcome.TheVariants.{Read};
+
+    ghost from_gives = { λ fault end. end.outcome ≡ Read };
+
+    fn from(fault: SystemFault<'a>) -> End<'a> {
+        End::of(Outcome::Read).with_fault(Some(fault))
     }
 }
 
@@ -114,7 +117,8 @@ pub fn notes_on(alloc: Global, end: &End<'_>, notes: bool) -> String
     }
 }
 
-/// Writes the message on an end: that on its outcome, unless the makefile has changed meanwhile.
+/// Writes the message on an end: that on its outcome, unless a file could not be opened or the makefile
+/// has changed meanwhile.
 ///
 /// # Errors
 ///
@@ -123,12 +127,14 @@ pub fn put_message<W: ByteSink>(end: &End<'_>, out: &mut W) -> Result<(), Fault>
     requires { W.failed out.old ≡ false }
     ensures { Writes W.contents W.failed W.flushes out.old out.new result (end_message end.now) }
 {
-    match end.changed() {
-        Some(name) => write_parts(
-            out,
-            &[b"mkedit: ", name.as_bytes(), b" has changed meanwhile\n"],
-        ),
-        None => message(&end.outcome, out),
+    let Some(fault) = end.fault else {
+        return message(&end.outcome, out);
+    };
+    let name = fault.name.as_bytes();
+    match fault.cause {
+        Cause::NotOpened(_) => write_name(out, b"mkedit: cannot open ", name, b"\n"),
+        Cause::Changed => write_name(out, b"mkedit: ", name, b" has changed meanwhile\n"),
+        _ => message(&end.outcome, out),
     }
 }
 
@@ -166,29 +172,11 @@ pub fn ended(rt: &HostRuntime, end: &End<'_>, notes: bool) -> ExitCode
     told(end, below.as_bytes(), &mut errors)
 }
 
-/// Says that a file cannot be opened, and why where there are notes.
-pub fn tell_not_opened(rt: &HostRuntime, file: &CannotOpen<'_>, notes: bool) {
-    let name = file.0.name;
-    let _ = eprintln!(rt; "mkedit: cannot open {name}");
-    if notes {
-        let fault = file.0;
-        let _ = eprintln!(rt; "{fault}");
-    }
-}
-
-/// Says that a file cannot be opened, and why where there are notes, and answers the status of that.
-pub fn not_opened(rt: &HostRuntime, file: &CannotOpen<'_>, notes: bool) -> ExitCode
-    ensures { exit_status result ≡ CANNOT_OPEN }
-{
-    tell_not_opened(rt, file, notes);
-    ExitCode::from(CANNOT_OPEN)
-}
-
-/// Says how a run or a query ended, and answers its status.
-pub fn finished(rt: &HostRuntime, end: Result<End<'_>, CannotOpen<'_>>, notes: bool) -> ExitCode {
+/// Says how a run or a query ended, early or not, and answers its status.
+pub fn finished(rt: &HostRuntime, end: Result<End<'_>, End<'_>>, notes: bool) -> ExitCode {
     match end {
         Ok(end) => ended(rt, &end, notes),
-        Err(file) => not_opened(rt, &file, notes),
+        Err(end) => ended(rt, &end, notes),
     }
 }
 
@@ -231,13 +219,14 @@ pub fn printed(rt: &HostRuntime, print: Result<(), Fault>) -> ExitCode
     ended(rt, &End::of_print(print), false)
 }
 
-// Writes the text of what clap answered, and flushes it once.
+// Writes the text of what clap answered, which may have words of the command line in it, and flushes it
+// once.
 fn put_answer<W: ByteSink>(alloc: Global, answer: &clap::Error, out: &mut W) -> Result<(), Fault>
     requires { W.failed out.old ≡ false }
     ensures works { OnOk result (W.failed out.new ≡ false) }
 {
     let text = format!(in alloc; "{answer}")?;
-    write_all(out, text.as_bytes())?;
+    write_escaped(out, text.as_bytes(), Layout::Kept)?;
     out.flush()
 }
 
@@ -248,7 +237,7 @@ pub fn answered(rt: &HostRuntime, answer: &clap::Error) -> ExitCode
         exit_status result ≡ BAD_COMMAND_LINE }
 {
     if answer.use_stderr() {
-        let _ = answer.print(rt);
+        let _ = put_answer(rt.alloc(), answer, &mut StdSink::new(rt.stderr()));
         return ExitCode::from(BAD_COMMAND_LINE);
     }
     printed(

@@ -32,19 +32,17 @@ fn is_script_file(rt: &HostRuntime, name: &str) -> bool {
     }
 }
 
-/// The same end; where it knows a mistake of the script, and this makefile is a script, with the
+/// The same end; where it knows a mistake of the script, and the first makefile is a script, with the
 /// makefile's name. Standard input is not read for it, and commands of the command line are exchanged
 /// with nothing.
-pub fn with_exchanged<'a>(
-    rt: &HostRuntime,
-    words: &EditWords<'a>,
-    end: End<'a>,
-    file: Option<&Input<'a>>,
-) -> End<'a>
+pub fn with_exchanged<'a>(rt: &HostRuntime, words: &EditWords<'a>, end: End<'a>) -> End<'a>
     ensures { result.outcome ≡ end.entry.outcome }
 {
-    let (Script::From(_), Some(found), Some(Input::File(name))) = (&words.script, end.mistake, file)
-    else {
+    let (Script::From(_), Some(found), Some(Input::File(name))) = (
+        &words.script,
+        end.mistake,
+        words.files.first(),
+    ) else {
         return end;
     };
     if !is_script_file(rt, name) {

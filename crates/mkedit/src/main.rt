@@ -1,15 +1,13 @@
 //! The program `mkedit`: edits a makefile by a script, and keeps every byte that no edit concerns.
 //! What its words ask for, [`mk_cli`] reads; files are read and written by [`mk_fs`].
 //!
-//! - `edit`: a script over a makefile, by [`mk_run::run`].
+//! - `edit`: a script over makefiles; `run`: over one of them, by [`mk_run::run_steps`].
 //! - `diff`: the diff of a makefile and its text, in place of that text, by [`mk_diff`].
 //! - `color`: when that diff has colours.
-//! - `in_place`: a makefile that its text replaces.
-//! - `several`: a script over several makefiles, by [`mk_run::run_steps`].
-//! - `destination`: where the text of a makefile goes, and what files are called.
+//! - `input`: what is read, and what it is called; `destination`: where the text of a makefile goes.
+//! - `several`: what is said of one of several makefiles; `named`: lines that begin with its name.
 //! - `query`: what a makefile has, by [`mk_repl::found_for`].
-//! - `kept`: a source whose bytes are kept; `exchanged`: whether script and makefile may be exchanged.
-//! - `named`: lines that begin with the name of a file.
+//! - `exchanged`: whether script and makefile may be exchanged.
 //! - `observer`: the observers of a run that write the notes on its edits, or keep them, by [`mk_notes`].
 //! - `ending`: the message and the status.
 //! - `session`: a makefile that is edited step by step, by [`mk_repl`].
@@ -23,39 +21,35 @@ mod diff;
 mod edit;
 mod ending;
 mod exchanged;
-mod in_place;
-mod kept;
+mod input;
 mod named;
 mod observer;
 mod query;
+mod run;
 mod session;
 mod several;
 
 use ending::{BAD_COMMAND_LINE, End, answered, ended, printed};
-use mk_cli::{CalledRefusal, Request, asked_command, put_explanation, put_help, read_request};
+use mk_cli::{
+    CalledRefusal, Input, Request, asked_command, bad_files, is_utf8, put_explanation, put_help,
+    read_request, words,
+};
 use mk_lines::StdSink;
 use mk_repl::Inquiry;
 use mk_run::Outcome;
-use std::io::{ErrorKind, IsTerminal};
+use std::io::IsTerminal;
 use std::process::ExitCode;
 
-// The words of the command line. They have to be UTF-8.
-fn words(rt: &HostRuntime) -> Result<Vec<String>, ExitCode> {
-    match std::env::args(rt) {
-        Ok(words) => match words.collect(rt.alloc()) {
-            Ok(words) => Ok(words),
-            Err(_) => Err(ended(rt, &End::of(Outcome::NoMemory), false)),
-        },
-        Err(error) if error.kind() == ErrorKind::OutOfMemory => Err(ended(
-            rt,
-            &End::of(Outcome::NoMemory),
-            false,
-        )),
-        Err(_) => {
-            let _ = eprintln!(rt; "mkedit: a word of the command line is not UTF-8");
-            Err(ExitCode::from(BAD_COMMAND_LINE))
+// Says which words of the command line are not UTF-8, and answers how many.
+fn tell_bad_words(rt: &HostRuntime, words: &[String]) -> usize {
+    let mut count: usize = 0;
+    for (number, word) in words.iter().enumerate() {
+        if !is_utf8(word) {
+            let _ = eprintln!(rt; "mkedit: word {number} of the command line is not UTF-8");
+            count = count.saturating_add(1);
         }
     }
+    count
 }
 
 // Whether messages have notes: where they are asked for, and at a terminal.
@@ -65,25 +59,30 @@ fn has_notes(rt: &HostRuntime, asked: bool) -> bool
     asked || rt.stderr().is_terminal()
 }
 
+// Answers what the makefiles are asked for.
+fn asked(rt: &HostRuntime, inquiry: Inquiry<'_>, files: &[Input<'_>], notes: bool) -> ExitCode {
+    query::ask(rt, inquiry, files, has_notes(rt, notes))
+}
+
 // Does what the command line asks for.
 fn done(rt: &HostRuntime, words: &[String]) -> ExitCode {
+    let bad_words = tell_bad_words(rt, words);
     if let Some(command) = asked_command(words) {
         return printed(rt, put_help(command, &mut StdSink::new(rt.stdout())));
     }
     match read_request(rt.alloc(), words) {
+        Ok(request) if bad_files(&request) < bad_words => ExitCode::from(BAD_COMMAND_LINE),
         Ok(Request::Edit(mut words)) => {
             words.notes = has_notes(rt, words.notes);
             edit::edit(rt, &words)
         }
         Ok(Request::Query(words)) => {
             let inquiry = Inquiry::Query(words.query, words.form);
-            let notes = has_notes(rt, words.notes);
-            query::ask(rt, inquiry, words.files.as_slice(), notes)
+            asked(rt, inquiry, words.files.as_slice(), words.notes)
         }
         Ok(Request::Get(words)) => {
             let inquiry = Inquiry::Value(words.nth, words.name);
-            let notes = has_notes(rt, words.notes);
-            query::ask(rt, inquiry, words.files.as_slice(), notes)
+            asked(rt, inquiry, words.files.as_slice(), words.notes)
         }
         Ok(Request::Explain(CalledRefusal(refusal))) => {
             printed(
@@ -99,6 +98,6 @@ fn done(rt: &HostRuntime, words: &[String]) -> ExitCode {
 fn main(rt: HostRuntime) -> ExitCode {
     match words(&rt) {
         Ok(words) => done(&rt, words.as_slice()),
-        Err(code) => code,
+        Err(_) => ended(&rt, &End::of(Outcome::NoMemory), false),
     }
 }

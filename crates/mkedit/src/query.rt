@@ -13,11 +13,13 @@ ghost use Rattle.mk_run.specs.RunEnds.{PutsOut, PutsOutIf, ReadsOnce};
 ghost use Rattle.mk_repl.specs.QueryTexts.{IsSaid, answer_refusal, answer_text, found_text, has_prefix, query_outcome};
 ghost use Rattle.mkedit.specs.Destinations.{name_of};
 
-use crate::destination::name_of;
-use crate::ending::{CANNOT_OPEN, End, Statuses, finished, tell_not_opened};
-use crate::several::{kept_outcome, put_named, tell_named};
+use crate::ending::{End, Statuses, finished};
+use crate::input::{input_name, name_of, open_input};
+use crate::several::{Told, kept_outcome, put_named, tell_named, tell_unopened};
 use mk_cli::{Form, Input, Progress};
-use mk_fs::{CannotOpen, STANDARD_INPUT, STANDARD_OUTPUT, WithError, open};
+use mk_escape::{Layout, escaped, shown_text};
+use mk_fs::{STANDARD_OUTPUT, SystemFault, WithError};
+use mk_lines::sink::write_all;
 use mk_lines::source::{BUFFER, MAX_TEXT, read_all};
 use mk_lines::{ByteSink, ByteSource, Fault, StdSink, StdSource};
 use mk_repl::{Found, Inquiry, Question, Unanswered, found_for, put_found};
@@ -25,7 +27,7 @@ use mk_run::{Outcome, write_refusal};
 use mk_session::{Refusal, Session};
 use mk_tree::Doc;
 use std::alloc::{Allocator, Global};
-use std::io::{ErrorKind, Read};
+use std::io::{ErrorKind, IsTerminal};
 use std::mem;
 use std::process::ExitCode;
 
@@ -177,25 +179,42 @@ where
     }
 }
 
-// Puts an answer out with a name before each of its lines, and flushes it once.
-fn put_named_answer<W: ByteSink>(
+// How an answer is shown that is gathered first.
+#[derive(Clone, Copy)]
+struct Shown<'a> {
+    // The name before each line, if there is one.
+    prefix: Option<&'a str>,
+    // Whether it goes to a terminal, where control characters are escaped.
+    is_terminal: bool,
+}
+
+// Puts an answer out as it is shown, and flushes it once.
+fn put_shown<W: ByteSink>(
     alloc: Global,
-    name: &str,
-    answer: &[u8],
+    shown: Shown<'_>,
+    answer: Vec<u8>,
     out: &mut W,
 ) -> Result<(), Fault>
     requires { W.failed out.old ≡ false }
 {
-    put_named(alloc, name, answer, &[], b"", out)?;
+    let answer = shown_text(alloc, answer, shown.is_terminal)?;
+    match shown.prefix {
+        Some(name) if shown.is_terminal => {
+            let name = escaped(alloc, name.as_bytes(), Layout::Escaped)?;
+            put_named(alloc, name.as_slice(), answer.as_slice(), &[], b"", out)?;
+        }
+        Some(name) => put_named(alloc, name.as_bytes(), answer.as_slice(), &[], b"", out)?,
+        None => write_all(out, answer.as_slice())?,
+    }
     ByteSink::flush(out)
 }
 
-// Answers on a sink, with a name before each line of the answer, and says how that ended. The answer is
-// gathered in memory first.
-fn print_named<R: ByteSource, W: ByteSink, P: ByteSink>(
+// Answers on a sink as the answer is shown, and says how that ended. The answer is gathered in memory
+// first.
+fn print_shown<R: ByteSource, W: ByteSink, P: ByteSink>(
     alloc: Global,
     question: Question<'_>,
-    name: &str,
+    shown: Shown<'_>,
     makefile: &mut R,
     out: &mut W,
     report: &mut P,
@@ -208,7 +227,7 @@ fn print_named<R: ByteSource, W: ByteSink, P: ByteSink>(
     let mut kept = StdSink::new(&mut text);
     let outcome = print(alloc, question, makefile, &mut kept, report);
     match kept_outcome(outcome, kept.failed()) {
-        Outcome::Done => match put_named_answer(alloc, name, text.as_slice(), out) {
+        Outcome::Done => match put_shown(alloc, shown, text, out) {
             Ok(()) => Outcome::Done,
             Err(fault) => Outcome::from(fault),
         },
@@ -252,53 +271,33 @@ fn end_of_query<'a, R, W>(
     }
 }
 
-// Answers on standard output. The makefile is called by this name in notes; where there is a prefix,
-// each line gets that name.
-fn print_out<'a, R: Read + Drop, P: ByteSink>(
-    rt: &HostRuntime,
-    question: Question<'_>,
-    prefix: Option<&str>,
-    name: &'a str,
-    makefile: R,
-    report: &mut P,
-) -> Asked<'a>
-    requires { P.failed report.old ≡ false }
-{
-    let mut makefile = WithError::new(makefile);
-    let mut out = WithError::new(rt.stdout());
-    let mut source = StdSource::new(&mut makefile);
-    let mut sink = StdSink::new(&mut out);
-    let alloc = rt.alloc();
-    let outcome = match prefix {
-        Some(prefix) => print_named(alloc, question, prefix, &mut source, &mut sink, report),
-        None => print(alloc, question, &mut source, &mut sink, report),
-    };
-    end_of_query(outcome, name, &makefile, &out)
-}
-
-// Opens a makefile, and answers what it is asked for. Where there is a prefix, each line of the answer
-// gets it. A refusal is told on the sink.
+// Opens a makefile, and answers what it is asked for on standard output. Where there is a prefix, each
+// line of the answer gets it. A refusal is told on the sink.
 fn ask_one<'a, P: ByteSink>(
     rt: &HostRuntime,
     inquiry: Inquiry<'_>,
     prefix: Option<&str>,
     file: Input<'a>,
     report: &mut P,
-) -> Result<Asked<'a>, CannotOpen<'a>>
+) -> Result<Asked<'a>, SystemFault<'a>>
     requires { P.failed report.old ≡ false }
 {
-    match file {
-        Input::File(name) => {
-            let makefile = open(rt, name)?;
-            let question = inquiry.to(name_of(file));
-            Ok(print_out(rt, question, prefix, name, makefile, report))
-        }
-        Input::Standard => {
-            let name = STANDARD_INPUT;
-            let question = inquiry.to(name_of(file));
-            Ok(print_out(rt, question, prefix, name, rt.stdin(), report))
-        }
-    }
+    let mut makefile = WithError::new(open_input(rt, file)?);
+    let mut out = WithError::new(rt.stdout());
+    let mut source = StdSource::new(&mut makefile);
+    let mut sink = StdSink::new(&mut out);
+    let (alloc, question) = (rt.alloc(), inquiry.to(name_of(file)));
+    let is_terminal = rt.stdout().is_terminal();
+    let outcome = if is_terminal || prefix.is_some() {
+        let shown = Shown {
+            prefix,
+            is_terminal,
+        };
+        print_shown(alloc, question, shown, &mut source, &mut sink, report)
+    } else {
+        print(alloc, question, &mut source, &mut sink, report)
+    };
+    Ok(end_of_query(outcome, input_name(file), &makefile, &out))
 }
 
 // What stands before each line of an answer where several makefiles are asked: the name of the makefile,
@@ -313,23 +312,29 @@ fn prefix_of<'a>(inquiry: Inquiry<'_>, file: Input<'a>) -> Option<&'a str>
     }
 }
 
-// Answers what one of several makefiles is asked for. What is said of a refusal is gathered in memory.
-fn ask_kept<'a>(
+// Answers what one of several makefiles is asked for, and says how that ended. What is said of a refusal
+// is gathered in memory.
+fn ask_named(
     rt: &HostRuntime,
     inquiry: Inquiry<'_>,
-    file: Input<'a>,
-    lines: &mut Vec<u8>,
-) -> Result<Asked<'a>, CannotOpen<'a>> {
-    let mut report = StdSink::new(lines);
-    let asked = ask_one(rt, inquiry, prefix_of(inquiry, file), file, &mut report)?;
-    let outcome = kept_outcome(asked.end.outcome, report.failed());
-    Ok(Asked {
-        end: End {
-            outcome,
-            ..asked.end
-        },
+    progress: &mut Progress<'_>,
+    file: Input<'_>,
+    notes: bool,
+) -> Told {
+    let mut report = Vec::new(rt.alloc());
+    let mut lines = StdSink::new(&mut report);
+    let asked = match ask_one(rt, inquiry, prefix_of(inquiry, file), file, &mut lines) {
+        Ok(asked) => asked,
+        Err(fault) => return tell_unopened(rt, progress, fault, notes),
+    };
+    let end = End {
+        outcome: kept_outcome(asked.end.outcome, lines.failed()),
+        ..asked.end
+    };
+    Told {
+        status: tell_named(rt, progress, file, &mut report, &[], &end, notes),
         is_left: asked.is_left,
-    })
+    }
 }
 
 // Answers what several makefiles are asked for, in turn, until nobody reads the output any more.
@@ -338,42 +343,31 @@ fn ask_each(rt: &HostRuntime, inquiry: Inquiry<'_>, files: &[Input<'_>], notes: 
     let mut statuses = Statuses::new();
     for (done, file) in files.iter().enumerate() {
         progress.show(done);
-        let mut lines = Vec::new(rt.alloc());
-        match ask_kept(rt, inquiry, *file, &mut lines) {
-            Ok(asked) => {
-                statuses.add(tell_named(
-                    rt,
-                    &mut progress,
-                    *file,
-                    &mut lines,
-                    &[],
-                    &asked.end,
-                    notes,
-                ));
-                if asked.is_left {
-                    break;
-                }
-            }
-            Err(cannot) => {
-                progress.wipe();
-                tell_not_opened(rt, &cannot, notes);
-                statuses.add(CANNOT_OPEN);
-            }
+        let told = ask_named(rt, inquiry, &mut progress, *file, notes);
+        statuses.add(told.status);
+        if told.is_left {
+            break;
         }
     }
     progress.wipe();
     statuses.code()
 }
 
+// Answers what one makefile is asked for, and says how that ended.
+fn ask_alone<'a>(
+    rt: &HostRuntime,
+    inquiry: Inquiry<'_>,
+    file: Input<'a>,
+) -> Result<End<'a>, End<'a>> {
+    let mut report = StdSink::new(rt.stderr());
+    Ok(ask_one(rt, inquiry, None, file, &mut report)?.end)
+}
+
 /// Answers what the makefiles are asked for, on standard output, and answers the status. Where nobody
 /// reads that to its end, it ends as where all was read.
 pub fn ask(rt: &HostRuntime, inquiry: Inquiry<'_>, files: &[Input<'_>], notes: bool) -> ExitCode {
     match files {
-        [file] => {
-            let mut report = StdSink::new(rt.stderr());
-            let asked = ask_one(rt, inquiry, None, *file, &mut report);
-            finished(rt, asked.map(|asked| asked.end), notes)
-        }
+        [file] => finished(rt, ask_alone(rt, inquiry, *file), notes),
         files => ask_each(rt, inquiry, files, notes),
     }
 }

@@ -6,43 +6,28 @@ ghost use Rattle.mk_repl.specs.SessionForms.{is_by_protocol};
 use crate::color::has_color;
 use crate::ending::{End, finished};
 use mk_cli::{Form, SessionWords};
-use mk_fs::{CannotOpen, Cause, STANDARD_OUTPUT, SystemFault, WithError, open};
+use mk_fs::{Cause, STANDARD_OUTPUT, SystemFault, WithError, open};
 use mk_lines::source::read_all;
 use mk_lines::{ByteSink, ByteSource, Fault, StdSink, StdSource};
 use mk_repl::{Server, serve, serve_at_terminal};
-use mk_run::Outcome;
-use std::fs::File;
 use std::io::{ErrorKind, IsTerminal};
 use std::mem;
 use std::process::ExitCode;
 
-// Reads the makefile to its end, and opens a session over it.
-fn opened<'a>(
-    rt: &'a HostRuntime,
-    words: SessionWords<'a>,
-    makefile: File,
-) -> Result<Server<'a>, Fault> {
-    let text = read_all(rt.alloc(), &mut StdSource::new(makefile))?;
-    Server::open(rt, words, text, false)
-}
-
 // Opens the makefile, which may be missing if the words say so, and a session over it.
-fn open_desk<'a>(
-    rt: &'a HostRuntime,
-    words: SessionWords<'a>,
-) -> Result<Result<Server<'a>, Fault>, CannotOpen<'a>> {
-    match open(rt, words.file) {
-        Ok(makefile) => Ok(opened(rt, words, makefile)),
+fn open_server<'a>(rt: &'a HostRuntime, words: SessionWords<'a>) -> Result<Server<'a>, End<'a>> {
+    let makefile = match open(rt, words.file) {
+        Ok(makefile) => makefile,
         Err(
-            CannotOpen(
-                SystemFault {
-                    cause: Cause::System(ErrorKind::NotFound),
-                    ..
-                },
-            ),
-        ) if words.may_be_new => Ok(Server::open(rt, words, Vec::new(rt.alloc()), true)),
-        Err(cannot) => Err(cannot),
-    }
+            SystemFault {
+                cause: Cause::NotOpened(ErrorKind::NotFound),
+                ..
+            },
+        ) if words.may_be_new => return Ok(Server::open(rt, words, Vec::new(rt.alloc()), true)?),
+        Err(fault) => return Err(End::from(fault)),
+    };
+    let text = read_all(rt.alloc(), &mut StdSource::new(makefile))?;
+    Ok(Server::open(rt, words, text, false)?)
 }
 
 // To whom a session replies.
@@ -101,11 +86,8 @@ fn talk<'a>(rt: &'a HostRuntime, words: SessionWords<'a>, server: Server<'a>) ->
 }
 
 // Opens the makefile, and replies to the lines of standard input.
-fn over_file<'a>(rt: &'a HostRuntime, words: SessionWords<'a>) -> Result<End<'a>, CannotOpen<'a>> {
-    match open_desk(rt, words)? {
-        Ok(server) => Ok(talk(rt, words, server)),
-        Err(fault) => Ok(End::of(Outcome::from(fault))),
-    }
+fn over_file<'a>(rt: &'a HostRuntime, words: SessionWords<'a>) -> Result<End<'a>, End<'a>> {
+    Ok(talk(rt, words, open_server(rt, words)?))
 }
 
 /// Opens the makefile, replies to the lines of standard input, and answers the status.

@@ -1,4 +1,4 @@
-//! Runs rows of scripts, sessions, runs and talks through the crates that make them: each call that
+//! Runs rows of scripts, sessions and runs through the crates that make them: each call that
 //! allocates, with each of its growths refused, and each that writes, over sinks that fail. A table has the
 //! name of a call, or of what no contract says of some calls.
 //!
@@ -10,22 +10,16 @@
 //! - [`memory`]: how many bytes edits take.
 //! - [`index`]: what an index tells, and what it leaves to a walk over all lines.
 //! - [`runs`]: `mk_run`, over devices that fail.
-//! - [`replies`]: `mk_repl`: what a line asks for, and what is replied.
-//! - [`talks`]: `mk_repl`: a whole talk, and the lines of its source.
 #![tactic(auto)]
-
-ghost use Rattle.std.specs.Prelude.{◌≡◌, false};
 
 mod changes;
 mod groups;
 mod index;
 mod made;
 mod memory;
-mod replies;
 mod runs;
 mod scripts;
 mod sessions;
-mod talks;
 
 use mk_lines::Fault;
 use std::alloc::Global;
@@ -49,12 +43,9 @@ impl Calls for RunCalls {
         Ok(Some(answer?))
     }
 
-    fn write(&self, case: &Case<'_>, out: &mut MemorySink) -> Result<bool, Fault> {
-        match (case.table, case.fields) {
-            ("replies", [makefile, lines]) => replies::write(case, makefile, lines, out)?,
-            _ => return Ok(false),
-        }
-        Ok(true)
+    // No call here writes.
+    fn write(&self, _case: &Case<'_>, _out: &mut MemorySink) -> Result<bool, Fault> {
+        Ok(false)
     }
 }
 
@@ -66,33 +57,6 @@ fn of_changes(case: &Case<'_>) -> Result<Option<Vec<u8>>, Fault> {
         ("sequence", []) => changes::sequence(case),
         ("history-errors", []) => changes::errors(case),
         ("patch", []) => changes::patch(case),
-        _ => return of_replies(case),
-    };
-    Ok(Some(answer?))
-}
-
-/// Makes a call on a line of a session, or another one.
-fn of_replies(case: &Case<'_>) -> Result<Option<Vec<u8>>, Fault> {
-    let answer = match (case.table, case.fields) {
-        ("request", [line]) => replies::request(case, line),
-        ("answer-lines", [text]) => replies::lines_of_answer(case, text),
-        ("lines-between", [text, from, to]) => replies::between(case, text, from, to),
-        ("replies", [makefile, lines]) => replies::heard(case, makefile, lines),
-        ("reply", [makefile, line]) => replies::reply(case, makefile, line),
-        ("revert", [makefile, depth]) => replies::reverted(case, makefile, depth),
-        _ => return of_talks(case),
-    };
-    Ok(Some(answer?))
-}
-
-/// Makes a call on a talk, or another one.
-fn of_talks(case: &Case<'_>) -> Result<Option<Vec<u8>>, Fault> {
-    let answer = match (case.table, case.fields) {
-        ("read-line", [text]) => talks::lines_of(case, text),
-        ("read-line-fails", [text, from, to]) => talks::failing_line(case, text, from, to),
-        ("talk", [lines, call]) => talks::talk(case, lines, call),
-        ("failing-talk", [lines, text]) => talks::failing_talk(case, lines, text),
-
         _ => return of_sessions(case),
     };
     Ok(Some(answer?))

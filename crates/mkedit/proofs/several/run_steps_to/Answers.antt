@@ -1,4 +1,0 @@
-use Rattle.mkedit.proofs.several.run_steps_to.Goals as goal
-
-pub returns-clause-law : goal.returns-clause-law
-returns-clause-law g c = λ script says. (c.run_steps-outcome.ensures.over script says).0

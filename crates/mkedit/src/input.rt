@@ -1,0 +1,71 @@
+//! What scripts and makefiles are read from, and what they are called.
+ghost use Rattle.std.specs.Prelude.{◌≡◌};
+ghost use Rattle.mkedit.specs.Destinations.{input_name, name_of};
+
+use mk_cli::{EditWords, Input, Script};
+use mk_fs::{STANDARD_INPUT, Stream, SystemFault, open};
+use mk_notes::{COMMAND_LINES, Names};
+
+/// Opens an input to be read.
+///
+/// # Errors
+///
+/// The fault of a file that cannot be opened.
+pub fn open_input<'a>(rt: &HostRuntime, input: Input<'a>) -> Result<Stream<'a>, SystemFault<'a>> {
+    match input {
+        Input::File(name) => Ok(Stream::File(open(rt, name)?)),
+        Input::Standard => Ok(Stream::Standard(rt.stdin())),
+    }
+}
+
+/// Opens a script to be read.
+///
+/// # Errors
+///
+/// The fault of a file that cannot be opened.
+pub fn open_script<'s, 'a>(
+    rt: &HostRuntime,
+    script: &'s Script<'a>,
+) -> Result<Stream<'s>, SystemFault<'a>> {
+    match script {
+        Script::From(Input::File(name)) => Ok(Stream::File(open(rt, name)?)),
+        Script::From(Input::Standard) => Ok(Stream::Standard(rt.stdin())),
+        Script::Lines(lines) => Ok(Stream::Text(lines.as_bytes())),
+    }
+}
+
+/// What a makefile is called where lines begin with its name.
+pub fn name_of<'a>(file: Input<'a>) -> &'a str
+    ensures { result.now ≡ name_of file.entry }
+{
+    match file {
+        Input::File(name) => name,
+        Input::Standard => "-",
+    }
+}
+
+/// What a file is called in notes.
+pub fn input_name<'a>(file: Input<'a>) -> &'a str
+    ensures { result.now ≡ input_name file.entry }
+{
+    match file {
+        Input::File(name) => name,
+        Input::Standard => STANDARD_INPUT,
+    }
+}
+
+/// What a script is called in notes.
+pub fn script_name<'a>(script: &Script<'a>) -> &'a str {
+    match script {
+        Script::From(file) => input_name(*file),
+        Script::Lines(_) => COMMAND_LINES,
+    }
+}
+
+/// What the words call the script and this makefile in notes.
+pub fn names_of<'a>(words: &EditWords<'a>, file: Input<'a>) -> Names<'a> {
+    Names {
+        makefile: input_name(file),
+        script: script_name(&words.script),
+    }
+}
