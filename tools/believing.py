@@ -1,4 +1,4 @@
-"""Which definitions the main calls stand on, in the form in which docs/BELIEVED.md has it.
+"""Which definitions calls stand on: those of the statement of docs/BELIEVED.md, and those of any call (tools/believed).
 
 tests/gate/believed.py finds them in the contracts and the definitions of the crates.
 """
@@ -10,7 +10,9 @@ sys.path.insert(0, str(Path(__file__).resolve().parent.parent))
 # (below the line that says where it is)
 from tests.gate.believed import Believed, Place  # noqa: E402
 
-# The calls that the page is about, lowest first. Each is named by its crate, its type and its name.
+# The law that has all definitions of the statement, and how many lines these may be.
+STATEMENT, MOST = "mk_session::calls_are_taken_back", 150
+# The main calls, lowest first. Each is named by its crate, its type and its name.
 CALLS = (
     "mk_script::parse_script",
     "mk_diff::diff",
@@ -23,18 +25,8 @@ CALLS = (
     "mk_session::Session::execute",
     "mk_run::run",
     "mk_run::runs_keep_every_byte",
+    STATEMENT,
 )
-
-
-def numbers(found):
-    """Numbers in few words: 1, 3-5."""
-    spans = []
-    for it in found:
-        if spans and spans[-1][1] == it - 1:
-            spans[-1][1] = it
-        else:
-            spans.append([it, it])
-    return ", ".join(f"{first}-{last}" if last > first else str(first) for first, last in spans)
 
 
 def row(*cells):
@@ -49,63 +41,51 @@ def in_code(names):
     return ", ".join(f"`{it}`" for it in names)
 
 
-class Page:
-    """What the page has: how much each call needs, and what that is."""
+def sums(believed, found):
+    """How many files, definitions and lines some definitions are."""
+    shares = [*believed.shares(found)]
+    return len(shares), sum(len(it.names) for it in shares), sum(it.lines for it in shares)
 
-    def __init__(self, top):
-        self.believed = Believed(top)
-        self.needs = [self.believed.of_call(it) for it in CALLS]
-        self.all = set().union(*self.needs)
 
-    def callers(self, it):
-        """The numbers of the calls that need a definition or a type."""
-        return tuple(number for number, needs in enumerate(self.needs, 1) if it in needs)
+def calls(believed):
+    """How much each main call needs, and all public calls."""
+    lines = head("Call", "Files", "Definitions", "Lines")
+    lines += [row(f"`{name}`", *sums(believed, believed.of_call(name))) for name in CALLS]
+    lines.append(row("all public calls", *sums(believed, believed.of_all())))
+    lines.append(row("all that stands in `specs/`", *sums(believed, {*believed.cites})))
+    return lines
 
-    def sums(self, found):
-        """How many files, definitions and lines some definitions are."""
-        shares = [*self.believed.shares(found)]
-        return len(shares), sum(len(it.names) for it in shares), sum(it.lines for it in shares)
 
-    def calls(self):
-        """The table of the calls."""
-        lines = head("", "Call", "Files", "Definitions", "Lines")
-        lines += [row(at, f"`{name}`", *self.sums(self.needs[at - 1])) for at, name in enumerate(CALLS, 1)]
-        lines.append(row("", "these calls together", *self.sums(self.all)))
-        lines.append(row("", "all public calls", *self.sums(self.believed.of_all())))
-        lines.append(row("", "all that stands in `specs/`", *self.sums({*self.believed.cites})))
-        return lines
+def definitions(believed, found, shown):
+    """The definitions that are found, by their files, lowest first; `shown` says how a file is named."""
+    lines = head("File", "Definitions", "Lines")
+    return lines + [row(shown(it.shown), in_code(it.names), it.lines) for it in believed.shares(found)]
 
-    def definitions(self):
-        """A table for each crate: the definitions of a file that the same calls need stand in one row."""
-        lines, crate = [], ""
-        for share in self.believed.shares(self.all):
-            owner, file = share.shown[len("crates/") : -len(".antt")].split("/specs/")
-            if owner != crate:
-                lines += [*([""] if crate else []), f"### `{owner}`", ""]
-                lines += head("File", "Definitions", "Lines", "Calls")
-                crate = owner
-            groups = {}
-            for name in share.names:
-                groups.setdefault(self.callers((share.module, name)), []).append(name)
-            for callers, names in groups.items():
-                count = sum(self.believed.lines[share.module, name] for name in names)
-                lines.append(row(f"`{file}`", in_code(names), count, numbers(callers)))
-        return lines
 
-    def types(self):
-        """The table of types: those of a source that the same calls need stand in one row."""
-        groups = {}
-        for it in sorted(it for it in self.all if isinstance(it, Place)):
-            source = self.believed.surface.sources[it.crate][it.module].shown
-            groups.setdefault((source, self.callers(it)), []).append(it.name)
-        order = [*self.believed.surface.crates]
-        lines = head("Source", "Types", "Calls")
-        for (source, callers), names in sorted(groups.items(), key=lambda it: order.index(it[0][0].split("/")[0])):
-            lines.append(row(f"`{source}`", in_code(names), numbers(callers)))
-        return lines
+def types(believed, found):
+    """The types of the code that the definitions found speak of, by their sources."""
+    groups = {}
+    for it in sorted(it for it in found if isinstance(it, Place)):
+        source = believed.surface.sources[it.crate][it.module].shown
+        groups.setdefault(source, []).append(it.name)
+    order = [*believed.surface.crates]
+    lines = head("Source", "Types")
+    return lines + [row(f"`crates/{it}`", in_code(groups[it])) for it in sorted(groups, key=lambda it: order.index(it.split("/")[0]))]
+
+
+def statement(believed):
+    """The definitions of the statement, with links; ValueError if they are too many."""
+    found = believed.of_call(STATEMENT)
+    files, names, lines = sums(believed, found)
+    if lines > MOST:
+        raise ValueError(f"the definitions of {STATEMENT} have {lines} lines, and may have {MOST}")
+
+    def link(name):
+        return f"[`{name[len('crates/') :]}`](../{name})"
+
+    return [*definitions(believed, found, link), row("together", names, lines)]
 
 
 def parts(top):
-    """The parts of the page by their names."""
-    page = Page(top)
-    return {"calls": page.calls(), "definitions": page.definitions(), "types": page.types()}
+    """The parts of docs/BELIEVED.md by their names."""
+    return {"statement": statement(Believed(top))}

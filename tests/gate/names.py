@@ -48,8 +48,20 @@ class Names:
         return None if found is None or isinstance(found, str) else (found, fields)
 
 
+def is_field(before, after):
+    """Whether a word between two others names a field: of a record that is declared, or of one that is made."""
+    return (before == "pub" and after == ":") or (before in ("{", ";") and after == "=")
+
+
+def cited_words(words):
+    """The words that may name a declaration: all but the names of fields."""
+    for before, word, after in zip(["", *words], words, [*words[1:], ""]):
+        if not is_field(before, after):
+            yield word
+
+
 def citations(names, file, declaration):
     """What a declaration names, apart from itself."""
-    meanings = (names.meaning(file.module, word) for word in declaration.parameters + declaration.statement + declaration.body)
+    meanings = (names.meaning(file.module, word) for word in cited_words(declaration.parameters + declaration.statement + declaration.body))
     own = {(file.module, name) for name in declaration.own}
     return {meaning[0] for meaning in meanings if meaning} - own

@@ -13,7 +13,7 @@ from pathlib import Path
 from tests import TOP
 from tests.lib.checks import Tally
 
-from . import believed, documents, lint
+from . import believed, documents, lint, names
 
 FILES = {
     "crates.txt": "low:\nhigh: low\n",
@@ -85,6 +85,11 @@ class Lint(unittest.TestCase):
         lib = "crates/low/specs/Lib.antt"
         wanted = [f"{lib}: Held belongs below `{believed.PRIVATE}`", f"{lib}: Said belongs below `{believed.PUBLIC}`"]
         self.assertEqual([*believed.problems(top=self.room)], wanted)
+
+    def test_the_name_of_a_field_cites_nothing(self):
+        made = ["record", "{", "base", "=", "n", ";", "spare", "=", "base", "}"]
+        self.assertEqual([*names.cited_words(made)], ["record", "{", "=", "n", ";", "=", "base", "}"])
+        self.assertEqual([*names.cited_words(["pub", "base", ":", "spare"])], ["pub", ":", "spare"])
 
     def test_a_text_that_is_not_that_of_its_source_is_found(self):
         for it in TOP.iterdir():

@@ -12,3 +12,5 @@ pub mod Groups
 pub mod Calls
 pub mod SessionLaws
 pub mod CallerLaws
+-- What a session does, in bytes and lines alone
+pub mod Statement

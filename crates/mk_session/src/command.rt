@@ -1,6 +1,8 @@
 //! A call of a session as a value, and the session that does it.
+ghost use Rattle.std.specs.Prelude.{is_ok};
 ghost use Rattle.mk_edit_language.specs.CommandViews.{command_of};
 ghost use Rattle.mk_session.specs.Calls.{IsAnswered};
+ghost use Rattle.mk_session.specs.Statement.{IsCall};
 
 use crate::session::Session;
 use mk_edit::Refusal;
@@ -14,7 +16,8 @@ impl<A: Allocator + Copy> Session<A> {
     ///
     /// The errors of the call that the command stands for.
     pub fn execute(&mut self, command: &Command<A>) -> Result<(), Refusal>
-        ensures { IsAnswered (command_of command.now) result self.old self.new }
+        ensures answered { IsAnswered (command_of command.now) result self.old self.new }
+        ensures stated { IsCall command.now (is_ok result) self.old.shown self.new.shown }
     {
         match command {
             Command::Apply(edit) => self.apply(edit),

@@ -4,8 +4,13 @@
 //! They are about what is seen of a session, and about calls with their replies, as the contracts
 //! of [`Session`](crate::Session)'s calls say. The last ones are for callers: they take the clauses
 //! `done` of a few calls, and say what the text is then.
+ghost use Rattle.std.specs.Prelude.{Bool, List, ℕ};
+ghost use Rattle.mk_edit_language.specs.declared.command.Command.{Command};
 ghost use Rattle.mk_session.specs.CallerLaws.{AGroupCanBeUndone, AnEditCanBeUndone, BeginOpensAGroup, CancelShowsTheBeginning, CancelTakesBackAllEdits, EditsStayInTheirGroup, NoEditsAreNoStep, RedoMakesAgain, UndoTakesBackAGroup, UndoTakesBackAllEdits, UndoTakesBackARedo, UndoTakesBackAnEdit};
 ghost use Rattle.mk_session.specs.SessionLaws.{GrantedEditsAreMade, OtherCallsChangeNothing, ReplaysWhatStands, UndoingAllGivesTheFirstText};
+ghost use Rattle.mk_session.specs.Statement.{AreTakenBack};
+
+use std::alloc::Allocator;
 
 /// After any calls, a session shows what the session machine shows: its bytes are those of the text
 /// that was opened, with the edits that stand replayed over it. The session has read at most as
@@ -61,4 +66,15 @@ pub fn groups_are_taken_back()
     ensures undone { UndoTakesBackAllEdits }
     ensures granted { AGroupCanBeUndone }
     ensures empty { NoEditsAreNoStep }
+{}
+
+/// Calls, each of which does what the clause `stated` of [`execute`](crate::Session::execute) says,
+/// are taken back by undos: after calls of which no more were done than the depth, outside a group,
+/// as many undos as calls were done give back the bytes of the text that was opened.
+///
+/// It stands on bytes, lines and what a session shows alone: docs/BELIEVED.md has all its
+/// definitions.
+pub fn calls_are_taken_back<A: Allocator>()
+    ensures { (depth : ℕ) (text : List ℕ) (calls : List (Command A × Bool)) →
+        AreTakenBack depth text calls }
 {}

@@ -1,0 +1,11 @@
+pub mod CellTexts
+pub mod WordEdges
+pub mod LineWords
+pub mod PlacedLines
+pub mod RecipePlaces
+pub mod ValuesStated
+pub mod RulesStated
+pub mod NewRulesStated
+pub mod RuleGoesStated
+pub mod RenamesStated
+pub mod CallsStated

@@ -1,0 +1,177 @@
+-- What an edit of rules and recipes does to the lines of a makefile, in bytes.
+use Rattle.std.proofs.Common.{◌≡◌, refl, sym, ap, ◌∙◌, subst, ℕ, ◌+◌, List, [], ◌∷◌, ◌++◌, length, take, drop, Bool, true, false, append_assoc, Option, option_map}
+use Rattle.std.specs.Prelude.{Ok, codes, if◌then◌else◌}
+use Rattle.std.specs.List.{Any}
+use Rattle.std.proofs.lemmas.List.{append-nil}
+use Rattle.std.proofs.lemmas.Bool.{eq-eqb}
+use Rattle.mk_lines.specs.Lists.{concat, trim_end, trailing}
+use Rattle.mk_lines.specs.LogicalLines.{logical_lines}
+use Rattle.mk_lines.specs.PhysicalLines.{line_end, line_end_bytes, without_line_end}
+use Rattle.mk_lines.specs.Cells.{Cell, joined_byte, raw_text}
+use Rattle.mk_lines.specs.Words.{is_gap, tokens}
+use Rattle.mk_lines.proofs.on_units.TokenLemmas.{token_text-tokens}
+use Rattle.mk_lines.specs.Pieces.{Replacement, Piece, old_cells, new_bytes, old_bytes, replacements}
+use Rattle.mk_lines.proofs.on_lists.PieceLemmas.{raw_text-old_cells}
+use Rattle.mk_class.specs.ListTests.{is_empty}
+use Rattle.mk_class.specs.Headers
+use Rattle.mk_class.specs.Headers.{header_units}
+use Rattle.mk_class.specs.ClassedLines.{classed_lines}
+use Rattle.mk_tree.specs.LineTexts.{text_of, context_of, bytes_of}
+use Rattle.mk_tree.proofs.on_documents.LinesInText.{line-in_text, run-in_text}
+use Rattle.mk_edit_language.specs.Edits.{PrereqChange, AddPrereq, RemovePrereq, RecipeLine, RecipePlace, OfRecipe, ChangePrereqs, AddRecipe, SetRecipe, RemoveLines}
+use Rattle.mk_edit_language.specs.Addresses as addresses
+use Rattle.mk_edit_language.specs.Addresses.{is_rule_for, found}
+use Rattle.mk_edit_language.specs.Stretches.{Stretch, this_line, between, recipe_found, recipe_place}
+use Rattle.mk_edit_language.specs.NewLines.{new_line_end}
+use Rattle.mk_edit_language.specs.WordPieces.{kept, header_pieces, put_last, prerequisite_text, removed_words, normal_pieces, add_pieces}
+use Rattle.mk_edit_language.specs.EditSpans.{prereq_pieces, word_spans, recipe_span, where_found}
+use Rattle.mk_edit_language.specs.KeptLines.{respanned_bytes}
+use Rattle.mk_edit_language.specs.Refusals.{spans, text_after}
+use Rattle.mk_edit_language.proofs.on_edits.Accepted.{accepted}
+use Rattle.mk_edit_language.proofs.on_edits.EditedLineLemmas.{respanned-one, respanned-pieces}
+use Rattle.mk_edit_language.proofs.on_edits.MadeEdits.{one_place-made}
+use Rattle.mk_edit_language.proofs.on_lines.SpotLemmas.{picked-is, recipe_found-is}
+use Rattle.mk_edit_language.proofs.on_lines.HeaderChanges.{middle_units, header-here}
+use Rattle.mk_edit_language.proofs.on_prerequisites.HeaderEdits.{header_pieces-whole, kept-old, word_spans-header}
+use Rattle.mk_edit_language.proofs.on_prerequisites.AddPrereqLemmas.{put_last-old}
+use Rattle.mk_edit_language.proofs.on_prerequisites.WordsRemoved.{removed-old_cells}
+use Rattle.mk_session.specs.Statement.{Has, Names, Nothing, Line, Recipe, Become}
+use Rattle.mk_session.proofs.on_statement.CellTexts.{has-nothing, has-left, has-right, has-front}
+use Rattle.mk_session.proofs.on_statement.LineWords.{header-front, rule-for, rule-names}
+use Rattle.mk_session.proofs.on_statement.PlacedLines.{lines-become}
+use Rattle.mk_session.proofs.on_statement.RecipePlaces.{led-is_recipe, recipe-line, recipe_found-below, recipe_place-below, text_meant, recipe_found-has}
+use Rattle.mk_session.proofs.on_statement.ValuesStated.{some-mapped, no-lines}
+
+-- ---- prerequisites
+
+-- the word that a change puts in
+abbrev word_put : PrereqChange → List ℕ
+word_put (AddPrereq order w) = w
+word_put (RemovePrereq w) = []
+
+-- A change keeps the targets of a rule and what stands before its prerequisites, and its pieces are the line's.
+record KeepTargets (h : Headers.Header Cell) (w : List ℕ) (ps : List Piece) : Type 0 where
+  rest : List ℕ
+  old : old_cells ps ≡ concat (header_units h)
+  whole : new_bytes ps ≡ raw_text (concat h.targets) ++ (raw_text (concat (middle_units h)) ++ rest)
+  has : Has w rest
+
+last-has : (w t : List ℕ) (us : List (List Cell)) (ps : List Piece) → Has w t → Has w (new_bytes (put_last t us ++ ps))
+last-has w t us ps h = has-right w (raw_text (concat (trim_end (is_gap joined_byte) us))) (t ++ (raw_text (concat (trailing (is_gap joined_byte) us)) ++ new_bytes ps)) (has-left w t (raw_text (concat (trailing (is_gap joined_byte) us)) ++ new_bytes ps) h)
+
+kept-first : (h : Headers.Header Cell) (w : List ℕ) (n o : List Piece) → old_cells n ≡ concat h.normal → old_cells o ≡ concat h.order_only → Has w (new_bytes (n ++ (kept h.bar ++ (o ++ kept h.tail)))) → KeepTargets h w (header_pieces h (kept h.targets) n o)
+kept-first h w n o i j k = record { rest = new_bytes (n ++ (kept h.bar ++ (o ++ kept h.tail))); old = header_pieces-whole h (kept h.targets) n o (kept-old h.targets) i j; whole = refl; has = k }
+
+normal-keeps : (w : List ℕ) (h : Headers.Header Cell) → KeepTargets h w (normal_pieces w h)
+normal-keeps w h =
+    kept-first h w (put_last (prerequisite_text w h) h.normal) (kept h.order_only) (put_last-old (prerequisite_text w h) h.normal) (kept-old h.order_only)
+    (last-has w (prerequisite_text w h) h.normal (kept h.bar ++ (kept h.order_only ++ kept h.tail)) (has-right w (32 ∷ []) _ (has-front w _)))
+
+order-keeps : (w : List ℕ) (h : Headers.Header Cell) → KeepTargets h w (add_pieces true w h)
+order-keeps w h = go (is_empty h.bar)
+  where
+    go : (x : Bool)
+        → KeepTargets h w (if x then header_pieces h (kept h.targets) (put_last (codes " | " ++ w) h.normal) (kept h.order_only) else header_pieces h (kept h.targets) (kept h.normal) (put_last (32 ∷ w) h.order_only))
+    go true =
+        kept-first h w (put_last (codes " | " ++ w) h.normal) (kept h.order_only) (put_last-old (codes " | " ++ w) h.normal) (kept-old h.order_only)
+        (last-has w (codes " | " ++ w) h.normal (kept h.bar ++ (kept h.order_only ++ kept h.tail)) (codes " | ", [], ap (λ z. codes " | " ++ z) (sym (append-nil w))))
+    go false =
+        kept-first h w (kept h.normal) (put_last (32 ∷ w) h.order_only) (kept-old h.normal) (put_last-old (32 ∷ w) h.order_only)
+        (has-right w (raw_text (concat h.normal)) (raw_text (concat h.bar) ++ new_bytes (put_last (32 ∷ w) h.order_only ++ kept h.tail))
+        (has-right w (raw_text (concat h.bar)) (new_bytes (put_last (32 ∷ w) h.order_only ++ kept h.tail))
+        (last-has w (32 ∷ w) h.order_only (kept h.tail) (32 ∷ [], [], ap (λ z. 32 ∷ z) (sym (append-nil w))))))
+
+removed-cells : (w : List ℕ) (us : List (List Cell)) → old_cells (removed_words w us) ≡ concat us
+removed-cells w us = removed-old_cells w [] (tokens joined_byte us) ∙ token_text-tokens joined_byte us
+
+change-keeps : (c : PrereqChange) (h : Headers.Header Cell) → KeepTargets h (word_put c) (prereq_pieces c h)
+change-keeps (AddPrereq true w) h = order-keeps w h
+change-keeps (AddPrereq false w) h = normal-keeps w h
+change-keeps (RemovePrereq w) h = kept-first h [] (removed_words w h.normal) (removed_words w h.order_only) (removed-cells w h.normal) (removed-cells w h.order_only) (has-nothing _)
+
+-- the line of a rule becomes another
+pub prereqs-stated : (nth : Option ℕ) (g : List ℕ) (c : PrereqChange) (t : List ℕ) (rs : List Replacement) → spans t (ChangePrereqs nth g c) ≡ Ok rs
+    → Become (Line g 58 []) (Line g 58 (word_put c)) (logical_lines t) (logical_lines (text_after t (ChangePrereqs nth g c)))
+prereqs-stated nth g c t rs h =
+    let e = ChangePrereqs nth g c in
+    let K = (one_place-made e tt t rs h).kept in
+    let M = some-mapped this_line (found (classed_lines t) (addresses.Rule nth g)) K.touched K.place in
+    let s = M.0 in
+    let S = picked-is (λ l. is_rule_for g l.class) (classed_lines t) nth s M.1 in
+    let L = line-in_text t s.above s.line s.below S.whole in
+    let F = rule-for g s.line.class S.passes in
+    let H = F.header in
+    let k = L.class ∙ F.class_is in
+    let W = header-here (context_of s.above) s.line.bytes H k in
+    let ps = prereq_pieces c H in
+    let P = change-keeps c H in
+    let end = line_end_bytes (line_end s.line.bytes) in
+    let T = raw_text (concat H.targets) in
+    let C = raw_text (concat (middle_units H)) in
+    let old : s.line.bytes ≡ old_bytes ps ++ end = W.whole ∙ ap (λ z. z ++ end) (ap raw_text (sym P.old) ∙ raw_text-old_cells ps) in
+    let spans_are : rs ≡ replacements (length (text_of s.above)) ps = sym (accepted t e rs h).spans_are ∙ (ap (where_found (word_spans (prereq_pieces c))) M.1 ∙ word_spans-header (prereq_pieces c) s H F.class_is) in
+    let m = T ++ (C ++ (P.rest ++ end)) in
+    let new : respanned_bytes (this_line s) rs ≡ m =
+    ap (respanned_bytes (this_line s)) spans_are
+    ∙ (respanned-pieces (this_line s) ps end (append-nil s.line.bytes ∙ old)
+    ∙ (ap (λ z. z ++ end) P.whole ∙ (append_assoc T (C ++ P.rest) end ∙ ap (λ z. T ++ z) (append_assoc C P.rest end)))) in
+    lines-become (Line g 58 []) (Line g 58 (word_put c)) t e rs (this_line s) (ap (option_map this_line) M.1) h
+    (s.line.bytes, refl, rule-names (context_of s.above) g s.line.bytes s.line.class L.class S.passes, has-nothing s.line.bytes) (
+      m,
+      ap (λ z. z ∷ []) new,
+      header-front (context_of s.above) s.line.bytes g H (P.rest ++ end) k F.is_target,
+      has-right (word_put c) T (C ++ (P.rest ++ end)) (has-right (word_put c) C (P.rest ++ end) (has-left (word_put c) P.rest end P.has)),
+    )
+
+-- ---- recipe lines
+
+-- a new recipe line
+pub new_recipe-stated : (nth : Option ℕ) (g : List ℕ) (p : RecipePlace) (c t : List ℕ) (rs : List Replacement) → spans t (AddRecipe nth g p c) ≡ Ok rs
+    → Become Nothing (Recipe g c) (logical_lines t) (logical_lines (text_after t (AddRecipe nth g p c)))
+new_recipe-stated nth g p c t rs h =
+    let e = AddRecipe nth g p c in
+    let K = (one_place-made e tt t rs h).kept in
+    let s = K.touched in
+    let M = some-mapped between (recipe_place (classed_lines t) nth g p) s K.place in
+    let R = run-in_text t s.above s.lines s.below K.before in
+    let b = (context_of s.above).prefix in
+    let end = new_line_end t in
+    let m = b ∷ (c ++ end) in
+    let below : Any (Names g 58) (bytes_of s.above) = subst (λ (z : Stretch). Any (Names g 58) (bytes_of z.above)) M.2 (recipe_place-below t g nth p M.0 M.1) in
+    lines-become Nothing (Recipe g c) t e rs s K.place h (no-lines (recipe_place (classed_lines t) nth g p) s K.place)
+    (m, refl, led-is_recipe s.above m b R.above_classed refl (eq-eqb b b refl), (b ∷ [], end, refl), below)
+
+-- a recipe line with another text
+pub set_recipe-stated : (nth : Option ℕ) (g : List ℕ) (w : RecipeLine) (c t : List ℕ) (rs : List Replacement) → spans t (SetRecipe nth g w c) ≡ Ok rs
+    → Become (Recipe g (text_meant w)) (Recipe g c) (logical_lines t) (logical_lines (text_after t (SetRecipe nth g w c)))
+set_recipe-stated nth g w c t rs h =
+    let e = SetRecipe nth g w c in
+    let K = (one_place-made e tt t rs h).kept in
+    let M = some-mapped this_line (recipe_found (classed_lines t) nth g w) K.touched K.place in
+    let s = M.0 in
+    let S = recipe_found-is (classed_lines t) nth g w s M.1 in
+    let I = recipe-line t s.above s.line s.below S.whole S.passes in
+    let below = recipe_found-below t g nth w s M.1 in
+    let at = length (text_of s.above) in
+    let b = length (without_line_end s.line.bytes) in
+    let rest = drop b (s.line.bytes ++ []) in
+    let spans_are : rs ≡ recipe_span c s = sym (accepted t e rs h).spans_are ∙ ap (where_found (recipe_span c)) M.1 in
+    let m = I.0 ∷ (c ++ rest) in
+    let first : take 1 (s.line.bytes ++ []) ≡ I.0 ∷ [] = ap (λ z. take 1 (z ++ [])) I.2 in
+    let new : respanned_bytes (this_line s) rs ≡ m =
+    ap (respanned_bytes (this_line s)) spans_are ∙ (respanned-one (this_line s) (at + 1) (at + b) 1 b c refl refl ∙ ap (λ z. z ++ (c ++ rest)) first) in
+    lines-become (Recipe g (text_meant w)) (Recipe g c) t e rs (this_line s) (ap (option_map this_line) M.1) h
+    (s.line.bytes, refl, I, recipe_found-has t g nth w s M.1, below)
+    (m, ap (λ z. z ∷ []) new, (I.0, c ++ rest, refl, I.3), (I.0 ∷ [], rest, refl), below)
+
+-- a recipe line that goes
+pub no_recipe-stated : (nth : Option ℕ) (g : List ℕ) (w : RecipeLine) (t : List ℕ) (rs : List Replacement) → spans t (RemoveLines (OfRecipe nth g w)) ≡ Ok rs
+    → Become (Recipe g (text_meant w)) Nothing (logical_lines t) (logical_lines (text_after t (RemoveLines (OfRecipe nth g w))))
+no_recipe-stated nth g w t rs h =
+    let e = RemoveLines (OfRecipe nth g w) in
+    let K = (one_place-made e tt t rs h).kept in
+    let M = some-mapped this_line (recipe_found (classed_lines t) nth g w) K.touched K.place in
+    let s = M.0 in
+    let S = recipe_found-is (classed_lines t) nth g w s M.1 in
+    lines-become (Recipe g (text_meant w)) Nothing t e rs (this_line s) (ap (option_map this_line) M.1) h
+    (s.line.bytes, refl, recipe-line t s.above s.line s.below S.whole S.passes, recipe_found-has t g nth w s M.1, recipe_found-below t g nth w s M.1) refl

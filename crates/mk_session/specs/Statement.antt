@@ -1,0 +1,140 @@
+-- What a session does to a makefile, said of its bytes and its lines alone: which lines an edit that
+-- is accepted changes, puts in or takes out; that a call that is not done changes nothing; and where
+-- undoing leads. To read it one needs no definition of classes, causes or spans.
+-- Told in docs/BELIEVED.md.
+use Rattle.std.specs.Prelude.{◌≡◌, ◌⊎◌, ℕ, ◌<◌, ◌≤◌, ◌==◌, ◌&&◌, not, nat_lt, Bool, true, false, List, [], ◌∷◌, ◌++◌, length, map, filter, codes, Some, None, All, Contains}
+use Rattle.std.specs.List.{list_any, AllZip, Any}
+use Rattle.mk_lines.specs.PhysicalLines.{without_line_end}
+use Rattle.mk_lines.specs.LogicalLines.{logical_lines}
+use Rattle.mk_history.specs.Shown.{Shown, shown_opened, shown_edited, shown_ended}
+use Rattle.mk_edit_language.specs.declared.edit.Edit.{Edit}
+use Rattle.mk_edit_language.specs.declared.edit.Edit.TheVariants.{SetValue, AppendValue, AddWord, RemoveWord, ChangeValues, AddAssign, RemoveAssign, AddRule, RemoveRule, AddPrereq, RemovePrereq, AddRecipe, SetRecipe, RemoveRecipe, InsertRecipe, SetRecipeByText, RemoveRecipeByText, RenameTarget}
+use Rattle.mk_edit_language.specs.declared.command.Command.{Command}
+use Rattle.mk_edit_language.specs.declared.command.Command.TheVariants.{Apply, Undo, Redo, Begin, End, Cancel}
+
+-- ---- a line
+
+-- a text stands somewhere in another
+abbrev pub Has : (part whole : List ℕ) → Type 0
+Has p t = (a : List ℕ) × (b : List ℕ) × (t ≡ a ++ (p ++ b))
+
+-- a text is empty, or ends in a blank or a line end
+abbrev pub EndsBlank : List ℕ → Type 0
+EndsBlank t = (t ≡ []) ⊎ ((a : List ℕ) × (b : ℕ) × (t ≡ a ++ b ∷ []) × (b < 33))
+
+-- A line names a word: the line begins with it, or has a blank before it; behind it comes a tab, a
+-- backslash, a blank or one of `!&+:=?`; and somewhere behind it comes a sign, the `=` of an
+-- assignment or the `:` of a rule. Nothing is said of a word with a blank in it, such as `$(a b)`,
+-- which a line may fold there.
+abbrev pub Names : (word : List ℕ) → (sign : ℕ) → (line : List ℕ) → Type 0
+Names w s l = list_any (λ b. nat_lt b 33) w ≡ false
+    → (a : List ℕ) × (x : ℕ) × (b : List ℕ) × (l ≡ a ++ (w ++ x ∷ b))
+    × EndsBlank a × Contains (9 ∷ 92 ∷ codes " !&+:=?") x × Has (s ∷ []) (x ∷ b)
+
+-- ---- lines at a place, below those above them
+
+-- lines of a makefile
+abbrev pub Lines : Type 0
+Lines = List (List ℕ)
+
+-- a recipe line: it begins with a tab, or with another byte if a line above sets `.RECIPEPREFIX`
+abbrev pub IsRecipe : (above : Lines) → (line : List ℕ) → Type 0
+IsRecipe up l =
+    (p : ℕ) × (c : List ℕ) × (l ≡ p ∷ c) × ((p ≡ 9) ⊎ Any (Has (codes ".RECIPEPREFIX")) up)
+
+-- a line of a rule's recipe: a recipe line, a line with a comment, or a blank line
+abbrev pub IsOfRecipe : (above : Lines) → (line : List ℕ) → Type 0
+IsOfRecipe up l = IsRecipe up l ⊎ (Has (35 ∷ []) l
+    ⊎ (list_any (λ b. nat_lt 32 b && not (b == 92)) l ≡ false))
+
+-- no line
+abbrev pub Nothing : (above lines : Lines) → Type 0
+Nothing up ls = ls ≡ []
+
+-- one line with a word before a sign, and with a text
+abbrev pub Line : (word : List ℕ) → (sign : ℕ) → (text : List ℕ) → (above lines : Lines) → Type 0
+Line w s t up ls = (l : List ℕ) × (ls ≡ l ∷ []) × Names w s l × Has t l
+
+-- one recipe line with a text, somewhere below the line of a rule for the target
+abbrev pub Recipe : (target text : List ℕ) → (above lines : Lines) → Type 0
+Recipe g t up ls = (l : List ℕ) × (ls ≡ l ∷ []) × IsRecipe up l × Has t l × Any (Names g 58) up
+
+-- the line of a rule for the target, and the lines of its recipe
+abbrev pub Rule : (target : List ℕ) → (above lines : Lines) → Type 0
+Rule g up ls = (l : List ℕ) × (rs : Lines) × (ls ≡ l ∷ rs) × Names g 58 l × All (IsOfRecipe up) rs
+
+-- ---- an edit
+
+-- Lines at one place become others. All lines above and below stay. A last line that has no line end
+-- gets one, where a new line comes behind it.
+abbrev pub Become : (Old New : (above lines : Lines) → Type 0) → (before after : Lines) → Type 0
+Become Old New ls ms =
+    (above : Lines) × (old : Lines) × (new : Lines) × (below : Lines) × (ended : Lines)
+    × (ls ≡ above ++ (old ++ below)) × Old above old
+    × (ms ≡ ended ++ (new ++ below)) × New above new
+    × AllZip (λ l m. (m ≡ l) ⊎ (without_line_end m ≡ l)) above ended
+
+-- parts of a line, each with a word behind it
+abbrev pub joined : (word : List ℕ) → (parts : List (List ℕ)) → List ℕ
+joined w [] = []
+joined w (p ∷ ps) = p ++ (w ++ joined w ps)
+
+-- a line with a word in the place of another one, wherever that stood or at some of these places
+abbrev pub Renames : (word other : List ℕ) → (old new : List ℕ) → Type 0
+Renames w v l m = list_any (λ b. nat_lt b 33) w ≡ false
+    → (ps : List (List ℕ)) × (rest : List ℕ) × (l ≡ joined w ps ++ rest) × (m ≡ joined v ps ++ rest)
+
+-- what an edit that is accepted does to the lines of a makefile
+abbrev pub Does : {A : _} → Edit A → (before after : Lines) → Type 0
+Does (SetValue k n v) = Become (Line n.items 61 []) (Line n.items 61 v.items)
+Does (AppendValue k n v) = Become (Line n.items 61 []) (Line n.items 61 v.items)
+Does (AddWord k n w) = Become (Line n.items 61 []) (Line n.items 61 w.items)
+Does (RemoveWord k n w) = Become (Line n.items 61 []) (Line n.items 61 [])
+Does (ChangeValues n c) = AllZip (λ l m. (m ≡ l) ⊎ (Names n.items 61 l × Names n.items 61 m))
+Does (AddAssign p n f v) = Become Nothing (Line n.items 61 v.items)
+Does (RemoveAssign k n) = Become (Line n.items 61 []) Nothing
+Does (AddRule p gs s ws) = Become Nothing (Line gs.items 58 [])
+Does (RemoveRule k g) = Become (Rule g.items) Nothing
+Does (AddPrereq o k g w) = Become (Line g.items 58 []) (Line g.items 58 w.items)
+Does (RemovePrereq k g w) = Become (Line g.items 58 []) (Line g.items 58 [])
+Does (AddRecipe k g c) = Become Nothing (Recipe g.items c.items)
+Does (SetRecipe k g i c) = Become (Recipe g.items []) (Recipe g.items c.items)
+Does (RemoveRecipe k g i) = Become (Recipe g.items []) Nothing
+Does (InsertRecipe k g i c) = Become Nothing (Recipe g.items c.items)
+Does (SetRecipeByText k g o c) = Become (Recipe g.items o.items) (Recipe g.items c.items)
+Does (RemoveRecipeByText k g o) = Become (Recipe g.items o.items) Nothing
+Does (RenameTarget o n) = AllZip (Renames o.items n.items)
+
+-- ---- the calls of a session
+
+-- one step back: to the nearest of the texts that undoing leads back through
+abbrev pub IsBack : (before after : Shown (List ℕ)) → Type 0
+IsBack s t = (s.back ≡ t.text ∷ t.back)
+    × (t ≡ record s { text = t.text; back = t.back; forward = s.text ∷ s.forward })
+
+-- A call, which is done or not. One that is not done changes nothing. An undo outside a group is not
+-- done only if nothing can be undone.
+abbrev pub IsCall : {A : _} → Command A → (done : Bool) → (before after : Shown (List ℕ)) → Type 0
+IsCall (Apply e) true s t =
+    Does e (logical_lines s.text) (logical_lines t.text) × (t ≡ shown_edited t.text s)
+IsCall Undo true s t = (s.begun ≡ None) × IsBack s t
+IsCall Redo true s t = (s.begun ≡ None) × IsBack t s
+IsCall Begin true s t = (s.begun ≡ None) × (t ≡ record s { begun = Some s.text; pending = 0 })
+IsCall End true s t = (b : List ℕ) × (s.begun ≡ Some b) × (t ≡ shown_ended b s.pending s)
+IsCall Cancel true s t =
+    (b : List ℕ) × (s.begun ≡ Some b) × (t ≡ record s { text = b; begun = None; pending = 0 })
+IsCall Undo false s t = (t ≡ s) × (s.begun ≡ None → s.back ≡ [])
+IsCall c false s t = t ≡ s
+
+-- calls one after the other
+abbrev pub AreCalls : {A : _} → List (Command A × Bool) → (before after : Shown (List ℕ)) → Type 0
+AreCalls [] s u = u ≡ s
+AreCalls ((c, done) ∷ cs) s u = (t : Shown (List ℕ)) × IsCall c done s t × AreCalls cs t u
+
+-- After calls of which no more are done than the depth, outside a group: as many undos, of which some
+-- may be refused, give back the first bytes.
+abbrev pub AreTakenBack : {A : _} → (depth : ℕ) → (text : List ℕ) → List (Command A × Bool) → Type 0
+AreTakenBack {A} depth text calls = (s t : Shown (List ℕ)) (dones : List Bool)
+    → AreCalls calls (shown_opened depth text) s → s.begun ≡ None
+    → length (filter (λ c. c.1) calls) ≤ depth → length (filter (λ c. c.1) calls) ≤ length dones
+    → AreCalls {A = A} (map (λ done. (Undo, done)) dones) s t → t.text ≡ text
