@@ -1,4 +1,4 @@
-"""The cases of which docs/SPEED.md has aims: what they are, and how they are measured."""
+"""The cases of which bench/README.md has aims: what they are, and how they are measured."""
 
 from collections.abc import Callable
 from functools import partial

@@ -4,6 +4,7 @@ tests/gate/believed.py finds them in the contracts and the definitions of the cr
 """
 
 import sys
+import textwrap
 from pathlib import Path
 
 sys.path.insert(0, str(Path(__file__).resolve().parent.parent))
@@ -12,6 +13,8 @@ from tests.gate.believed import Believed, Place  # noqa: E402
 
 # The law that has all definitions of the statement, and how many lines these may be.
 STATEMENT, MOST = "mk_session::calls_are_taken_back", 150
+# The most characters of a cell of a table.
+WIDEST = 120
 # The main calls, lowest first. Each is named by its crate, its type and its name.
 CALLS = (
     "mk_script::parse_script",
@@ -59,7 +62,11 @@ def calls(believed):
 def definitions(believed, found, shown):
     """The definitions that are found, by their files, lowest first; `shown` says how a file is named."""
     lines = head("File", "Definitions", "Lines")
-    return lines + [row(shown(it.shown), in_code(it.names), it.lines) for it in believed.shares(found)]
+    for it in believed.shares(found):
+        first, *others = textwrap.wrap(in_code(it.names), WIDEST)
+        lines.append(row(shown(it.shown), first, it.lines))
+        lines += [row("", names, "") for names in others]
+    return lines
 
 
 def types(believed, found):

@@ -17,7 +17,7 @@ TABLE = "crates/mk_script/src/table.rt"
 TEXTS = "crates/mk_cli/src/command_texts.rt"
 
 # A command's form; its word, and the constant that has its text.
-FORM = re.compile(r'^ +CommandForm\("(.*)", CommandKind::\w+\),$', re.M)
+FORM = re.compile(r'^ +\(\s*"(.*)",\s+\w+,\s+Word::\w+,?\s*\),$', re.M)
 ROW = re.compile(r'^ +\("(.*)", ([A-Z_]+)\),$', re.M)
 PARTS = re.compile(
     r"(.*?)\n\nIs refused with (.*?)\.\n\nExample: over\n(.*?)\nthe script\n(.*?)\nmakes\n(.*)\n", re.S
@@ -87,7 +87,7 @@ def full_table(found):
     yield "| Command | What it does | Is refused with |"
     yield "|---|---|---|"
     for it in found:
-        yield f"| `{it.form}` | {cell(it.does)} | {cell(it.refusals)} |"
+        yield f"| `{it.form}` | {cell(it.first)} | {cell(it.refusals)} |"
 
 
 def items(found):

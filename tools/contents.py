@@ -20,7 +20,7 @@ PLACED = {
     "completions/mkedit.fish": "share/fish/vendor_completions.d/mkedit.fish",
 }
 # What a user reads. It has the same place in a release, so that one document finds the other.
-READ = ("README.md", "CHANGELOG.md", "docs/EDITS.md", "docs/COOKBOOK.md", "docs/LANGUAGE.md")
+READ = ("README.md", "CHANGELOG.md", *(f"docs/{it}.md" for it in ("GUIDE", "EDITS", "COOKBOOK", "LANGUAGE")))
 # The time of each file where nothing says another: the first second of 2000.
 EPOCH = 946_684_800
 VERSION = re.compile(r"mkedit (\d+\.\d+\.\d+)( .*)?\n")

@@ -6,6 +6,7 @@ with a refusal, stand in the definitions, RefusalTexts.antt.
 """
 
 import re
+import textwrap
 from pathlib import Path
 from typing import NamedTuple
 
@@ -21,6 +22,11 @@ NUMBER = re.compile(r"^number_of \(?(\w+).*?= (\d+)$", re.M)
 DETAIL = re.compile(r"^detail_of \((\w+) \w+\) = detail\.(\w+)", re.M)
 ESCAPE = re.compile(r"\\(.)")
 ESCAPED = {"\\": "\\", '"': '"', "t": "\t", "n": "\n"}
+
+# How long a line of a document is, what stands there between backticks, and a sentence on an example.
+WIDTH = 100
+CODE = re.compile(r"``.+?``|`[^`]+`")
+OF_EXAMPLE = re.compile(r"In the example .*?\. ")
 
 PARTS = re.compile(r"(.*?)\n\nExample: (.*?)\n\n(.*?)\n", re.S)
 EXAMPLE = re.compile(r"(?:over\n(.*?)\n)?the script\n(.*?)\nis reported as\n(.*)", re.S)
@@ -86,23 +92,19 @@ def cell(text):
     return text.replace("|", "\\|")
 
 
-def example_cell(refusal):
-    """The example of a refusal on one line, with a sign for each line feed and tab."""
-    if refusal.words:
-        return refusal.words[0].upper() + refusal.words[1:]
-    # (a script stands there without its last line end)
-    parts = [it for it in (refusal.makefile, refusal.script[:-1]) if it]
-    return ", ".join(f"`{it}`" for it in parts).replace("\n", "⏎").replace("\t", "⇥")
+def entry(text):
+    """A text as an entry of a list in Markdown: no line breaks within what stands between backticks."""
+    glued = CODE.sub(lambda it: it[0].replace(" ", "\0"), text)
+    lines = textwrap.wrap(glued, WIDTH, subsequent_indent="  ", break_long_words=False, break_on_hyphens=False)
+    return [it.replace("\0", " ") for it in lines]
 
 
-def table(found):
-    """The table of docs/EDITS.md."""
-    yield "| No. | Name | When | For example | What to do |"
-    yield "|---|---|---|---|---|"
+def entries(found):
+    """The list of docs/EDITS.md, without the examples and what is said of them."""
     for it in found:
         name = f"`{it.name}` *{it.detail}*" if it.detail else f"`{it.name}`"
-        cells = [name, *map(cell, (it.cause, example_cell(it), it.advice))]
-        yield f"| {it.number} | {' | '.join(cells)} |"
+        advice = OF_EXAMPLE.sub("", it.advice)
+        yield from entry(f"- **{it.number} {name}**: {it.cause} *Fix:* {advice}")
 
 
 def items(found):

@@ -3,7 +3,6 @@
     paths        a path in backticks, also of a definition: `mk_edit/specs/Planned.IsRefusal`
     definitions  a definition in backticks, as `EditSpans.spans_of`, where some crate has such a file
     commands     what stands behind `make` and `python3 -m`, and the documents themselves
-    must-fail    the must-fail edits that the promises of docs/PROOFS.md name
     crates       the table of crates in docs/ARCHITECTURE.md, and what each is built on
 """
 
@@ -20,12 +19,12 @@ DEFINITION = re.compile(r"([A-Z]\w+)\.([A-Za-z_]\w*)")
 MODULE = re.compile(r"python3 -m (tests\.[\w.]*\w)")
 DOCUMENT = re.compile(r"\b[A-Z]+\.md\b")
 MAKE = re.compile(r"`make ([a-z][a-z-]*)[` ]")
+# The documents that are looked at beside those of docs/.
+BESIDE = ("README.md", "CONTRIBUTING.md", "bench/README.md")
 # Elsewhere `make` is the user's.
-OF_DEVELOPERS = ("README.md", "ARCHITECTURE.md", "DECISIONS.md", "DEVELOPING.md", "PROOFS.md", "SPEED.md")
+OF_DEVELOPERS = (*BESIDE, "docs/ARCHITECTURE.md", "docs/PROOFS.md")
 # A folder that is made, or a word that stands for others.
 PLACEHOLDER = re.compile(r"/out/|[A-Z]{4}")
-PROMISES = re.compile(r"^## The promises\n(.*?)^## ", re.M | re.S)
-EDIT = re.compile(r"\b[a-z0-9]+(?:_[a-z0-9]+){2,}\b")
 
 
 def declares(text, name):
@@ -40,7 +39,6 @@ class Repository:
         self.top, self.crates = top, listed(top)
         self.tops = {*self.crates, *(it.name for it in top.iterdir() if it.is_dir())}
         self.targets = {*re.findall(r"^([a-z-]+):", (top / "Makefile").read_text(encoding="utf-8"), re.M)}
-        self.edits = {it.stem for it in top.glob("crates/*/must-fail/*.edit")}
 
     @lru_cache(maxsize=None)
     def texts(self, pattern):
@@ -75,12 +73,6 @@ class Repository:
             if not (self.top / document).exists() and not (self.top / "docs" / document).exists():
                 yield f"there is no document {document}"
 
-    def edit_problems(self, text):
-        """The must-fail edits that the last cells of the promises name, and that no crate has."""
-        rows = [it for part in PROMISES.findall(text) for it in part.splitlines() if it.startswith("|")]
-        named = {word for row in rows for word in EDIT.findall(re.split(r"(?<!\\)\|", row)[-2])}
-        yield from (f"there is no must-fail edit {it}" for it in sorted(named - self.edits - {*self.crates}))
-
     def crate_problems(self, text):
         """Compares the table of crates with crates.txt."""
         table = text[text.find("| Crate | What stands there |") :].partition("\n\n")[0].splitlines()[2:]
@@ -95,10 +87,9 @@ class Repository:
 def problems(top=TOP):
     """What is wrong with the documents, a line for each."""
     ours = Repository(top)
-    for path in [top / "README.md", *sorted((top / "docs").glob("*.md"))]:
+    for path in [*(top / it for it in BESIDE), *sorted((top / "docs").glob("*.md"))]:
         name, text = path.relative_to(top).as_posix(), path.read_text(encoding="utf-8")
-        of_developers = path.name in OF_DEVELOPERS
-        found = [*ours.path_problems(text), *ours.definition_problems(text), *ours.command_problems(text, of_developers)]
-        found += ours.edit_problems(text) if path.name == "PROOFS.md" else ()
+        found = [*ours.path_problems(text), *ours.definition_problems(text)]
+        found += ours.command_problems(text, name in OF_DEVELOPERS)
         found += ours.crate_problems(text) if path.name == "ARCHITECTURE.md" else ()
         yield from (f"{name}: {it}" for it in found)

@@ -183,9 +183,9 @@ def recipe_lines(size):
     )
 
     def recipe(at):
-        return b"%d:0: many [%d] echo 123456789\n" % (at + 2, at + 1)
+        return b"%d:0: [%d] echo 123456789\n" % (at + 2, at + 1)
 
-    said = {"rules": [(b"1:0: many: [%d]\n" % count, 1)], "recipes": [(recipe, count)]}
+    said = {"rules": [(b"1:0: many: [%d]\n" % count, 1)], "recipes": [(b"1:0: many:\n", 1), (recipe, count)]}
     return Shape("recipe lines", part, said, edits)
 
 
@@ -197,7 +197,8 @@ def one_recipe_line(size):
         ("recipe-del", b"recipe-del many 1", [(b"many:\n", 1)]),
         ("unrule", b"unrule many", []),
     )
-    said = {"rules": [(b"1:0: many: [1]\n", 1)], "recipes": [(b"2:0: many [1] ", 1), (b"a ", size // 4), (b"b\n", 1)]}
+    recipes = [(b"1:0: many:\n2:0: [1] ", 1), (b"a ", size // 4), (b"b\n", 1)]
+    said = {"rules": [(b"1:0: many: [1]\n", 1)], "recipes": recipes}
     return Shape("one recipe line", part, said, edits)
 
 

@@ -15,7 +15,7 @@ BLOCK_LINES = BLOCK.count(b"\n")
 BLOCK_ANSWERS = {
     "vars": ((1, b":0: LAST = one\n"), (5, b":0: END = 1\n")),
     "rules": ((2, b":0: last: a b [2]\n"),),
-    "recipes": ((3, b":0: last [1] first\n"), (4, b":0: last [2] second\n")),
+    "recipes": ((2, b":0: last:\n"), (3, b":0: [1] first\n"), (4, b":0: [2] second\n")),
     "check": (),
     "caveats": (),
 }

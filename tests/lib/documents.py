@@ -9,7 +9,7 @@ DOCS = TOP / "docs"
 PAGE, SCRIPT_PAGE = DOCS / "mkedit.1", DOCS / "mkedit-script.5"
 TEXTS = TOP / "crates/mk_edit_language/specs/RefusalTexts.antt"
 NUMBER = re.compile(r"^number_of \(?(\w+).*?= (\d+)$", re.M)
-ROW = re.compile(r"^\| (\d+) \| `(\w+)`", re.M)
+ENTRY = re.compile(r"^- \*\*(\d+) `(\w+)`", re.M)
 DISPLAY = re.compile(r"^\.Bd -literal[^\n]*\n(.*?)^\.Ed$", re.M | re.S)
 ESCAPE = re.compile(r"\\(.)")
 ESCAPED = {"e": "\\", "&": ""}
@@ -27,7 +27,7 @@ def edits():
 
 def told_refusals():
     """The number and the name of each refusal, as docs/EDITS.md has them."""
-    return ROW.findall(edits())
+    return ENTRY.findall(edits())
 
 
 def page(path=PAGE):

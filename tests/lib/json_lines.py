@@ -5,6 +5,7 @@ Told in docs/LIBRARY.md, "Lines of JSON". It shares no line with the program.
 
 import base64
 import json
+from typing import Any, NamedTuple, Optional
 
 from .reading import is_rule, joined, read
 
@@ -21,33 +22,66 @@ def texts_value(texts):
     return [text_value(text) for text in texts]
 
 
-def line_value(line):
-    """A line as a value: its number, and its text with a space for each fold."""
-    return {"line": line.number, "text": text_value(joined(line.raw)[0])}
+class Branch(NamedTuple):
+    """A branch of a conditional: the line that begins it, the first line of the conditional, the branch above it in
+    the conditional, and the branch round the conditional."""
+
+    line: Any
+    first: Any
+    above: Optional["Branch"]
+    outer: Optional["Branch"]
 
 
-def standing(file, text):
-    """Each line of a makefile with the members that say where it stands."""
-    is_open = []
+def branches(text):
+    """The branch in which each line of a makefile stands, or None, by the number of the line."""
+    found, branch = {}, None
     for line in read(text)[0]:
-        conditions = [{"branch": line_value(branch), "first": line_value(first)} for first, branch in is_open]
-        depth = line.context.conditionals
-        yield line, {"file": text_value(file), "line": line.number, "depth": depth, "conditions": conditions}
+        found[line.number] = branch
         if line.kind == "If":
-            is_open.append((line, line))
+            branch = Branch(line, line, None, branch)
         elif line.kind == "Else":
-            is_open[-1] = (is_open[-1][0], line)
+            branch = Branch(line, branch.first, branch, branch.outer)
         elif line.kind == "Endif":
-            is_open.pop()
+            branch = branch.outer
+    return found
+
+
+def branches_so_far(branch):
+    """A branch, and before it those above it: of its conditional, and of those round that."""
+    return [*branches_so_far(branch.above or branch.outer), branch] if branch else []
+
+
+def place_members(file, line, depth, branch):
+    """The members that say where a line stands."""
+    members = {"file": text_value(file), "line": line.number, "depth": depth}
+    return {**members, "branch": branch.line.number} if branch else members
+
+
+def branch_object(file, branch):
+    place = place_members(file, branch.line, branch.first.context.conditionals, branch.outer)
+    text = text_value(joined(branch.line.raw)[0])
+    return {**place, "kind": "branch", "first": branch.first.number, "text": text}
+
+
+def objects(file, text, told):
+    """The objects on lines, by pairs of a line and its members; before each those on branches that have none yet."""
+    found, known = branches(text), set()
+    for line, members in told:
+        branch = found[line.number]
+        for it in branches_so_far(branch):
+            if it.line.number not in known:
+                known.add(it.line.number)
+                yield branch_object(file, it)
+        yield {**place_members(file, line, line.context.conditionals, branch), **members}
 
 
 def target_members(targets, separator):
     return {"targets": texts_value(targets), "separator": separator.decode()}
 
 
-def vars_objects(file, text, only=None):
-    """The objects on the assignments, or on those of one name."""
-    for line, place in standing(file, text):
+def told_by_vars(text, only=None):
+    """The assignments, or those of one name, each with its members."""
+    for line in read(text)[0]:
         if line.kind not in ("Assign", "TargetAssign"):
             continue
         *of_rule, modifiers, name, operator, value = line.parts
@@ -58,45 +92,51 @@ def vars_objects(file, text, only=None):
         parts["name"] = text_value(name)
         parts["operator"] = operator.decode()
         parts["value"] = text_value(value)
-        yield {**place, **parts}
+        yield line, parts
 
 
-def rules_objects(file, text, only=None):
-    """The objects on the lines of rules, or on those for one target."""
-    for line, place in standing(file, text):
-        if not is_rule(line, only):
-            continue
-        targets, separator, pattern, normal, order, inline = line.parts
-        parts = target_members(targets, separator)
-        if pattern is not None:
-            parts["pattern"] = text_value(pattern)
-        parts["prerequisites"] = texts_value(normal)
-        parts["order_only"] = texts_value(order)
-        if inline is not None:
-            # (its line end is gone already)
-            parts["inline_recipe"] = text_value(joined(inline + b"\n")[0])
-        yield {**place, **parts}
+def rule_members(line):
+    """What is told of a rule."""
+    targets, separator, pattern, normal, order, inline = line.parts
+    parts = target_members(targets, separator)
+    if pattern is not None:
+        parts["pattern"] = text_value(pattern)
+    parts["prerequisites"] = texts_value(normal)
+    parts["order_only"] = texts_value(order)
+    if inline is not None:
+        # (its line end is gone already)
+        parts["inline_recipe"] = text_value(joined(inline + b"\n")[0])
+    return parts
 
 
-def recipes_objects(file, text, only=None):
-    """The objects on the recipe lines of rules, or of those for one target."""
-    targets, number, is_in_rule = (), 0, False
-    for line, place in standing(file, text):
+def told_by_rules(text, only=None):
+    """The lines of rules, or those for one target, each with its members."""
+    return ((line, rule_members(line)) for line in read(text)[0] if is_rule(line, only))
+
+
+def told_by_recipes(text, only=None):
+    """The lines of rules that have recipe lines, or of those for one target, and these lines, each with its members."""
+    rule, number = None, 0
+    for line in read(text)[0]:
         if line.kind in ("Header", "Rough"):
-            targets, number, is_in_rule = line.parts[0], 0, is_rule(line, only)
-            continue
-        is_in_rule = is_in_rule and line.context.flag == "Rule"
-        if is_in_rule and line.kind == "Recipe":
+            rule, number = line if is_rule(line, only) else None, 0
+        elif line.context.flag != "Rule":
+            rule = None
+        elif rule and line.kind == "Recipe":
             number += 1
-            command = joined(line.raw)[0][1:]
-            yield {**place, "targets": texts_value(targets), "number": number, "text": text_value(command)}
+            if number == 1:
+                yield rule, rule_members(rule)
+            command = text_value(joined(line.raw)[0][1:])
+            yield line, {"rule": rule.number, "number": number, "text": command}
 
 
-def check_objects(file, text):
-    """The objects on lines that are not read inside, and one on what is open at the end."""
-    for line, place in standing(file, text):
-        if line.kind in ("Rough", "Opaque"):
-            yield {**place, "kind": line.kind.lower()}
+def told_by_check(text):
+    """The lines that are not read inside, each with its members."""
+    return ((line, {"kind": line.kind.lower()}) for line in read(text)[0] if line.kind in ("Rough", "Opaque"))
+
+
+def end_objects(file, text):
+    """The object on what is open at the end, if something is."""
     end = read(text)[1]
     if end.conditionals or end.defines:
         counts = {"conditionals": end.conditionals, "defines": end.defines}
@@ -115,32 +155,34 @@ KINDS = {
 }
 
 
-def caveats_objects(file, text, told):
-    """The objects on the lines of which the query in words tells: `told` is what it prints."""
-    numbers, sentences = zip(*(it.split(": ", 1) for it in told.decode().splitlines())) if told else ((), ())
+def told_by_caveats(text, words):
+    """The lines of which the query in words tells, which prints these, each with its members."""
+    numbers, sentences = zip(*(it.split(": ", 1) for it in words.decode().splitlines())) if words else ((), ())
     caveats = dict(zip(map(int, numbers), sentences))
-    for line, place in standing(file, text):
+    for line in read(text)[0]:
         sentence = caveats.pop(line.number, None)
         if sentence is not None:
-            yield {**place, "kind": KINDS[sentence], "sentence": sentence}
+            yield line, {"kind": KINDS[sentence], "sentence": sentence}
     if caveats:
         raise ValueError(f"no line begins at {min(caveats)}")
 
 
-OBJECTS = {"vars": vars_objects, "rules": rules_objects, "recipes": recipes_objects, "check": check_objects}
+TOLD = {"vars": told_by_vars, "rules": told_by_rules, "recipes": told_by_recipes, "check": told_by_check}
 
 
-def lines_of(objects):
+def lines_of(found):
     """Objects as lines of text: JSON without blanks, and no character beyond ASCII as an escape."""
-    lines = (json.dumps(it, ensure_ascii=False, separators=(",", ":")) + "\n" for it in objects)
+    lines = (json.dumps(it, ensure_ascii=False, separators=(",", ":")) + "\n" for it in found)
     return "".join(lines).encode("utf-8")
 
 
-def caveats_text(file, text, told):
-    """The lines of JSON of `caveats`, where the query in words prints this."""
-    return lines_of(caveats_objects(file, text, told))
+def caveats_text(file, text, words):
+    """The lines of JSON of `caveats`, where the query in words prints these."""
+    return lines_of(objects(file, text, told_by_caveats(text, words)))
 
 
 def json_text(query, file, text, only=None):
     """The lines of JSON of a query other than `caveats`."""
-    return lines_of(OBJECTS[query](file, text, only) if only is not None else OBJECTS[query](file, text))
+    told = TOLD[query](text, only) if only is not None else TOLD[query](text)
+    found = lines_of(objects(file, text, told))
+    return found + lines_of(end_objects(file, text)) if query == "check" else found

@@ -442,14 +442,15 @@ def recipes_text(text, only=None):
     for at, line in enumerate(lines):
         if not is_rule(line, only):
             continue
-        number = 0
+        targets, separator, number = *line.parts[:2], 0
         for below in lines[at + 1 :]:
             if below.context.flag != "Rule" or below.kind in ("Header", "Rough"):
                 break
             if below.kind == "Recipe":
                 number += 1
-                command = joined(below.raw)[0][1:]
-                out += place(below) + b" ".join(line.parts[0]) + b" [%d] " % number + command + b"\n"
+                if number == 1:
+                    out += place(line) + b" ".join(targets) + separator + b"\n"
+                out += place(below) + b"[%d] " % number + joined(below.raw)[0][1:] + b"\n"
     return out
 
 

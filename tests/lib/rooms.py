@@ -15,7 +15,7 @@ QUERIED = b"ifdef A\nCC = gcc # c\nall: main.o\n\tcc\n$(call it)\n\tX = 1\n"
 ANSWERS = {
     "vars": b"2:1: CC = gcc\n",
     "rules": b"3:1: all: main.o [1]\n",
-    "recipes": b"4:1: all [1] cc\n",
+    "recipes": b"3:1: all:\n4:1: [1] cc\n",
     "check": b"5: opaque\n6: opaque\nend: conditionals 1\n",
     "caveats": b"6: make may set a variable here that no edit finds\n",
 }

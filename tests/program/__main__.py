@@ -27,6 +27,7 @@ UNPROVED_SKIPPED = (
     "test_changing_files.ChangingFiles.test_a_file_that_grows_is_read_to_an_end_that_it_had",
     "test_fuzzed",
     "test_get.Get.test_get_takes_the_line_that_set_takes_in_each_makefile",
+    "test_growth",
     "test_hostile_shapes",
     "test_json.Json.test_each_makefile_of_the_tables_is_told_as_it_is_read",
     "test_json.Json.test_without_memory_for_the_lines_none_of_them_is_printed",

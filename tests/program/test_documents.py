@@ -6,6 +6,8 @@ In an example `⏎` is a line feed, `⇥` a tab, `␌` a form feed and `␀` a N
     MAKEFILE          OUTPUT                      the lines below the title of a query, which has them
                                                   side by side
 
+In docs/EDITS.md each note on a line that is no command has examples in its row of a table.
+
 In the last chapter of docs/LANGUAGE.md each section with an example also names, as `5: opaque`, what
 `mkedit check` prints of the section's first makefile, and as "`caveats` names line 6" of which line
 `mkedit caveats` tells. docs/LIBRARY.md shows lines of two files.
@@ -17,6 +19,7 @@ from tests import TOP
 from tests.lib.checks import Outcome, differences
 from tests.lib.documents import DOCS, edits
 from tests.lib.rooms import RoomCase
+from tests.program.test_script_help import sources
 
 EDITS, LANGUAGE, LIBRARY = (DOCS / f"{it}.md" for it in ("EDITS", "LANGUAGE", "LIBRARY"))
 QUOTED = (
@@ -35,6 +38,11 @@ QUERY = re.compile(r"^### `mkedit (\w+)`\n(?:.*\n)*?\n((?:    .*\n)+)", re.M)
 SECTION = re.compile(r"^### (.*)\n((?:(?!### ).*\n)*)", re.M)
 UNREAD = re.compile(r"`(\d+: (?:rough|opaque))`")
 CAVEAT = re.compile(r"`caveats` names line (\d+)")
+# The forms of commands, in the title of an entry or at its front.
+ENTRY = re.compile(r"^### (`.*`)$|\*\*(`[^`]+`)\*\*", re.M)
+# The table of notes on lines that are no command, and what stands between backticks.
+NOTES = re.compile(r"^\| The note says \| For example \|\n\|---\|---\|\n((?:\|.*\n)+)", re.M)
+SPAN = re.compile(r"`` ?(.+?) ?``|`([^`]+)`")
 CODE = re.compile(r"^```rust\n((?:(?!```).*\n)*)```\n", re.M)
 
 
@@ -60,6 +68,21 @@ def check_queries(room, document):
         room.write("Makefile", b"".join(text_of(row[1]) for row in rows))
         wanted = "".join(row[2] + "\n" for row in rows if row[2]).encode()
         yield query, differences(room.run(query, "Makefile"), Outcome(wanted, b"", 0))
+
+
+def spans(cell):
+    return [double or single for double, single in SPAN.findall(cell)]
+
+
+def check_notes(room, document):
+    """Each example that a row has outside of brackets has to get a note that begins as one of the row does."""
+    for row in NOTES.search(document)[1].splitlines():
+        notes, examples = row.strip("| ").split(" | ")
+        begins = tuple(it.removesuffix("..").rstrip() for it in spans(notes))
+        for example in spans(re.sub(r"\(.*?\)", "", examples)):
+            room.write("script", example.encode() + b"\n")
+            note = room.run("edit", "--notes", "script", "Makefile").stderr.decode().rpartition(" note: ")[2]
+            yield example, [] if note.startswith(begins) else [f"the note is {note}"]
 
 
 def check_unread(room, chapter):
@@ -99,8 +122,14 @@ class Documents(RoomCase):
             self.assertGreaterEqual(len(found), least)
 
     def test_the_examples_of_the_page_on_edits(self):
-        self.assert_examples(EDITS, check_edits, edits(), 17)
-        self.assert_examples(EDITS, check_queries, edits(), 3)
+        self.assert_examples(EDITS, check_edits, edits(), 26)
+        self.assert_examples(EDITS, check_queries, edits(), 5)
+        self.assert_examples(EDITS, check_notes, edits(), 20)
+
+    def test_each_command_of_a_script_has_an_entry_on_the_page_on_edits(self):
+        forms = re.findall(r"`([^`]+)`", "".join(map("".join, ENTRY.findall(edits()))))
+        found = [it for it in forms if not it.startswith("mkedit ")]
+        self.assertEqual(sorted(found), sorted(it.form for it in sources()))
 
     def test_the_examples_of_what_make_reads_otherwise(self):
         self.assert_examples(LANGUAGE, check_edits, last_chapter(), 34)

@@ -30,8 +30,8 @@ from .test_descriptors import nobody_reads
 from .test_queries import makefiles
 
 EXAMPLES = TOP / "examples/makefiles"
-# Lines of conditionals that are long, one inside the other, and a line within.
-DEAR = b"".join(b"ifdef " + b"A" * 4000 + b"\n" for _ in range(200)) + b"X = 1\n" * 400
+# Lines that are short beside what is told of them.
+DEAR = b"X = 1\n" * 400_000
 # How many makefiles are asked in one call.
 MANY = 200
 # The bytes of memory with which the program reads DEAR, and does not have room for its lines of JSON.
@@ -64,7 +64,8 @@ def rule_line(it):
 
 
 def recipe_line(it):
-    return f"{joined(it['targets'])} [{it['number']}] {it['text']}"
+    """What `recipes` prints of the recipe line, or of the rule, that an object tells of."""
+    return f"[{it['number']}] {it['text']}" if "rule" in it else joined(it["targets"]) + it["separator"]
 
 
 def place(it):
@@ -139,7 +140,8 @@ class Json(RoomCase):
                 with self.subTest(f"{query}, {name}"):
                     objects = self.objects(query, "--json", str(folder / "Makefile"))
                     plain = (folder / query).read_text(encoding="utf-8")
-                    self.assertEqual("".join(map(line_of, objects)), without_counts(query, plain))
+                    found = [it for it in objects if it.get("kind") != "branch"]
+                    self.assertEqual("".join(map(line_of, found)), without_counts(query, plain))
                     self.assertEqual({it["file"] for it in objects} - {str(folder / "Makefile")}, set())
 
     def test_the_lines_are_those_of_one_name_or_target(self):
@@ -173,9 +175,9 @@ class Json(RoomCase):
 
     def test_a_text_that_is_not_utf_8_is_told_in_base64(self):
         self.room.write("latin", b"ifdef \xe4\nX\xff = \xe2\nendif\n")
-        (it,) = self.objects("vars", "--json", "latin")
+        branch, it = self.objects("vars", "--json", "latin")
         self.assertEqual((it["name"], it["value"]), ({"base64": "WP8="}, {"base64": "4g=="}))
-        self.assertEqual(it["conditions"][0]["first"], {"line": 1, "text": {"base64": "aWZkZWYg5A=="}})
+        self.assertEqual((branch["line"], branch["text"], it["branch"]), (1, {"base64": "aWZkZWYg5A=="}, 1))
 
     def test_a_file_that_cannot_be_read_stops_no_other(self):
         line = told("vars", b"Makefile", TEXT)

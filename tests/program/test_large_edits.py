@@ -147,3 +147,24 @@ class LargeEdits(RoomCase):
         alone = self.seconds(script, b"V = a\n" + lines)
         among = self.seconds(b"set V b\n" * 10 + script, b"V = b\n" + lines)
         self.assertLess(among, 3 * max(alone, 0.01), "a rename takes longer where there is an index")
+
+    def test_notes_on_edits_of_names_with_one_line_take_few_walks(self):
+        names = range(2_000)
+        self.room.write("large", b"".join(b"V%d = a\n" % it for it in names))
+        self.room.write("edit", b"".join(b"set V%d b\n" % it for it in names))
+        seconds = []
+        for words in ((), ("--notes",)):
+            before = processor_time()
+            got = self.room.run("edit", *words, "edit", "large")
+            seconds.append(processor_time() - before)
+            self.assertEqual((got.stderr, got.status), (b"", 0))
+        self.assertLess(seconds[1], 10 * max(seconds[0], 0.02), "notes take longer than the edits")
+
+    def test_notes_of_very_many_edits_end(self):
+        self.room.write("large", b"A = 1\nA = 2\n" + b"#\n" * (MANY // 5))
+        self.room.write("edit", b"nth 1 set A 3\n" * 10)
+        got = self.room.run("edit", "--notes", "edit", "large")
+        said = [b"large:2: note: A = 2"] * 5
+        self.assertEqual([it for it in got.stderr.splitlines() if it.startswith(b"large")], said)
+        last = b"edit:6: note: no more notes like these: the makefile is too long for so many edits\n"
+        self.assertTrue(got.stderr.endswith(last), got.stderr[-200:])

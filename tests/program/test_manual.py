@@ -112,5 +112,5 @@ class Manual(RoomCase):
 
     def test_the_manual_page_has_every_message(self):
         text = re.sub(r" ?\b(?:Ar|No) ", " ", page())
-        for message in re.findall(r"\| `(mkedit: [a-z ]+)", edits()):
+        for message in re.findall(r"`(mkedit: [a-z ]+)", edits()):
             self.assertIn(message.strip(), text)

@@ -11,15 +11,8 @@ from tests.lib.rooms import ANSWERS, EDITED, FILES, QUERIED, TEXT, Room, RoomCas
 
 MORE = {"-k": b"set CC clang\n", "depth": b"set CC a\nset CC b\nundo\nundo\n"}
 UNDO = "1: refused 16 NothingToUndo"
-OBJECT = '{"file":"queried","line":%s,"depth":1,"conditions":[{"branch":%s,"first":%s}],%s}'
-IFDEF = '{"line":1,"text":"ifdef A"}'
-MEMBERS = {
-    "vars": '"modifiers":[],"name":"CC","operator":"=","value":"gcc"',
-    "rules": '"targets":["all"],"separator":":","prerequisites":["main.o"],"order_only":[]',
-    "recipes": '"targets":["all"],"number":1,"text":"cc"',
-    "check": '"kind":"opaque"',
-    "caveats": '"kind":"assignment","sentence":"make may set a variable here that no edit finds"',
-}
+# The first line of each query of QUERIED in JSON: all that it tells of stands in one branch.
+IN_JSON = '{"file":"queried","line":1,"depth":0,"kind":"branch","first":1,"text":"ifdef A"}'
 
 # The status, the first lines of both outputs, and the command lines.
 TAKEN = [
@@ -61,9 +54,8 @@ TAKEN = [
 ]
 for query, answer in ANSWERS.items():
     line = answer.decode().split("\n")[0]
-    in_json = OBJECT % (line.split(":")[0], IFDEF, IFDEF, MEMBERS[query])
     TAKEN.append((0, line, None, f"{query} queried | {query} --notes queried"))
-    TAKEN.append((0, in_json, None, f"{query} --json queried | {query} queried - --json --notes"))
+    TAKEN.append((0, IN_JSON, None, f"{query} --json queried | {query} queried - --json --notes"))
 
 # A message, what stands in it for {}, and the command lines that it refuses.
 REFUSED = {

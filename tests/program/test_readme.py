@@ -2,6 +2,8 @@
 
 import re
 import shlex
+import subprocess
+import sys
 
 from tests import TOP
 from tests.lib.checks import differences
@@ -35,6 +37,11 @@ class Readme(RoomCase):
         for command, shown in commands:
             self.assertEqual(self.printed(command).decode(), re.sub(r"^    ", "", shown, flags=re.M), command)
         self.assertEqual([it.split()[0] for it, _ in commands], ["cat", "mkedit"])
+
+    def test_the_picture_shows_what_the_program_prints(self):
+        maker = [sys.executable, "-B", TOP / "docs/demo.py", self.program.path]
+        made = subprocess.run(maker, check=True, capture_output=True, encoding="utf-8").stdout
+        self.assertEqual(made, (TOP / "docs/demo.svg").read_text(encoding="utf-8"), "docs/demo.py makes it anew")
 
     def test_what_the_readme_names_is_there(self):
         for name in sorted(set(NAMED.findall(readme()))):

@@ -23,6 +23,7 @@ ARCHIVE = {
     **PLACES,
     "README.md": "README.md",
     "CHANGELOG.md": "CHANGELOG.md",
+    "docs/GUIDE.md": "docs/GUIDE.md",
     "docs/EDITS.md": "docs/EDITS.md",
     "docs/COOKBOOK.md": "docs/COOKBOOK.md",
     "docs/LANGUAGE.md": "docs/LANGUAGE.md",
@@ -36,7 +37,7 @@ INSTALLED = {
     "usr/share/zsh/vendor-completions/_mkedit",
     "usr/share/fish/vendor_completions.d/mkedit.fish",
     *(f"usr/share/doc/mkedit/{it}" for it in ("changelog.gz", "changelog.Debian.gz", "copyright", "README.md")),
-    *(f"usr/share/doc/mkedit/docs/{it}.md" for it in ("EDITS", "COOKBOOK", "LANGUAGE")),
+    *(f"usr/share/doc/mkedit/docs/{it}.md" for it in ("GUIDE", "EDITS", "COOKBOOK", "LANGUAGE")),
     "usr/share/lintian/overrides/mkedit",
 }
 # What lintian finds where nobody has said who asks for the upload, and which licence it has.

@@ -136,7 +136,7 @@ class SeveralFiles(RoomCase):
         told = b"Makefile:1:0: CC = gcc\ntwo:1:0: CC = a\ntwo:2:0: CC = b\n-:2:1: CC = gcc\n"
         words = ("vars", "--name", "CC", "Makefile", "other", "two", "-")
         self.assert_run(Outcome(told, b"", 0), *words, given=QUERIED)
-        told = b"queried:4:1: all [1] cc\n"
+        told = b"queried:3:1: all:\nqueried:4:1: [1] cc\n"
         self.assert_run(Outcome(told, b"", 0), "recipes", "Makefile", "--target=all", "queried")
 
     def test_a_query_goes_on_where_a_file_is_missing(self):

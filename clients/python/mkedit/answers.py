@@ -6,7 +6,7 @@ ValueError here.
 
 import re
 from base64 import b64decode
-from typing import Any, Dict, List, Optional, Tuple
+from typing import Any, Dict, Iterator, List, Tuple
 
 from .found import Assignment, Condition, Line, RecipeLine, Rule, Step
 
@@ -40,22 +40,24 @@ def number_in(value: Any) -> int:
     return value
 
 
-def line_in(it: Any) -> Line:
-    """A line by its number and its text."""
-    return Line(number_in(it["line"]), text_in(it["text"]))
+def placed(found: List[Members]) -> Iterator[Tuple[Members, Dict[str, Any]]]:
+    """Each object on a line but those on branches, with the fields of `Found`."""
+    # The conditionals round what stands in a branch, by the number of the line that begins it.
+    inside: Dict[int, Tuple[Condition, ...]] = {}
+    for it in found:
+        line, depth = number_in(it["line"]), number_in(it["depth"])
+        outer = inside[number_in(it["branch"])] if "branch" in it else ()
+        if it.get("kind") == "branch":
+            branch, first = Line(line, text_in(it["text"])), number_in(it["first"])
+            inside[line] = (*outer, Condition(branch, branch if first == line else inside[first][-1].first))
+        else:
+            yield it, {"file": text_in(it["file"]), "line": line, "depth": depth, "conditions": outer}
 
 
-def place_in(it: Members) -> Dict[str, Any]:
-    """The fields of `Found`."""
-    conditions = tuple(Condition(line_in(each["branch"]), line_in(each["first"])) for each in it["conditions"])
-    line, depth = number_in(it["line"]), number_in(it["depth"])
-    return {"file": text_in(it["file"]), "line": line, "depth": depth, "conditions": conditions}
-
-
-def assignment(it: Members) -> Assignment:
+def assignment(it: Members, place: Dict[str, Any]) -> Assignment:
     """An object of `vars`."""
     return Assignment(
-        **place_in(it),
+        **place,
         modifiers=texts_in(it["modifiers"]),
         name=text_in(it["name"]),
         operator=text_in(it["operator"]),
@@ -65,10 +67,10 @@ def assignment(it: Members) -> Assignment:
     )
 
 
-def rule(it: Members) -> Rule:
+def rule(it: Members, place: Dict[str, Any]) -> Rule:
     """An object of `rules`."""
     return Rule(
-        **place_in(it),
+        **place,
         targets=texts_in(it["targets"]),
         separator=text_in(it["separator"]),
         prerequisites=texts_in(it["prerequisites"]),
@@ -76,12 +78,6 @@ def rule(it: Members) -> Rule:
         pattern=text_in(it["pattern"]) if "pattern" in it else None,
         inline_recipe=text_in(it["inline_recipe"]) if "inline_recipe" in it else None,
     )
-
-
-def recipe_line(it: Members) -> RecipeLine:
-    """An object of `recipes`."""
-    targets, number, text = texts_in(it["targets"]), number_in(it["number"]), text_in(it["text"])
-    return RecipeLine(**place_in(it), targets=targets, number=number, text=text)
 
 
 def step(it: Members) -> Step:
@@ -111,17 +107,25 @@ def text(found: List[Members]) -> str:
 
 def assignments(found: List[Members]) -> List[Assignment]:
     """The answer to `vars`."""
-    return [assignment(it) for it in found]
+    return [assignment(*it) for it in placed(found)]
 
 
 def rules(found: List[Members]) -> List[Rule]:
     """The answer to `rules`."""
-    return [rule(it) for it in found]
+    return [rule(*it) for it in placed(found)]
 
 
 def recipe_lines(found: List[Members]) -> List[RecipeLine]:
-    """The answer to `recipes`."""
-    return [recipe_line(it) for it in found]
+    """The answer to `recipes`, in which an object on a rule stands before those on its recipe lines."""
+    targets: Dict[int, Tuple[str, ...]] = {}
+    lines = []
+    for it, place in placed(found):
+        if "rule" in it:
+            of_rule, number = targets[number_in(it["rule"])], number_in(it["number"])
+            lines.append(RecipeLine(**place, targets=of_rule, number=number, text=text_in(it["text"])))
+        else:
+            targets[place["line"]] = texts_in(it["targets"])
+    return lines
 
 
 def steps(found: List[Members]) -> List[Step]:
@@ -139,9 +143,10 @@ def unread_lines(it: Members) -> List[str]:
 
 def check_text(found: List[Members]) -> str:
     """What `mkedit check` prints without JSON."""
-    return "".join(line for it in found for line in unread_lines(it))
+    return "".join(line for it in found if it["kind"] != "branch" for line in unread_lines(it))
 
 
 def caveats_text(found: List[Members]) -> str:
     """What `mkedit caveats` prints without JSON."""
-    return "".join(f"{number_in(it['line'])}: {text_in(it['sentence'])}\n" for it in found)
+    told = (it for it in found if it["kind"] != "branch")
+    return "".join(f"{number_in(it['line'])}: {text_in(it['sentence'])}\n" for it in told)

@@ -41,9 +41,11 @@ BAD_REPLIES = (
 )
 BAD_OBJECTS = (
     ("vars", "{}"),
-    ("vars", '{"file":"a","line":"1","depth":0,"conditions":[],"modifiers":[],"name":"X","operator":"=","value":""}'),
-    ("rules", '{"file":"a","line":1,"depth":0,"conditions":[],"targets":"a","separator":":"}'),
-    ("recipes", '{"file":"a","line":1,"depth":0,"conditions":[1],"targets":["a"],"number":1,"text":""}'),
+    ("vars", '{"file":"a","line":"1","depth":0,"modifiers":[],"name":"X","operator":"=","value":""}'),
+    ("rules", '{"file":"a","line":1,"depth":0,"targets":"a","separator":":"}'),
+    ("vars", '{"file":"a","line":2,"depth":1,"branch":1,"modifiers":[],"name":"X","operator":"=","value":""}'),
+    ("rules", '{"file":"a","line":2,"depth":0,"kind":"branch","first":1,"text":"else"}'),
+    ("recipes", '{"file":"a","line":2,"depth":0,"rule":1,"number":1,"text":""}'),
     ("history", '{"text":"again set CC clang"}'),
     ("check", '{"kind":"end"}'),
     ("undo", '{"text":"a"}'),

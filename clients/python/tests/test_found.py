@@ -62,6 +62,13 @@ class Found(ClientCase):
         makefile.recipe_set("all", makefile.recipes()[0].number, "ls")
         self.assertEqual(makefile.recipes()[0].text, "ls")
 
+    def test_conditions_inside_each_other(self):
+        makefile, _ = self.told("ifdef A\nifdef B\nelse\nX = 1\nendif\nt:\n\tx\nelse\n\ty\nendif\n")
+        in_a, in_else = Condition(A, A), Condition(Line(8, "else"), A)
+        [assignment] = makefile.vars()
+        self.assertEqual(assignment.conditions, (in_a, Condition(Line(3, "else"), Line(2, "ifdef B"))))
+        self.assertEqual([(it.line, it.conditions) for it in makefile.recipes()], [(7, (in_a,)), (9, (in_else,))])
+
     def test_objects_are_values(self):
         makefile, _ = self.told()
         for told in (makefile.vars(), makefile.rules(), makefile.recipes(), makefile.history()):

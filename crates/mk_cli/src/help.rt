@@ -86,17 +86,18 @@ and the status is 0.
 ";
 
 const RECIPES: &str = "\
-A line for each recipe line below a rule: the number of its line, how many conditionals are open there,
-the targets of the rule, the number of the recipe line in the rule, which `recipe-set`, `recipe-del` and
-`recipe-insert` take, and the command with its folds joined. The command behind a `;` in the line of a
-rule has no such number, and is not listed.
+A line for each rule that has recipe lines, with the number of its line, how many conditionals are open
+there, and its targets. Below it a line for each recipe line: the same two numbers, the number of the
+recipe line in the rule, which `recipe-set`, `recipe-del` and `recipe-insert` take, and the command with
+its folds joined. The command behind a `;` in the line of a rule has no such number, and is not listed.
 
 Example: with `all: main.o ; ld main.o`, two recipe lines `strip all` and `ls -l` below it in a Makefile,
     mkedit recipes Makefile
 prints
-    2:0: all [1] strip all
-    3:0: all [2] ls -l
-With `--target all` it prints no recipe lines of rules that are not for `all`.
+    1:0: all:
+    2:0: [1] strip all
+    3:0: [2] ls -l
+With `--target all` it prints nothing of rules that are not for `all`.
 ";
 
 const CHECK: &str = "\

@@ -33,7 +33,7 @@ pub use explanations::explanation;
 pub use progress::Progress;
 pub use reading::read_request;
 pub use request::{
-    Backup, Color, EditWords, Form, GetWords, Input, MAX_DEPTH, Output, Query, QueryWords, Request,
+    Backup, Color, EditWords, Form, Input, MAX_DEPTH, Output, Query, QueryWords, Question, Request,
     Script, SessionWords,
 };
 pub use utf8::{bad_files, is_utf8, words};

@@ -6,7 +6,7 @@ use crate::arguments::{
 };
 use crate::commands::program_for;
 use crate::request::{
-    Backup, Color, EditWords, Form, GetWords, Input, Output, Query, QueryWords, Request, Script,
+    Backup, Color, EditWords, Form, Input, Output, Query, QueryWords, Question, Request, Script,
     SessionWords,
 };
 use clap::ArgMatches;
@@ -191,30 +191,38 @@ fn edit_words<'a>(alloc: Global, matches: &ArgMatches<'a>) -> Result<EditWords<'
     })
 }
 
+// The word of an option or an argument, as bytes.
+fn bytes_of<'a>(matches: &ArgMatches<'a>, id: &str) -> Option<&'a [u8]> {
+    matches.get_str(id).map(|word| word.as_bytes())
+}
+
+// A question to the makefiles of a command.
+fn asked<'a, R: Drop>(
+    alloc: Global,
+    question: Question<'a>,
+    matches: &ArgMatches<'a>,
+) -> Result<Request<'a, R>, Fault> {
+    Ok(Request::Query(QueryWords {
+        question,
+        notes: matches.get_flag(NOTES.id),
+        files: makefiles(alloc, None, matches)?,
+    }))
+}
+
 // What the words of a query ask for.
 fn query<'a, R: Drop>(
     alloc: Global,
     query: Query<'a>,
     matches: &ArgMatches<'a>,
 ) -> Result<Request<'a, R>, Fault> {
-    Ok(Request::Query(QueryWords {
-        query,
-        form: form_of(matches),
-        notes: matches.get_flag(NOTES.id),
-        files: makefiles(alloc, None, matches)?,
-    }))
+    asked(alloc, Question::List(query, form_of(matches)), matches)
 }
 
 // What the words of `get` ask for.
-fn get_words<'a>(alloc: Global, matches: &ArgMatches<'a>) -> Result<GetWords<'a>, Fault> {
-    Ok(GetWords {
-        nth: nth_of(matches)?,
-        name: matches
-            .get_str(VARIABLE.id)
-            .ok_or(Fault::Missing("a NAME is required"))?,
-        notes: matches.get_flag(NOTES.id),
-        files: makefiles(alloc, None, matches)?,
-    })
+fn value<'a, R: Drop>(alloc: Global, matches: &ArgMatches<'a>) -> Result<Request<'a, R>, Fault> {
+    let nth = nth_of(matches)?;
+    let name = bytes_of(matches, VARIABLE.id).ok_or(Fault::Missing("a NAME is required"))?;
+    asked(alloc, Question::Value(nth, name), matches)
 }
 
 // What the words of `session` ask for.
@@ -244,12 +252,12 @@ where
 {
     match matches.subcommand() {
         Some(("edit", words)) => Ok(Request::Edit(edit_words(alloc, words)?)),
-        Some(("vars", words)) => query(alloc, Query::Vars(words.get_str(NAME.id)), words),
-        Some(("rules", words)) => query(alloc, Query::Rules(words.get_str(TARGET.id)), words),
-        Some(("recipes", words)) => query(alloc, Query::Recipes(words.get_str(TARGET.id)), words),
+        Some(("vars", words)) => query(alloc, Query::Vars(bytes_of(words, NAME.id)), words),
+        Some(("rules", words)) => query(alloc, Query::Rules(bytes_of(words, TARGET.id)), words),
+        Some(("recipes", words)) => query(alloc, Query::Recipes(bytes_of(words, TARGET.id)), words),
         Some(("check", words)) => query(alloc, Query::Check, words),
         Some(("caveats", words)) => query(alloc, Query::Caveats, words),
-        Some(("get", words)) => Ok(Request::Get(get_words(alloc, words)?)),
+        Some(("get", words)) => value(alloc, words),
         Some(("explain", words)) => match words.get_one(REFUSAL.id) {
             Some(refusal) => Ok(Request::Explain(refusal)),
             None => Err(Fault::Invalid(

@@ -3,19 +3,29 @@
 /// The greatest depth that the command line takes: how many edits can be undone.
 pub const MAX_DEPTH: u32 = 10_000;
 
-/// What a makefile is asked for.
+/// What a query lists of a makefile.
 #[derive(Clone, Copy)]
 pub enum Query<'a> {
     /// Its assignments; where there is a name, those of that name alone.
-    Vars(Option<&'a str>),
+    Vars(Option<&'a [u8]>),
     /// Its rules; where there is a target, those for that target alone.
-    Rules(Option<&'a str>),
+    Rules(Option<&'a [u8]>),
     /// The recipe lines of its rules; where there is a target, of those for that target alone.
-    Recipes(Option<&'a str>),
+    Recipes(Option<&'a [u8]>),
     /// The lines that are kept and not read inside.
     Check,
     /// The lines that make may read otherwise.
     Caveats,
+}
+
+/// What a makefile is asked for.
+#[derive(Clone, Copy)]
+pub enum Question<'a> {
+    /// What a query lists, in this form.
+    List(Query<'a>, Form),
+    /// The value of the assignment of this name that `set` takes: that with this number, from 1, or the
+    /// only one.
+    Value(Option<u32>, &'a [u8]),
 }
 
 /// How an answer is written.
@@ -95,26 +105,11 @@ pub struct EditWords<'a> {
     pub files: Vec<Input<'a>>,
 }
 
-/// What the words of a query say.
+/// What the words of a query, or of `mkedit get`, say.
 #[derive(Drop)]
 pub struct QueryWords<'a> {
     /// What is asked.
-    pub query: Query<'a>,
-    /// How the answer is written.
-    pub form: Form,
-    /// Whether a message has notes below it.
-    pub notes: bool,
-    /// The makefiles, one or more.
-    pub files: Vec<Input<'a>>,
-}
-
-/// What the words of `mkedit get` say.
-#[derive(Drop)]
-pub struct GetWords<'a> {
-    /// Which of several assignments is meant, from 1.
-    pub nth: Option<u32>,
-    /// The name of the variable.
-    pub name: &'a str,
+    pub question: Question<'a>,
     /// Whether a message has notes below it.
     pub notes: bool,
     /// The makefiles, one or more.
@@ -144,10 +139,8 @@ pub struct SessionWords<'a> {
 pub enum Request<'a, R> {
     /// A script over makefiles.
     Edit(EditWords<'a>),
-    /// A query of makefiles.
+    /// A question to makefiles.
     Query(QueryWords<'a>),
-    /// The value of a variable in makefiles.
-    Get(GetWords<'a>),
     /// What is said of a refusal.
     Explain(R),
     /// A session over a makefile.

@@ -70,7 +70,6 @@ pub fn bad_files<R>(request: &Request<'_, R>) -> usize {
     match request {
         Request::Edit(words) => bad_in(words.files.as_slice()),
         Request::Query(words) => bad_in(words.files.as_slice()),
-        Request::Get(words) => bad_in(words.files.as_slice()),
         Request::Explain(_) | Request::Session(_) => 0,
     }
 }

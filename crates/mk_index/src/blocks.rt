@@ -1,4 +1,7 @@
 //! The blocks of an index: the lines of a document, cut into stretches.
+//!
+//! An edit looks at each line of a block that mentions its word, and most of these lines are in no
+//! cache. So blocks are small, and a walk over blocks passes those of a group at once.
 ghost use Rattle.std.specs.Prelude.{◌≡◌, ◌<◌, ◌≤◌, ◌+◌, ◌*◌, ◌/◌, false, min, IfOk, IsTrue, length, get_or, set, take};
 ghost use Rattle.mk_lines.specs.Limits.{max_text};
 ghost use Rattle.mk_index.specs.Blocks.{AreFresh, IsGroupOf, blocks_of, lines_in, unlisted, unlisted_blocks};

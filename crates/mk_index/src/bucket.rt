@@ -1,4 +1,7 @@
 //! The hash of a word, and the bucket of a hash.
+//!
+//! The hash is no secret. If somebody writes a makefile whose words share a bucket, its chain is
+//! too long to be walked, and edits walk over the lines, as without an index.
 ghost use Rattle.std.specs.Prelude.{◌≡◌, ◌<◌};
 ghost use Rattle.mk_index.specs.Chains.{bucket_of, hash_of};
 

@@ -1,4 +1,9 @@
 //! The entries of an index, in chains: those of one bucket lead from the last to the first.
+//!
+//! A mention names a block and not a line: a line that is put in or taken out moves no mention,
+//! since the blocks below keep their numbers. It has the hash of its word and not the word, which
+//! would take memory of its own: two words of one hash cost a look at a block. Chains only grow,
+//! since a line that is taken out takes no mention with it.
 ghost use Rattle.std.specs.Prelude.{◌≡◌, ◌<◌, ◌==◌, ◌-◌, if◌then◌else◌, ℕ, [], ◌∷◌, List, length, get_or, slice_get, Some, None, true, false, IsTrue, IfOk, OnOk};
 ghost use Rattle.mk_index.specs.Chains.{AreChainsOf, HaveListed, IsMentioned, Mention};
 ghost use Rattle.mk_index.specs.Indexes.{AreMarked};

@@ -1,14 +1,18 @@
 //! A document with the index of its lines.
-ghost use Rattle.std.specs.Prelude.{◌≡◌};
+//!
+//! A history changes a document together with what is known of it. If it changed the document
+//! alone, an undo would leave the index behind.
+ghost use Rattle.std.specs.Prelude.{◌≡◌, ◌+◌, length};
 ghost use Rattle.mk_tree.specs.Documents.{IsFaithful};
 ghost use Rattle.mk_edit_language.specs.EditViews.{edit_of};
 ghost use Rattle.mk_edit_parts.specs.Windows.{IsKnown};
-ghost use Rattle.mk_patch.specs.Moves.{FitMoves, after_moves};
+ghost use Rattle.mk_patch.specs.Moves.{FitMoves, after_moves, held_by, taken_by};
 ghost use Rattle.mk_index.specs.Effects.{IsKnownFor};
 
 use crate::change::IndexedPatch;
 use crate::effect::{Effect, effect_of};
 use crate::finder::Finder;
+use crate::keys::Expected;
 use mk_edit_language::Edit;
 use mk_edit_parts::window::Known;
 use mk_patch::Patch;
@@ -56,18 +60,10 @@ impl<A: Allocator> IndexedDoc<A> {
 impl<A: Allocator + Copy> IndexedDoc<A> {
     /// Lets the next edit that asks for an index make one, as [`Finder::expect_edits`] does. Walks over
     /// nothing and takes no memory.
-    pub fn expect_edits(&mut self)
+    pub fn expect_edits(&mut self, expected: Expected)
         ensures { self.new ≡ self.old }
     {
-        self.finder.expect_edits();
-    }
-
-    /// Lets the next edit that asks for an index make one that serves renames, as
-    /// [`Finder::expect_renames`] does. Walks over nothing and takes no memory.
-    pub fn expect_renames(&mut self)
-        ensures { self.new ≡ self.old }
-    {
-        self.finder.expect_renames();
+        self.finder.expect_edits(expected);
     }
 
     /// What is known before an edit is planned, as [`Finder::known`] tells it. The index may be made or
@@ -92,6 +88,9 @@ impl<A: Allocator + Copy> IndexedDoc<A> {
         ensures after { self.new ≡ after_moves patch self.old }
         ensures fits_back { FitMoves result self.new }
         ensures leads_back { after_moves result self.new ≡ self.old }
+        ensures held { held_by result ≡ taken_by patch }
+        ensures takes { taken_by result ≡ held_by patch }
+        ensures number { length self.new + taken_by patch ≡ length self.old + held_by patch }
     {
         match (effect_of(&self.doc, &patch), self.finder.end()) {
             (Effect::Same, _) => IndexedPatch {
@@ -118,6 +117,9 @@ impl<A: Allocator + Copy> IndexedDoc<A> {
         ensures after { self.new ≡ after_moves patch self.old }
         ensures fits_back { FitMoves result self.new }
         ensures leads_back { after_moves result self.new ≡ self.old }
+        ensures held { held_by result ≡ taken_by patch }
+        ensures takes { taken_by result ≡ held_by patch }
+        ensures number { length self.new + taken_by patch ≡ length self.old + held_by patch }
     {
         self.finder.follow(&patch);
         IndexedPatch {

@@ -1,4 +1,10 @@
 //! What is known of a document that is edited, so that an edit's line is found without a walk.
+//!
+//! For one edit alone an index costs more than a walk, and a walk over a short document takes no
+//! longer than the rest of an edit. If a word stands in nearly every block, going through its chain
+//! would take longer than a walk, so the index tells nothing of it. Edits make chains longer, since
+//! a line that is written anew has its keys listed again; an index that has grown that much is made
+//! anew.
 ghost use Rattle.std.specs.Prelude.{◌≡◌, None, Some, List, ℕ, IfSome};
 ghost use Rattle.mk_class.specs.ClassedLines.{classed_lines};
 ghost use Rattle.mk_tree.specs.Documents.{IsFaithful};
@@ -14,7 +20,7 @@ ghost use Rattle.mk_patch.specs.Moves.{FitMoves, after_moves};
 ghost use Rattle.mk_index.specs.Effects.{IsBehind, IsKnownFor};
 
 use crate::index::Index;
-use crate::keys::Scope;
+use crate::keys::{Expected, Scope};
 use mk_edit_language::Edit;
 use mk_edit_parts::address::{Address, address_of};
 use mk_edit_parts::seek::{Found, Sought, seek};
@@ -99,29 +105,16 @@ impl<A: Allocator + Copy> Finder<A> {
     }
 
     /// Lets the next edit that asks for an index make one, since more edits are to come: an edit with an
-    /// address, a rename, or a change of all values of a name. The index lists the names and the targets
-    /// by which edits with an address find their line; one that does not is dropped. This call walks over
-    /// nothing and takes no memory.
-    pub fn expect_edits(&mut self)
+    /// address, a rename, or a change of all values of a name. The index lists what the expected edits ask
+    /// for: renames targets and prerequisites, others names and targets. One that does not is dropped. This
+    /// call walks over nothing and takes no memory.
+    pub fn expect_edits(&mut self, expected: Expected)
         ensures end { self.new.end ≡ self.old.end }
         ensures right { (lines : List LocatedLine) → IsKnownFor lines self.old
             → IsKnownFor lines self.new }
     {
         self.is_due = true;
-        self.widen(Scope::of_addresses());
-    }
-
-    /// Lets the next edit that asks for an index make one, as [`Finder::expect_edits`] does, since renames
-    /// are to come. The index lists targets and prerequisites, which renames ask for; one that does not is
-    /// dropped. It lists no names, unless an edit has asked for them, or edits besides renames are expected.
-    /// This call walks over nothing and takes no memory.
-    pub fn expect_renames(&mut self)
-        ensures end { self.new.end ≡ self.old.end }
-        ensures right { (lines : List LocatedLine) → IsKnownFor lines self.old
-            → IsKnownFor lines self.new }
-    {
-        self.is_due = true;
-        self.widen(Scope::of_renames());
+        self.widen(Scope::of(expected));
     }
 
     // Has the next index list the words by which edits with an address find their line, unless those of
@@ -132,7 +125,10 @@ impl<A: Allocator + Copy> Finder<A> {
             → IsKnownFor lines self.new }
     {
         if !self.scope.lists(address) {
-            self.widen(Scope::of_addresses());
+            self.widen(Scope::of(Expected {
+                renames: false,
+                others: true,
+            }));
         }
     }
 
@@ -144,7 +140,10 @@ impl<A: Allocator + Copy> Finder<A> {
             → IsKnownFor lines self.new }
     {
         if !self.scope.lists_renames() {
-            self.widen(Scope::of_renames().with(Scope::of_addresses()));
+            self.widen(Scope::of(Expected {
+                renames: true,
+                others: true,
+            }));
         }
     }
 

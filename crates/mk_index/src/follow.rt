@@ -1,4 +1,8 @@
 //! How the blocks of an index follow the steps of a patch.
+//!
+//! An undo may not fail, and passes through documents of which it is not known whether they are
+//! faithful. So to follow a patch takes no memory and asks nothing of the document: a step changes
+//! the count of one block and makes it stale.
 ghost use Rattle.std.specs.Prelude.{◌≡◌, ◌≤◌, ◌+◌, ◌++◌, ℕ, List, Option, IsTrue, IfSome, length, take, drop};
 ghost use Rattle.mk_class.specs.Contexts as contexts;
 ghost use Rattle.mk_tree.specs.LocatedLines.{LocatedLine};

@@ -1,4 +1,8 @@
 //! An index of a document: in which block of its lines each word stands.
+//!
+//! Keys are listed when something is asked, so a block that ten edits have changed is read once,
+//! and what takes memory stands in one place, before an edit is planned. Contexts are mended only
+//! as far as they differ: most lines leave the context below them as it was.
 ghost use Rattle.std.specs.Prelude.{◌≡◌, [], ◌∷◌, ◌≤◌, ◌+◌, ◌-◌, ◌*◌, ◌/◌, ℕ, List, Option, Some, Bool, false, IsTrue, OnOk, IfOk, IfSome, length, take, drop};
 ghost use Rattle.mk_lines.specs.Limits.{max_text};
 ghost use Rattle.mk_class.specs.Contexts as contexts;

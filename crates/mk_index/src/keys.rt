@@ -1,4 +1,10 @@
 //! The keys of a line, listed with its block.
+//!
+//! A line that sets the recipe prefix in a way that is not read has the empty word as a key, since
+//! it is a cause of refusal of every edit. An index lists the words that edits ask for: without
+//! prerequisites, which only a rename asks for, it is made in half of the time. Where a line goes
+//! in for another, words are compared place by place: to look each new word up among the old ones
+//! would take square time.
 ghost use Rattle.std.specs.Prelude.{◌≡◌, List, map, true, IsTrue, IfOk, OnOk};
 ghost use Rattle.mk_lines.specs.Words.{words_in};
 ghost use Rattle.mk_tree.specs.LocatedLines.{text_of_line};
@@ -34,6 +40,15 @@ pub struct Scope {
     pub prerequisites: bool,
 }
 
+/// Which edits are expected.
+#[derive(Clone, Copy)]
+pub struct Expected {
+    /// Renames.
+    pub renames: bool,
+    /// Edits besides renames.
+    pub others: bool,
+}
+
 impl Scope {
     /// No words.
     pub(crate) fn none() -> Scope {
@@ -44,21 +59,13 @@ impl Scope {
         }
     }
 
-    /// The words that edits with an address ask for.
-    pub(crate) fn of_addresses() -> Scope {
+    /// The words that some edits ask for: renames for targets and prerequisites, others for names and
+    /// targets.
+    pub(crate) fn of(edits: Expected) -> Scope {
         Scope {
-            names: true,
-            targets: true,
-            prerequisites: false,
-        }
-    }
-
-    /// The words that renames ask for.
-    pub(crate) fn of_renames() -> Scope {
-        Scope {
-            names: false,
-            targets: true,
-            prerequisites: true,
+            names: edits.others,
+            targets: edits.renames || edits.others,
+            prerequisites: edits.renames,
         }
     }
 

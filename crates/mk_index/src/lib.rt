@@ -11,6 +11,11 @@
 //! - [`finder`]: what is known of a document that is edited.
 //! - [`document`]: a document with what is known of it.
 //! - [`change`]: a patch as a change of such a document.
+//!
+//! An index says where not to look. The walk over its windows is the walk over all lines, by the
+//! same code and the same proof, so an edit is planned alike whoever has found its line. All that
+//! is proved of an index is that no line outside of the windows concerns the edit: a mention need
+//! not be true, and a wrong one costs a look at a block.
 #![tactic(auto)]
 
 pub mod blocks;
@@ -29,4 +34,4 @@ pub use change::IndexedPatch;
 pub use document::IndexedDoc;
 pub use finder::Finder;
 pub use index::Index;
-pub use keys::Scope;
+pub use keys::{Expected, Scope};

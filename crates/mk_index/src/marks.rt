@@ -1,4 +1,7 @@
 //! Which blocks of an index are marked.
+//!
+//! Marks are kept from edit to edit, and only groups that have one are wiped: to make new marks for
+//! each edit would cost as much as to use them.
 ghost use Rattle.std.specs.Prelude.{◌≡◌, ◌<◌, ◌≤◌, ◌+◌, ◌*◌, ◌/◌, ℕ, true, false, IfOk, MatchOption, length, get_or, replicate};
 ghost use Rattle.mk_index.specs.Blocks.{IsNextMarked, NoneMarked};
 

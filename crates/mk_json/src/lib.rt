@@ -2,26 +2,33 @@
 //!
 //! - [`vars`]: an object on each assignment, of one name if one is asked for.
 //! - [`rules`]: an object on the line of each rule, for one target if one is asked for.
-//! - [`recipes`]: an object on each recipe line of each rule, for one target if one is asked for.
+//! - [`recipes`]: an object on each rule that has recipe lines, and on each of these, for one target if one is
+//!   asked for.
 //! - [`check`]: an object on each line that is not read inside, and on what is open at the end.
 //! - [`caveats`]: an object on each line that make may read otherwise, as far as the lines show it.
 //! - [`push_text_line`]: an object on a line of any text.
 //!
 //! Each line of text is an object (JSON Lines). It says in which file and where the line of the
-//! makefile stands, in which branches of which conditionals, and what its parts are. Objects and
-//! their members are this project's profile; JSON is that of RFC 8259, written by the library
-//! `json`.
+//! makefile stands, in which branch of a conditional, and what its parts are. A branch and the rule of recipe
+//! lines are told once, above, and named by their lines; so text, time and memory are linear in the size of
+//! the makefile. Objects and their members are this project's profile; JSON is that of RFC 8259,
+//! written by the library `json`.
 //!
 //! The modules, lowest first:
 //!
-//! - `conditional`: the conditionals that are open at a line.
+//! - `branch`: the branches of conditionals in which lines stand.
 //! - `object`: an object, member by member.
-//! - `line_objects`: the objects on lines of a makefile.
+//! - `line_objects`: the objects on lines of a makefile, and on branches.
 //! - `query`: the queries.
 //! - `text_line`: the object on a line of any text.
+//!
+//! No definition says what an object on a line of a makefile is: its members are names of this
+//! project and parts that `mk_tree` and `mk_listing` state, so a definition would be this code once
+//! more. Python makes the same objects by a reading of its own, and `tests/program` compares the
+//! bytes. All objects are in memory before one is written, so the only fault is want of memory.
 #![tactic(auto)]
 
-mod conditional;
+mod branch;
 mod line_objects;
 mod object;
 mod query;

@@ -1,11 +1,14 @@
 //! An object of JSON, member by member.
+//!
+//! What a line does not have, its object does not have: `select(.targets)` of `jq` takes an empty
+//! list for true. JSON has no strings of bytes. So a text that is not UTF-8 is written in base64:
+//! with replacement characters two texts would look the same.
 ghost use Rattle.std.specs.Prelude.{◌≡◌, [], ◌∷◌, ◌++◌, IfOk, OnOk, codes, true};
 ghost use Rattle.json.specs.Lex.{tokens};
 ghost use Rattle.json.specs.Print.{print};
 ghost use Rattle.json.specs.Token.{begin_object, end_object, boolean, key};
 ghost use Rattle.mk_json.specs.TextLines.{base64_tokens, text_tokens};
 
-use crate::conditional::{ConditionalLine, OpenConditional};
 use base64::engine::general_purpose::STANDARD;
 use json::Writer;
 use mk_tree::WordTexts;
@@ -110,31 +113,5 @@ impl<A: Allocator + Copy> Object<A> {
     {
         self.writer.key(name)?;
         self.writer.boolean(true)
-    }
-
-    // Puts a member that is a line: an object with its number and its text.
-    fn line(&mut self, name: &str, line: ConditionalLine<'_>) -> Result<(), AllocError> {
-        self.writer.key(name)?;
-        self.writer.begin_object()?;
-        self.number("line", line.number)?;
-        self.text("text", line.text)?;
-        self.writer.end_object()
-    }
-
-    /// Puts a member that is an array of conditionals, each with the first line of its branch and its own.
-    pub(crate) fn conditionals(
-        &mut self,
-        name: &str,
-        conditionals: &[OpenConditional<'_>],
-    ) -> Result<(), AllocError> {
-        self.writer.key(name)?;
-        self.writer.begin_array()?;
-        for conditional in conditionals {
-            self.writer.begin_object()?;
-            self.line("branch", conditional.branch)?;
-            self.line("first", conditional.first)?;
-            self.writer.end_object()?;
-        }
-        self.writer.end_array()
     }
 }

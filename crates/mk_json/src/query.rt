@@ -1,11 +1,18 @@
 //! The queries: what a makefile has, a line of JSON for each thing. In them folds are spaces and
 //! comments are left out, and a text that is not UTF-8 stands as an object that has it in base64.
+//!
+//! A line in a conditional names the branch in which it stands, which has an object above:
+//!
+//! ```text
+//! {"file":"config.mk","line":3,"depth":0,"kind":"branch","first":1,"text":"else"}
+//! {"file":"config.mk","line":4,"depth":1,"branch":3,"kind":"opaque"}
+//! ```
 ghost use Rattle.mk_tree.specs.Documents.{IsFaithful};
 
 use crate::line_objects::LineObjects;
 use crate::object::Object;
 use mk_class::{Class, Separator};
-use mk_listing::{Rules, numbered};
+use mk_listing::{RuleLine, Rules, numbered};
 use mk_queries::{Caveat, line_caveats};
 use mk_tree::{AssignmentRef, Doc, WordTexts};
 use std::alloc::{AllocError, Allocator};
@@ -16,7 +23,7 @@ use std::alloc::{AllocError, Allocator};
 /// The file is named as the caller names it:
 ///
 /// ```text
-/// {"file":"config.mk","line":5,"depth":0,"conditions":[],"modifiers":["export"],"name":"CC","operator":"?=","value":"gcc"}
+/// {"file":"config.mk","line":5,"depth":0,"modifiers":["export"],"name":"CC","operator":"?=","value":"gcc"}
 /// ```
 ///
 /// An assignment for targets has the members `targets` and `separator` before these parts.
@@ -40,7 +47,7 @@ pub fn vars<A: Allocator, B: Allocator + Copy>(
         };
         let is_asked = |it: &AssignmentRef<'_>| name.is_none_or(|name| it.name() == name);
         if let Some(assignment) = assignment.filter(is_asked) {
-            let mut object = objects.begin(alloc, text, position)?;
+            let mut object = objects.begin(text, position)?;
             if let Some(it) = &for_targets {
                 put_targets(&mut object, it.targets(), it.separator())?;
             }
@@ -68,7 +75,7 @@ fn put_targets<B: Allocator + Copy>(
 /// is asked for. A rule is one whose line is read inside ([`Class::Header`]):
 ///
 /// ```text
-/// {"file":"Makefile","line":1,"depth":0,"conditions":[],"targets":["a.o"],"separator":":","pattern":"%.o","prerequisites":["%.c"],"order_only":["out"]}
+/// {"file":"Makefile","line":1,"depth":0,"targets":["a.o"],"separator":":","pattern":"%.o","prerequisites":["%.c"],"order_only":["out"]}
 /// ```
 ///
 /// The member `pattern` is that of a static pattern rule alone, and `inline_recipe` that of a rule with
@@ -86,20 +93,29 @@ pub fn rules<'a, A: Allocator, B: Allocator + Copy>(
     let mut text = Vec::new(alloc);
     let mut objects = LineObjects::new(&alloc, file, doc);
     for line in wanted_rules(doc, target) {
-        let rule = &line.rule;
-        let mut object = objects.begin(alloc, text, line.position)?;
-        put_targets(&mut object, rule.targets(), rule.separator())?;
-        if let Some(pattern) = rule.pattern() {
-            object.text("pattern", pattern)?;
-        }
-        object.texts("prerequisites", rule.prereqs())?;
-        object.texts("order_only", rule.order_only())?;
-        if let Some(recipe) = rule.inline_recipe() {
-            object.text("inline_recipe", recipe)?;
-        }
-        text = object.end()?;
+        text = put_rule(&mut objects, text, &line)?;
     }
     Ok(text)
+}
+
+// Puts the object on the line of a rule behind a text.
+fn put_rule<A: Allocator, B: Allocator + Copy>(
+    objects: &mut LineObjects<'_, A, B>,
+    text: Vec<u8, B>,
+    line: &RuleLine<'_, A>,
+) -> Result<Vec<u8, B>, AllocError> {
+    let rule = &line.rule;
+    let mut object = objects.begin(text, line.position)?;
+    put_targets(&mut object, rule.targets(), rule.separator())?;
+    if let Some(pattern) = rule.pattern() {
+        object.text("pattern", pattern)?;
+    }
+    object.texts("prerequisites", rule.prereqs())?;
+    object.texts("order_only", rule.order_only())?;
+    if let Some(recipe) = rule.inline_recipe() {
+        object.text("inline_recipe", recipe)?;
+    }
+    object.end()
 }
 
 // The rules of a document, for one target if one is asked for.
@@ -111,12 +127,14 @@ fn wanted_rules<'a, A: Allocator>(doc: &'a Doc<A>, target: Option<&'a [u8]>) -> 
 }
 
 /// A line of JSON on each recipe line of each rule of a makefile in order; of the rules for one target,
-/// if one is asked for.
+/// if one is asked for. Before those of a rule stands the line of [`rules`] on it, whose number they have as
+/// `rule`.
 ///
 /// Its number among the recipe lines of its rule is the one that edits of recipe lines take:
 ///
 /// ```text
-/// {"file":"Makefile","line":2,"depth":0,"conditions":[],"targets":["all"],"number":1,"text":"@echo done"}
+/// {"file":"Makefile","line":1,"depth":0,"targets":["all"],"separator":":","prerequisites":[],"order_only":[]}
+/// {"file":"Makefile","line":2,"depth":0,"rule":1,"number":1,"text":"@echo done"}
 /// ```
 ///
 /// A recipe after a `;` is none of them: the object on its rule has it.
@@ -134,8 +152,11 @@ pub fn recipes<'a, A: Allocator, B: Allocator + Copy>(
     let mut objects = LineObjects::new(&alloc, file, doc);
     for rule in wanted_rules(doc, target) {
         for line in rule.recipe_lines() {
-            let mut object = objects.begin(alloc, text, line.position)?;
-            object.texts("targets", rule.rule.targets())?;
+            if line.number == 1 {
+                text = put_rule(&mut objects, text, &rule)?;
+            }
+            let mut object = objects.begin(text, line.position)?;
+            object.number("rule", rule.position.number)?;
             object.number("number", line.number as usize)?;
             object.text("text", line.text)?;
             text = object.end()?;
@@ -150,7 +171,7 @@ pub fn recipes<'a, A: Allocator, B: Allocator + Copy>(
 /// Such a line is *rough* if it is the line of a rule, and *opaque* otherwise:
 ///
 /// ```text
-/// {"file":"config.mk","line":3,"depth":0,"conditions":[],"kind":"opaque"}
+/// {"file":"config.mk","line":3,"depth":0,"kind":"opaque"}
 /// {"file":"config.mk","kind":"end","conditionals":2,"defines":0}
 /// ```
 ///
@@ -174,7 +195,7 @@ pub fn check<A: Allocator, B: Allocator + Copy>(
             Class::Opaque => "opaque",
             _ => continue,
         };
-        let mut object = objects.begin(alloc, text, position)?;
+        let mut object = objects.begin(text, position)?;
         object.string("kind", kind)?;
         text = object.end()?;
     }
@@ -196,7 +217,7 @@ pub fn check<A: Allocator, B: Allocator + Copy>(
 /// The member `kind` has a word for each sentence:
 ///
 /// ```text
-/// {"file":"Makefile","line":5,"depth":0,"conditions":[],"kind":"after_conditional","sentence":"make may take this for a recipe line: it may skip the conditional above"}
+/// {"file":"Makefile","line":5,"depth":0,"kind":"after_conditional","sentence":"make may take this for a recipe line: it may skip the conditional above"}
 /// ```
 ///
 /// It asks for a faithful document.
@@ -215,7 +236,7 @@ pub fn caveats<A: Allocator, B: Allocator + Copy>(
     let mut objects = LineObjects::new(&alloc, file, doc);
     for ((position, _), caveat) in numbered(doc).zip(line_caveats(doc)) {
         if let Some(caveat) = caveat {
-            let mut object = objects.begin(alloc, text, position)?;
+            let mut object = objects.begin(text, position)?;
             object.string("kind", kind_of(caveat))?;
             object.string("sentence", caveat.sentence())?;
             text = object.end()?;

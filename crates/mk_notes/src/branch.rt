@@ -19,6 +19,9 @@ impl BranchStart {
     /// conditional. It takes time linear in the number of lines above.
     pub(crate) fn of<A: Allocator>(doc: &Doc<A>, at: Position) -> Option<BranchStart> {
         let depth = usize::from(at.conditionals);
+        if depth == 0 {
+            return None;
+        }
         let mut start = None;
         for (position, line) in numbered(doc).take(at.index) {
             let open = usize::from(position.conditionals);

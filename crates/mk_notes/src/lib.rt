@@ -1,8 +1,7 @@
 //! Hints on the edits of a run, as texts: the lines of the makefile that are the cause of a refusal, why an
 //! edit that was made may do nothing in make, and what is wrong with a line of the script.
 //!
-//! - [`refusal_notes`]: the notes on a refusal.
-//! - [`edit_notes`]: the notes on an edit that was made.
+//! - [`RunNotes`]: the notes on the edits of a run, those that were refused and those that were made.
 //! - [`script_mistake`], [`push_mistake`]: the note on a line of a script that is no command.
 //!
 //! A note is a line of text: the name of a file, mostly the number of a line in it, and what is said of
@@ -14,9 +13,13 @@
 //! - `line`: what notes ask of one line.
 //! - `text`: the text of the notes.
 //! - `address`: the lines that an edit means.
+//! - `tally`: which words of a makefile may stand in several lines.
+//! - `run_notes`: the notes on the edits of a run, and how far they may walk.
 //! - `refused`: the notes on a refusal.
 //! - `made`: the notes on an edit that was made.
 //! - `mistakes`: the notes on mistakes in a script.
+//!
+//! Notes are hints to a reader: a definition of their text would be this code once more.
 #![tactic(auto)]
 
 mod address;
@@ -25,9 +28,10 @@ mod line;
 mod made;
 mod mistakes;
 mod refused;
+mod run_notes;
+mod tally;
 mod text;
 
-pub use made::edit_notes;
 pub use mistakes::{COMMAND_LINES, ScriptMistake, push_mistake, script_mistake};
-pub use refused::refusal_notes;
+pub use run_notes::RunNotes;
 pub use text::Names;

@@ -1,9 +1,16 @@
 //! The notes on an edit that was made and may do nothing in make.
+//!
+//! These notes are found in the document as the edit left it: that is the one that an observer
+//! gets. A line below with `+=` or `?=` has no note, since make takes its effect together with the
+//! value above or not at all. Lines in another branch have a note of their own, since make never
+//! reads them together with the line of the edit.
 
 use crate::address::line_of;
 use crate::branch::OtherBranches;
 use crate::line::{gives, gives_anew};
-use crate::text::{Names, Notes};
+use crate::run_notes::{RunNotes, Walks};
+use crate::tally::Tally;
+use crate::text::Notes;
 use mk_class::{Flavor, Separator};
 use mk_edit_language::{Edit, Place};
 use mk_edit_parts::address::address_of;
@@ -14,67 +21,105 @@ use std::alloc::{AllocError, Allocator};
 /// How many targets of a new rule are looked at.
 const MOST_TARGETS: usize = 10;
 
-/// The notes on an edit that was made, as a text: why it may do nothing in make. Each line begins with
-/// the name of a file, mostly the number of a line in it, and `note`. The document is the makefile as the
-/// edit left it; the numbers of lines are its own.
-///
-/// | Edit | Notes |
-/// |---|---|
-/// | `SetValue`, `AppendValue`, `AddWord`, `RemoveWord` | where the operator is `?=`: that make takes the value only where the variable has none, and the line |
-/// | the same, and `AddAssign` | where the variable is assigned again below, and not in another branch of the same conditional: that it is, and the lines that assign it |
-/// | the same | where it is assigned in another branch of the same conditional: that it is, and the lines that assign it |
-/// | `AddRule` | for each of its first ten targets that has a recipe in another rule: that it has, and the lines of these rules |
-/// | `AddRecipe`, `SetRecipe`, `InsertRecipe`, `SetRecipeByText` | the same for the target by which the rule is called |
-///
-/// There are no notes on any other edit. A rule with `::` is none of those that are told of, and a target
-/// with `%` has no notes. A line assigns the variable again if it is a define of its name,
-/// or an assignment with an operator besides `?=` and `+=`. Of many lines the first ten are told of, each
-/// by at most 100 bytes of its text.
-///
-/// # Errors
-///
-/// [`AllocError`] if a growth was refused.
-pub fn edit_notes<A: Allocator, B: Allocator, C: Allocator>(
-    alloc: C,
-    names: Names<'_>,
-    line: u64,
-    doc: &Doc<A>,
-    edit: &Edit<B>,
-) -> Result<Vec<u8, C>, AllocError> {
-    let mut notes = Notes::new(alloc, names, line, doc);
-    match edit {
-        Edit::SetValue { name, .. }
-        | Edit::AppendValue { name, .. }
-        | Edit::AddWord { name, .. }
-        | Edit::RemoveWord { name, .. } => {
-            if let Some(at) = address_of(edit).and_then(|address| line_of(doc, address)) {
-                notes.default_value(name, at)?;
-                notes.assigned(name, at, at.index)?;
-            }
-        }
-        Edit::AddAssign { name, place, .. } => {
-            if let Some(at) = address_of(edit).and_then(|address| line_of(doc, address)) {
-                let is_below = matches!(place, Place::AfterVar { .. });
-                notes.assigned(name, at, at.index.saturating_add(usize::from(is_below)))?;
-            }
-        }
-        Edit::AddRule { targets, .. } => {
-            for target in WordTexts::new(targets).take(MOST_TARGETS) {
-                notes.other_rules(0, target)?;
-            }
-        }
-        Edit::AddRecipe { nth, target, .. }
-        | Edit::SetRecipe { nth, target, .. }
-        | Edit::InsertRecipe { nth, target, .. }
-        | Edit::SetRecipeByText { nth, target, .. } => {
-            notes.other_rules(nth.unwrap_or(1), target)?;
-        }
-        _ => {}
+impl<B: Allocator + Copy> RunNotes<'_, B> {
+    /// The notes on an edit that was made, as a text: why it may do nothing in make. Each line begins with
+    /// the name of a file, mostly the number of a line in it, and `note`. The document is the makefile as
+    /// the edit left it; the numbers of lines are its own.
+    ///
+    /// | Edit | Notes |
+    /// |---|---|
+    /// | `SetValue`, `AppendValue`, `AddWord`, `RemoveWord` | where the operator is `?=`: that make takes the value only where the variable has none, and the line |
+    /// | the same, and `AddAssign` | where the variable is assigned again below, and not in another branch of the same conditional: that it is, and the lines that assign it |
+    /// | the same | where it is assigned in another branch of the same conditional: that it is, and the lines that assign it |
+    /// | `AddRule` | for each of its first ten targets that has a recipe in another rule: that it has, and the lines of these rules |
+    /// | `AddRecipe`, `SetRecipe`, `InsertRecipe`, `SetRecipeByText` | the same for the target by which the rule is called |
+    ///
+    /// There are no notes on any other edit. A rule with `::` is none of those that are told of, and a
+    /// target with `%` has no notes. A line assigns the variable again if it is a define of its name, or
+    /// an assignment with an operator besides `?=` and `+=`. Of many lines the first ten are told of, each
+    /// by at most 100 bytes of its text.
+    ///
+    /// # Errors
+    ///
+    /// [`AllocError`] if a growth was refused.
+    pub fn accepted<A: Allocator, C: Allocator>(
+        &mut self,
+        line: u64,
+        doc: &Doc<A>,
+        edit: &Edit<C>,
+    ) -> Result<Vec<u8, B>, AllocError> {
+        let mut notes = Notes::new(self.alloc, self.names, line, doc);
+        let mut tally = match self.tally.take() {
+            Some(tally) => tally,
+            None => Tally::of(self.alloc, doc)?,
+        };
+        tally.follow(edit);
+        let put = notes.made(&tally, &mut self.made, edit);
+        self.tally = Some(tally);
+        put?;
+        Ok(notes.into_text())
     }
-    Ok(notes.into_text())
 }
 
 impl<'a, A: Allocator, B: Allocator> Notes<'a, A, B> {
+    // Puts the notes on an edit that was made.
+    fn made<C: Allocator>(
+        &mut self,
+        tally: &Tally<B>,
+        walks: &mut Walks,
+        edit: &Edit<C>,
+    ) -> Result<(), AllocError> {
+        match edit {
+            Edit::SetValue { name, .. }
+            | Edit::AppendValue { name, .. }
+            | Edit::AddWord { name, .. }
+            | Edit::RemoveWord { name, .. } => {
+                if tally.may_vary(name) && walks.may_walk(self)? {
+                    self.value(edit, name, false)?;
+                }
+            }
+            Edit::AddAssign { name, place, .. } => {
+                if tally.may_vary(name) && walks.may_walk(self)? {
+                    self.value(edit, name, matches!(place, Place::AfterVar { .. }))?;
+                }
+            }
+            Edit::AddRule { targets, .. } => {
+                for target in WordTexts::new(targets).take(MOST_TARGETS) {
+                    if tally.has_rules(target) && walks.may_walk(self)? {
+                        self.other_rules(0, target)?;
+                    }
+                }
+            }
+            Edit::AddRecipe { nth, target, .. }
+            | Edit::SetRecipe { nth, target, .. }
+            | Edit::InsertRecipe { nth, target, .. }
+            | Edit::SetRecipeByText { nth, target, .. } => {
+                if tally.has_rules(target) && walks.may_walk(self)? {
+                    self.other_rules(nth.unwrap_or(1), target)?;
+                }
+            }
+            _ => {}
+        }
+        Ok(())
+    }
+
+    // Puts the notes on an edit that has given a variable a value in the line of its address, or in a new
+    // line at that address, maybe below it.
+    fn value<C: Allocator>(
+        &mut self,
+        edit: &Edit<C>,
+        name: &[u8],
+        is_below: bool,
+    ) -> Result<(), AllocError> {
+        let Some(at) = address_of(edit).and_then(|address| line_of(self.doc, address)) else {
+            return Ok(());
+        };
+        if !matches!(edit, Edit::AddAssign { .. }) {
+            self.default_value(name, at)?;
+        }
+        self.assigned(name, at, at.index.saturating_add(usize::from(is_below)))
+    }
+
     // Puts the note on the changed value of the assignment at a position, if its operator is `?=`.
     fn default_value(&mut self, name: &[u8], at: Position) -> Result<(), AllocError> {
         let assignment = self.doc.get(at.index).and_then(|line| line.assignment());

@@ -1,8 +1,12 @@
 //! The notes on a refusal.
+//!
+//! The numbers of lines are those of the document as it stands when the edit is refused: after
+//! accepted edits no other number would say where the next command looks.
 
 use crate::address::{line_of, meant_by};
 use crate::line::{has_target, is_hidden, is_near};
-use crate::text::{Names, Notes};
+use crate::run_notes::RunNotes;
+use crate::text::Notes;
 use mk_class::Class;
 use mk_edit_language::{Edit, Place, Refusal, ValueChange};
 use mk_edit_parts::address::{Address, address_of};
@@ -14,53 +18,65 @@ use mk_listing::{Position, assignments_of, numbered};
 use mk_tree::Doc;
 use std::alloc::{AllocError, Allocator};
 
-/// The notes on a refusal of an edit, as a text: each line begins with the name of a file, mostly the
-/// number of a line in it, and `note`. The document is the makefile as it stood when the edit was
-/// refused; the numbers of lines are its own.
-///
-/// | Refusal | Notes on |
-/// |---|---|
-/// | `Ambiguous` | the lines that fit the address, and what tells one of them; the line of the rule, if several of its recipe lines have the text |
-/// | `NoSuch` | if the number is too high, the lines of the name; otherwise the lines of other names that are spelled alike, and those that begin with the name and that no edit looks at |
-/// | `Absent`, `Already`, `SharedRule` | the line that the edit means; with `all` those of the name |
-/// | `OpenValue` | the line that the edit means; with `all` those that would be changed and whose value is open, except for a fold at its end, or all of the name if there are none |
-/// | `Straddles` | the line of the rule, and the first line of a conditional below it |
-/// | `Taken` | the lines for the new name |
-/// | `OpenLine` | the last line |
-/// | `OpenDefine` | the line that begins the define |
-/// | `Leans` | the first line below the change that begins with the recipe prefix |
-///
-/// There are no notes on any other refusal. Of many lines the first ten are told of, each by at most 100
-/// bytes of its text.
-///
-/// # Errors
-///
-/// [`AllocError`] if a growth was refused.
-pub fn refusal_notes<A: Allocator, B: Allocator, C: Allocator>(
-    alloc: C,
-    names: Names<'_>,
-    line: u64,
-    doc: &Doc<A>,
-    edit: &Edit<B>,
-    refusal: Refusal,
-) -> Result<Vec<u8, C>, AllocError> {
-    let mut notes = Notes::new(alloc, names, line, doc);
-    match (refusal, edit) {
-        (Refusal::OpenLine, _) => notes.line(numbered(doc).last().map(|(at, _)| at))?,
-        (Refusal::OpenDefine, _) => notes.line(last_define(doc))?,
-        (Refusal::Taken, Edit::RenameTarget { to, .. }) => notes.taken(to)?,
-        (Refusal::OpenValue, Edit::ChangeValues { name, change }) => notes.open(name, change)?,
-        (Refusal::Leans, _) => notes.line(leaning(doc, edit))?,
-        _ => {
-            if let Some(address) = meant_by(edit) {
-                notes.refused(edit, address, refusal)?;
-            }
+impl<C: Allocator + Copy> RunNotes<'_, C> {
+    /// The notes on a refusal of an edit, as a text: each line begins with the name of a file, mostly the
+    /// number of a line in it, and `note`. The document is the makefile as it stood when the edit was
+    /// refused; the numbers of lines are its own.
+    ///
+    /// | Refusal | Notes on |
+    /// |---|---|
+    /// | `Ambiguous` | the lines that fit the address, and what tells one of them; the line of the rule, if several of its recipe lines have the text |
+    /// | `NoSuch` | if the number is too high, the lines of the name; otherwise the lines of other names that are spelled alike, and those that begin with the name and that no edit looks at |
+    /// | `Absent`, `Already`, `SharedRule` | the line that the edit means; with `all` those of the name |
+    /// | `OpenValue` | the line that the edit means; with `all` those that would be changed and whose value is open, except for a fold at its end, or all of the name if there are none |
+    /// | `Straddles` | the line of the rule, and the first line of a conditional below it |
+    /// | `Taken` | the lines for the new name |
+    /// | `OpenLine` | the last line |
+    /// | `OpenDefine` | the line that begins the define |
+    /// | `Leans` | the first line below the change that begins with the recipe prefix |
+    ///
+    /// There are no notes on any other refusal. Of many lines the first ten are told of, each by at most
+    /// 100 bytes of its text.
+    ///
+    /// # Errors
+    ///
+    /// [`AllocError`] if a growth was refused.
+    pub fn refused<A: Allocator, B: Allocator>(
+        &mut self,
+        line: u64,
+        doc: &Doc<A>,
+        edit: &Edit<B>,
+        refusal: Refusal,
+    ) -> Result<Vec<u8, C>, AllocError> {
+        let mut notes = Notes::new(self.alloc, self.names, line, doc);
+        if self.refused.may_walk(&mut notes)? {
+            notes.on_refusal(edit, refusal)?;
         }
+        Ok(notes.into_text())
     }
-    Ok(notes.into_text())
 }
 
 impl<'a, A: Allocator, C: Allocator> Notes<'a, A, C> {
+    // Puts the notes on a refusal of an edit.
+    fn on_refusal<B: Allocator>(
+        &mut self,
+        edit: &Edit<B>,
+        refusal: Refusal,
+    ) -> Result<(), AllocError> {
+        let doc = self.doc;
+        match (refusal, edit) {
+            (Refusal::OpenLine, _) => self.line(numbered(doc).last().map(|(at, _)| at)),
+            (Refusal::OpenDefine, _) => self.line(last_define(doc)),
+            (Refusal::Taken, Edit::RenameTarget { to, .. }) => self.taken(to),
+            (Refusal::OpenValue, Edit::ChangeValues { name, change }) => self.open(name, change),
+            (Refusal::Leans, _) => self.line(leaning(doc, edit)),
+            _ => match meant_by(edit) {
+                Some(address) => self.refused(edit, address, refusal),
+                None => Ok(()),
+            },
+        }
+    }
+
     // Puts the notes on a refusal of an edit that is about the lines of an address.
     fn refused<B: Allocator>(
         &mut self,

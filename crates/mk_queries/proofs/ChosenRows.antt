@@ -85,23 +85,23 @@ row_rules_for_an_empty_target : rules_text (Some []) (document_lines (codes "a: 
 unfolding digits
 row_rules_for_an_empty_target = refl
 
-row_recipes_for_one_target : recipes_text (Some (codes "a")) (document_lines (codes "a:\n\tx\nb c:\n\ty\n\tz\na:\n\tw\n")) ≡ (codes "2:0: a [1] x\n7:0: a [1] w\n")
+row_recipes_for_one_target : recipes_text (Some (codes "a")) (document_lines (codes "a:\n\tx\nb c:\n\ty\n\tz\na:\n\tw\n")) ≡ (codes "1:0: a:\n2:0: [1] x\n6:0: a:\n7:0: [1] w\n")
 unfolding digits
 row_recipes_for_one_target = refl
 
-row_recipes_for_one_of_several_targets : recipes_text (Some (codes "c")) (document_lines (codes "a:\n\tx\nb c:\n\ty\n\tz\na:\n\tw\n")) ≡ (codes "4:0: b c [1] y\n5:0: b c [2] z\n")
+row_recipes_for_one_of_several_targets : recipes_text (Some (codes "c")) (document_lines (codes "a:\n\tx\nb c:\n\ty\n\tz\na:\n\tw\n")) ≡ (codes "3:0: b c:\n4:0: [1] y\n5:0: [2] z\n")
 unfolding digits
 row_recipes_for_one_of_several_targets = refl
 
-row_recipes_for_one_target_are_those_of_no_other : recipes_text (Some (codes "a")) (document_lines (codes "a:\n\tx\nb:\n\ty\n\nifdef C\n\tz\nendif\n")) ≡ (codes "2:0: a [1] x\n")
+row_recipes_for_one_target_are_those_of_no_other : recipes_text (Some (codes "a")) (document_lines (codes "a:\n\tx\nb:\n\ty\n\nifdef C\n\tz\nendif\n")) ≡ (codes "1:0: a:\n2:0: [1] x\n")
 unfolding digits
 row_recipes_for_one_target_are_those_of_no_other = refl
 
-row_recipes_for_one_target_without_its_inline_recipe : recipes_text (Some (codes "a")) (document_lines (codes "a: ; x\n\ty\nb: ; z\n")) ≡ (codes "2:0: a [1] y\n")
+row_recipes_for_one_target_without_its_inline_recipe : recipes_text (Some (codes "a")) (document_lines (codes "a: ; x\n\ty\nb: ; z\n")) ≡ (codes "1:0: a:\n2:0: [1] y\n")
 unfolding digits
 row_recipes_for_one_target_without_its_inline_recipe = refl
 
-row_recipes_for_one_target_below_a_rough_line : recipes_text (Some (codes "a")) (document_lines (codes "a:\n\tx\n| b: c\n\ty\n")) ≡ (codes "2:0: a [1] x\n")
+row_recipes_for_one_target_below_a_rough_line : recipes_text (Some (codes "a")) (document_lines (codes "a:\n\tx\n| b: c\n\ty\n")) ≡ (codes "1:0: a:\n2:0: [1] x\n")
 unfolding digits
 row_recipes_for_one_target_below_a_rough_line = refl
 
@@ -109,6 +109,6 @@ row_recipes_for_a_prerequisite_are_none : recipes_text (Some (codes "b")) (docum
 unfolding digits
 row_recipes_for_a_prerequisite_are_none = refl
 
-row_recipes_for_one_target_among_conditionals : recipes_text (Some (codes "b")) (document_lines (codes "a:\n\tw\nb:\n\tx\nifdef C\n\ty\nelse\n\tz\nendif\n")) ≡ (codes "4:0: b [1] x\n6:1: b [2] y\n8:1: b [3] z\n")
+row_recipes_for_one_target_among_conditionals : recipes_text (Some (codes "b")) (document_lines (codes "a:\n\tw\nb:\n\tx\nifdef C\n\ty\nelse\n\tz\nendif\n")) ≡ (codes "3:0: b:\n4:0: [1] x\n6:1: [2] y\n8:1: [3] z\n")
 unfolding digits
 row_recipes_for_one_target_among_conditionals = refl

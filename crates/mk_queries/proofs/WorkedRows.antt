@@ -61,26 +61,26 @@ row_recipes_of_an_empty_file : recipes_text None (document_lines []) ≡ []
 unfolding digits
 row_recipes_of_an_empty_file = refl
 
-row_recipes_by_their_numbers : recipes_text None (document_lines (codes "a b: c ; x\n\ty\n\n# d\n\tz \\\n\tw\n")) ≡ (codes "2:0: a b [1] y\n5:0: a b [2] z w\n")
+row_recipes_by_their_numbers : recipes_text None (document_lines (codes "a b: c ; x\n\ty\n\n# d\n\tz \\\n\tw\n")) ≡ (codes "1:0: a b:\n2:0: [1] y\n5:0: [2] z w\n")
 unfolding digits
 row_recipes_by_their_numbers = refl
 
-row_recipes_among_conditionals : recipes_text None (document_lines (codes "a:\n\tx\nifdef B\n\ty\nelse\n\tz\nendif\n\tw\n")) ≡ (codes "2:0: a [1] x\n4:1: a [2] y\n6:1: a [3] z\n8:0: a [4] w\n")
+row_recipes_among_conditionals : recipes_text None (document_lines (codes "a:\n\tx\nifdef B\n\ty\nelse\n\tz\nendif\n\tw\n")) ≡ (codes "1:0: a:\n2:0: [1] x\n4:1: [2] y\n6:1: [3] z\n8:0: [4] w\n")
 unfolding digits
 row_recipes_among_conditionals = refl
 
-row_recipes_of_one_rule_after_the_other : recipes_text None (document_lines (codes "a:\n\tx\nb::\n\ty\nX = 1\n\tZ = 2\nc:\n")) ≡ (codes "2:0: a [1] x\n4:0: b [1] y\n")
+row_recipes_of_one_rule_after_the_other : recipes_text None (document_lines (codes "a:\n\tx\nb::\n\ty\nX = 1\n\tZ = 2\nc:\n")) ≡ (codes "1:0: a:\n2:0: [1] x\n3:0: b::\n4:0: [1] y\n")
 unfolding digits
 row_recipes_of_one_rule_after_the_other = refl
 
-row_recipes_below_a_rough_line_have_no_number : recipes_text None (document_lines (codes "a:\n\tx\n| b: c\n\ty\n")) ≡ (codes "2:0: a [1] x\n")
+row_recipes_below_a_rough_line_have_no_number : recipes_text None (document_lines (codes "a:\n\tx\n| b: c\n\ty\n")) ≡ (codes "1:0: a:\n2:0: [1] x\n")
 unfolding digits
 row_recipes_below_a_rough_line_have_no_number = refl
 
-row_recipes_with_another_prefix : recipes_text None (document_lines (codes ".RECIPEPREFIX = >\n%.o: %.c\n> cc $<\n>\n")) ≡ (codes "3:0: %.o [1]  cc $<\n4:0: %.o [2] \n")
+row_recipes_with_another_prefix : recipes_text None (document_lines (codes ".RECIPEPREFIX = >\n%.o: %.c\n> cc $<\n>\n")) ≡ (codes "2:0: %.o:\n3:0: [1]  cc $<\n4:0: [2] \n")
 unfolding digits
 row_recipes_with_another_prefix = refl
 
-row_recipes_of_a_target_with_a_reference : recipes_text None (document_lines (codes "a $(b c):\n\t$(call x, y)\n")) ≡ (codes "2:0: a $(b c) [1] $(call x, y)\n")
+row_recipes_of_a_target_with_a_reference : recipes_text None (document_lines (codes "a $(b c):\n\t$(call x, y)\n")) ≡ (codes "1:0: a $(b c):\n2:0: [1] $(call x, y)\n")
 unfolding digits
 row_recipes_of_a_target_with_a_reference = refl

@@ -33,9 +33,9 @@ vars_text n ls = flat_map (λ s. variable_line n s.position s.line) (standing (w
 abbrev pub rules_text : (target : Option (List ℕ)) → List LocatedLine → List ℕ
 rules_text t ls = flat_map rule_text (rules_ahead t 1 (whole ls))
 
--- what is said of the recipe lines of a rule
+-- what is said of a rule that has recipe lines, and of these
 abbrev pub rule_recipes : RuleSpot → List ℕ
-rule_recipes r = flat_map (recipe_text r.rule.targets) (recipes_ahead 1 r.below)
+rule_recipes r = flat_map (recipe_text r) (recipes_ahead 1 r.below)
 
 -- the text of `recipes`, for one target if one is asked for
 abbrev pub recipes_text : (target : Option (List ℕ)) → List LocatedLine → List ℕ

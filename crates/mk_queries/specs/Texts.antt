@@ -1,7 +1,7 @@
 -- What the queries print of an assignment, of a rule, of a recipe line and of a line that is not read
 -- inside, each with where it stands.
 -- Told in docs/EDITS.md, "Queries".
-use Rattle.std.specs.Prelude.{ℕ, zero, suc, ◌+◌, List, [], ◌∷◌, ◌++◌, length, slice_get, Option, Some, None, codes, decimal}
+use Rattle.std.specs.Prelude.{ℕ, zero, suc, ◌+◌, ◌==◌, if◌then◌else◌, List, [], ◌∷◌, ◌++◌, length, slice_get, Option, Some, None, codes, decimal}
 use Rattle.mk_lines.specs.Spacing.{after_space, each_after_space, spaced_words}
 use Rattle.mk_class.specs.Contexts.{Context}
 use Rattle.mk_class.specs.OperatorTexts.{operator_text, separator_text}
@@ -61,11 +61,17 @@ rule_text r =
     ++ (order_only_text r.rule.order_only
     ++ count_text (length (recipes_ahead 1 r.below) + inline_count r.rule.inline_recipe)))))
 
--- a recipe line of a rule with these targets
-abbrev pub recipe_text : (targets : List (List ℕ)) → RecipeSpot → List ℕ
-recipe_text ts r =
-    position_text r.position ++ (codes " " ++ (spaced_words ts ++ (codes " [" ++ (decimal r.number
-    ++ (codes "] " ++ (r.text ++ codes "\n"))))))
+-- what stands before the recipe line of this number of a rule: before the first one, the targets of the rule
+abbrev pub before_recipe : RuleSpot → (number : ℕ) → List ℕ
+before_recipe r n =
+    if n == 1 then position_text r.position ++ (targets_text r.rule.targets r.rule.separator
+    ++ codes "\n") else []
+
+-- a recipe line of a rule
+abbrev pub recipe_text : RuleSpot → RecipeSpot → List ℕ
+recipe_text r l =
+    before_recipe r l.number ++ (position_text l.position ++ (codes " [" ++ (decimal l.number
+    ++ (codes "] " ++ (l.text ++ codes "\n")))))
 
 -- ---- what is not read inside, and what is open
 

@@ -1,4 +1,8 @@
 //! Bare rules, which have one target and nothing else, and recipes for their targets.
+//!
+//! A rule with several targets is none of them: a look for each would need memory or a walk of its
+//! own. Nor is one whose target may mean something else to make: a special target, a pattern or a
+//! reference.
 
 use mk_class::Separator;
 use mk_listing::{RuleLine, rules_for};

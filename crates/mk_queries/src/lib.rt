@@ -2,8 +2,8 @@
 //!
 //! - [`vars`]: a line of text on each assignment; [`vars_named`]: on those of one name.
 //! - [`rules`]: a line of text on each rule; [`rules_for`]: on those for one target.
-//! - [`recipes`]: a line of text on each recipe line below the line of a rule; [`recipes_for`]: on those
-//!   of the rules for one target.
+//! - [`recipes`]: a line of text on each rule that has recipe lines, and on each of these;
+//!   [`recipes_for`]: on the rules for one target and theirs.
 //! - [`check`]: a line of text on each line that is not read inside, and what is open at the end.
 //! - [`caveats`]: a line of text on each line that make may read otherwise, as far as the lines
 //!   show it; [`line_caveats`]: what make may read otherwise, of each line.

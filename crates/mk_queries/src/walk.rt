@@ -1,4 +1,8 @@
 //! The caveat of each line of a document.
+//!
+//! The query in words and that of `mk_json` both follow this walk, so they list the same lines.
+//! Whether a rule adds nothing depends on another line, which may stand anywhere: that takes a walk
+//! for each such rule, so the bytes of these walks are bounded.
 ghost use Rattle.std.specs.Prelude.{◌≡◌, length};
 ghost use Rattle.mk_tree.specs.Documents.{IsFaithful};
 

@@ -12,10 +12,8 @@ use Rattle.mk_run.specs.declared.outcome.Outcome.{Outcome}
 use Rattle.mk_run.specs.declared.outcome.Outcome.TheVariants.{Done, Write}
 use Rattle.mk_cli.specs.declared.request.Query.{Query}
 use Rattle.mk_cli.specs.declared.request.Form.TheVariants as form
-use Rattle.mk_repl.specs.declared.question.Inquiry.{Inquiry}
-use Rattle.mk_repl.specs.declared.question.Inquiry.TheVariants as inquiry
-use Rattle.mk_repl.specs.declared.question.Question.{Question}
-use Rattle.mk_repl.specs.declared.question.Question.TheVariants as question
+use Rattle.mk_cli.specs.declared.request.Question.{Question}
+use Rattle.mk_cli.specs.declared.request.Question.TheVariants as question
 use Rattle.mk_repl.specs.declared.question.Found.{Found}
 use Rattle.mk_repl.specs.declared.question.Found.TheVariants as found
 use Rattle.mk_cli.specs.declared.request.Query.TheVariants.{Vars, Rules, Recipes, Check, Caveats}
@@ -36,18 +34,12 @@ query_text Caveats lines = None
 abbrev pub IsSaid : (said : Option (List ℕ)) → (text : List ℕ) → Type 0
 IsSaid said text = IfSome said (λ wanted. text ≡ wanted)
 
--- the question to the makefile of this name
-abbrev pub question_to : (file : Bor (List ℕ)) → Inquiry → Question
-question_to file (inquiry.Query query form.Text) = question.Lines query
-question_to file (inquiry.Query query form.Json) = question.Json query file
-question_to file (inquiry.Value nth name) = question.Value nth name
-
 -- whether the name of the makefile stands before each line of an answer where several are asked; a line
 -- of JSON has it in it
-abbrev pub has_prefix : Inquiry → Bool
-has_prefix (inquiry.Query query form.Text) = true
-has_prefix (inquiry.Query query form.Json) = false
-has_prefix (inquiry.Value nth name) = true
+abbrev pub has_prefix : Question → Bool
+has_prefix (question.List query form.Text) = true
+has_prefix (question.List query form.Json) = false
+has_prefix (question.Value nth name) = true
 
 -- a value and the end of its line; nothing where there is a refusal
 abbrev value_line : Result (List ℕ) Refusal → List ℕ
@@ -60,14 +52,13 @@ refusal_in (Err refusal) = Some refusal
 
 -- what is printed for a question of the text of a makefile; of lines of JSON no definition says it
 abbrev pub answer_text : Question → List ℕ → Option (List ℕ)
-answer_text (question.Lines query) text = query_text query (document_lines text)
-answer_text (question.Json query file) text = None
+answer_text (question.List query form.Text) text = query_text query (document_lines text)
+answer_text (question.List query form.Json) text = None
 answer_text (question.Value nth name) text = Some (value_line (looked_up text nth name.now))
 
 -- the refusal of a question, if it is refused
 abbrev pub answer_refusal : Question → List ℕ → Option Refusal
-answer_refusal (question.Lines query) text = None
-answer_refusal (question.Json query file) text = None
+answer_refusal (question.List query form) text = None
 answer_refusal (question.Value nth name) text = refusal_in (looked_up text nth name.now)
 
 -- what is printed of what is found for a question in the lines of a makefile

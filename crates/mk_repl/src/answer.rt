@@ -1,4 +1,6 @@
 //! A line, and the reply to it.
+//!
+//! A comment and a blank line have no reply, as they have no line in a report.
 ghost use Rattle.std.specs.Prelude.{◌≡◌, false, true, map, IfErr, IfOk, OnOk};
 ghost use Rattle.mk_run.specs.RunEnds.{IsOut, IsPrefixOut, written};
 ghost use Rattle.mk_lines.specs.Device.{Writes};

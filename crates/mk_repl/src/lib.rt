@@ -10,7 +10,7 @@
 //! - [`serve`]: line after line is read, and a [`Handler`] replies to each. What it says first and
 //!   what it replies to a line that is too long is [`write_greeting`] and [`write_too_long`] by the
 //!   protocol.
-//! - [`found_for`]: what a makefile has for a [`Question`]; [`put_found`] writes it.
+//! - [`found_for`]: what a makefile has for a question; [`put_found`] writes it.
 //! - [`Server`]: the makefile that `mkedit session` has open, a handler by the protocol;
 //!   [`serve_at_terminal`] replies to a person.
 //!
@@ -23,7 +23,7 @@
 //! - `quote`: the lines of an answer.
 //! - `talk`: lines that are read and answered, one after the other.
 //! - `undoing`: all that can be undone, undone.
-//! - `question`: what a makefile is asked for, and what is found.
+//! - `question`: what is found for a question to a makefile.
 //! - `server`: a makefile that is open, and what it answers; `help_text`: what `help` says.
 //! - `command_log`: the lines of what can be undone and redone.
 //! - `text_lines`: answers as lines of JSON.
@@ -54,7 +54,7 @@ pub use answer::{Executed, Handled, answer_line, execute_line, write_reply};
 pub use line::{LineRead, MAX_LINE, read_line};
 pub use lines::{line_length, lines_between};
 pub use not_done::NotDone;
-pub use question::{Found, Inquiry, Question, Unanswered, found_for, put_found};
+pub use question::{Found, Unanswered, found_for, put_found};
 pub use quote::answer_lines;
 pub use request::{Request, RequestOf, RequestWord, read_request};
 pub use server::{Asked, Opened, Server};

@@ -1,13 +1,13 @@
-//! What a makefile is asked for, and what is found for it.
+//! What is found for a question to a makefile.
 ghost use Rattle.std.specs.Prelude.{◌≡◌, ℕ, List, false, Err, IfOk, IfSome, None, Some};
 ghost use Rattle.mk_lines.specs.Device.{Writes};
 ghost use Rattle.mk_lines.specs.declared.fault.Fault.TheVariants.{NoMemory};
 ghost use Rattle.mk_tree.specs.Documents.{IsFaithful};
 ghost use Rattle.mk_tree.specs.LocatedLines.{located_text};
 ghost use Rattle.mk_repl.specs.declared.question.Unanswered.TheVariants as unanswered;
-ghost use Rattle.mk_repl.specs.QueryTexts.{IsSaid, answer_refusal, answer_text, found_text, query_text, question_to};
+ghost use Rattle.mk_repl.specs.QueryTexts.{IsSaid, answer_refusal, answer_text, found_text, query_text};
 
-use mk_cli::{Form, Query};
+use mk_cli::{Form, Query, Question};
 use mk_json as json;
 use mk_lines::sink::{write_all, write_parts};
 use mk_lines::{ByteSink, Fault};
@@ -16,40 +16,6 @@ use mk_queries::{caveats, check, recipes, recipes_for, rules, rules_for, vars, v
 use mk_session::Refusal;
 use mk_tree::Doc;
 use std::alloc::{AllocError, Allocator};
-
-/// What each of some makefiles is asked for.
-#[derive(Clone, Copy)]
-pub enum Inquiry<'a> {
-    /// What a query lists, in this form.
-    Query(Query<'a>, Form),
-    /// The value that [`Question::Value`] is on.
-    Value(Option<u32>, &'a str),
-}
-
-impl<'a> Inquiry<'a> {
-    /// The question to the makefile of this name.
-    pub fn to(self, file: &'a str) -> Question<'a>
-        ensures { result ≡ question_to file.entry self.entry }
-    {
-        match self {
-            Inquiry::Query(query, Form::Text) => Question::Lines(query),
-            Inquiry::Query(query, Form::Json) => Question::Json(query, file),
-            Inquiry::Value(nth, name) => Question::Value(nth, name),
-        }
-    }
-}
-
-/// What a makefile is asked for.
-#[derive(Clone, Copy)]
-pub enum Question<'a> {
-    /// A line for each thing that a query lists.
-    Lines(Query<'a>),
-    /// The same, each as a line of JSON in which the makefile has this name.
-    Json(Query<'a>, &'a str),
-    /// The value of the assignment of this name that `set` takes: that with this number, from 1, or
-    /// the only one.
-    Value(Option<u32>, &'a str),
-}
 
 /// Why a question has no answer.
 #[derive(Clone, Copy, Debug, PartialEq, Eq)]
@@ -87,7 +53,7 @@ pub enum Found<'a, B: Allocator> {
     Value(&'a [u8]),
 }
 
-/// What a document has for a question.
+/// What a document has for a question. Lines of JSON call the makefile by this name.
 ///
 /// # Errors
 ///
@@ -96,6 +62,7 @@ pub enum Found<'a, B: Allocator> {
 pub fn found_for<'a, A: Allocator, B: Allocator + Copy>(
     alloc: B,
     question: Question<'a>,
+    file: &str,
     doc: &'a Doc<A>,
 ) -> Result<Found<'a, B>, Unanswered>
     requires { IsFaithful doc.now }
@@ -109,9 +76,9 @@ pub fn found_for<'a, A: Allocator, B: Allocator + Copy>(
         → fault ≡ Fault.NoMemory }
 {
     match question {
-        Question::Lines(query) => Ok(Found::Lines(query)),
-        Question::Json(query, file) => Ok(Found::Json(json_lines(alloc, query, file, doc)?)),
-        Question::Value(nth, name) => match get(doc, nth, name.as_bytes()) {
+        Question::List(query, Form::Text) => Ok(Found::Lines(query)),
+        Question::List(query, Form::Json) => Ok(Found::Json(json_lines(alloc, query, file, doc)?)),
+        Question::Value(nth, name) => match get(doc, nth, name) {
             Ok(value) => Ok(Found::Value(value)),
             Err(refusal) => Err(Unanswered::Refused(refusal)),
         },
@@ -133,9 +100,9 @@ pub(crate) fn json_lines<'a, A: Allocator, B: Allocator + Copy>(
 {
     let file = file.as_bytes();
     match query {
-        Query::Vars(name) => json::vars(alloc, file, doc, name.map(|it| it.as_bytes())),
-        Query::Rules(target) => json::rules(alloc, file, doc, target.map(|it| it.as_bytes())),
-        Query::Recipes(target) => json::recipes(alloc, file, doc, target.map(|it| it.as_bytes())),
+        Query::Vars(name) => json::vars(alloc, file, doc, name),
+        Query::Rules(target) => json::rules(alloc, file, doc, target),
+        Query::Recipes(target) => json::recipes(alloc, file, doc, target),
         Query::Check => json::check(alloc, file, doc),
         Query::Caveats => json::caveats(alloc, file, doc),
     }
@@ -158,11 +125,11 @@ pub(crate) fn put_lines<A: Allocator, W: ByteSink>(
 {
     match query {
         Query::Vars(None) => vars(doc, out),
-        Query::Vars(Some(name)) => vars_named(doc, name.as_bytes(), out),
+        Query::Vars(Some(name)) => vars_named(doc, name, out),
         Query::Rules(None) => rules(doc, out),
-        Query::Rules(Some(target)) => rules_for(doc, target.as_bytes(), out),
+        Query::Rules(Some(target)) => rules_for(doc, target, out),
         Query::Recipes(None) => recipes(doc, out),
-        Query::Recipes(Some(target)) => recipes_for(doc, target.as_bytes(), out),
+        Query::Recipes(Some(target)) => recipes_for(doc, target, out),
         Query::Check => check(doc, out),
         Query::Caveats => caveats(doc, out),
     }

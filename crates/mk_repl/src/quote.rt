@@ -1,4 +1,7 @@
 //! The lines of an answer, as they stand before its reply.
+//!
+//! A last line without a line feed has a mark of its own, so that each reply begins a line, and the
+//! text can be told from one that has the line feed.
 ghost use Rattle.std.specs.Prelude.{◌≡◌, ◌++◌, IfOk};
 ghost use Rattle.mk_repl.specs.AnswerLines.{answer_line, answer_lines};
 

@@ -23,10 +23,8 @@ use mk_cli::{Form, Query, SessionWords, command_called, put_explanation, put_hel
 use mk_diff::{diff, patch_name};
 use mk_escape::TextSink;
 use mk_fs::{AsRead, Expected};
-use mk_json as json;
 use mk_lines::Fault;
 use mk_lookup::get;
-use mk_queries::{recipes_for, rules_for, vars_named};
 use mk_session::{Refusal, Session};
 use mk_tree::text_of;
 use std::alloc::Global;
@@ -260,57 +258,6 @@ impl<'a> Server<'a> {
         }
     }
 
-    // The assignments of a name.
-    fn vars_named(&self, name: &[u8]) -> Result<Vec<u8>, NotDone>
-        ensures { HasAnswer (answer_in self.now.opened self.now.session.shown.text (Of of.Vars name.now))
-            (answer_text result) }
-    {
-        let (alloc, doc) = (self.rt.alloc(), self.session.doc());
-        if self.opened.form == Form::Json {
-            let file = self.opened.name.as_bytes();
-            return Ok(json::vars(alloc, file, doc, Some(name))?);
-        }
-        let mut sink = TextSink::new(alloc);
-        match vars_named(doc, name, &mut sink) {
-            Ok(()) => Ok(sink.text),
-            Err(_) => Err(NotDone::NoMemory),
-        }
-    }
-
-    // The rules for a target.
-    fn rules_for(&self, target: &[u8]) -> Result<Vec<u8>, NotDone>
-        ensures { HasAnswer (answer_in self.now.opened self.now.session.shown.text (Of of.Rules target.now))
-            (answer_text result) }
-    {
-        let (alloc, doc) = (self.rt.alloc(), self.session.doc());
-        if self.opened.form == Form::Json {
-            let file = self.opened.name.as_bytes();
-            return Ok(json::rules(alloc, file, doc, Some(target))?);
-        }
-        let mut sink = TextSink::new(alloc);
-        match rules_for(doc, target, &mut sink) {
-            Ok(()) => Ok(sink.text),
-            Err(_) => Err(NotDone::NoMemory),
-        }
-    }
-
-    // The recipe lines of the rules for a target.
-    fn recipes_for(&self, target: &[u8]) -> Result<Vec<u8>, NotDone>
-        ensures { HasAnswer (answer_in self.now.opened self.now.session.shown.text (Of of.Recipes target.now))
-            (answer_text result) }
-    {
-        let (alloc, doc) = (self.rt.alloc(), self.session.doc());
-        if self.opened.form == Form::Json {
-            let file = self.opened.name.as_bytes();
-            return Ok(json::recipes(alloc, file, doc, Some(target))?);
-        }
-        let mut sink = TextSink::new(alloc);
-        match recipes_for(doc, target, &mut sink) {
-            Ok(()) => Ok(sink.text),
-            Err(_) => Err(NotDone::NoMemory),
-        }
-    }
-
     // Puts the text into the makefile's place, and answers it.
     fn put_text(&self) -> Result<Vec<u8>, NotDone>
         ensures { IfOk result (λ text. text.items ≡ self.now.session.shown.text) }
@@ -466,9 +413,9 @@ impl<'a> Server<'a> {
             RequestOf::Explain => self.in_form(self.explain(word)?),
             RequestOf::Help => self.in_form(self.help(word)?),
             RequestOf::Get => self.in_form(self.get(None, word)?),
-            RequestOf::Vars => self.vars_named(word),
-            RequestOf::Rules => self.rules_for(word),
-            RequestOf::Recipes => self.recipes_for(word),
+            RequestOf::Vars => self.query(Query::Vars(Some(word))),
+            RequestOf::Rules => self.query(Query::Rules(Some(word))),
+            RequestOf::Recipes => self.query(Query::Recipes(Some(word))),
             RequestOf::Write => {
                 self.write_to(word)?;
                 Ok(Vec::new(self.rt.alloc()))

@@ -1,4 +1,8 @@
 //! A talk: lines that are read and answered, one after the other.
+//!
+//! A talk knows nothing of sessions. What a handler says and replies stands in its ghost members,
+//! so what is proved of a talk holds for any handler: the replies are those to the lines read, in
+//! their order.
 ghost use Rattle.std.specs.Prelude.{◌≡◌, List, false, true, ℕ, ⊤, IfErr, IfOk, OnOk};
 ghost use Rattle.mk_lines.specs.Device.{Writes};
 ghost use Rattle.mk_repl.specs.Talks.{IsReadReplied, IsTalk, SaysOut, greeting, too_long};

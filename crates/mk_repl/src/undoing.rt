@@ -1,4 +1,7 @@
 //! All that can be undone, undone.
+//!
+//! A session does not tell how many edits the depth has dropped, so the text is compared with the
+//! one that was opened.
 ghost use Rattle.std.specs.Prelude.{◌≡◌, ◌≢◌, IfErr, OnErr, OnOk, Ok, is_some, true};
 ghost use Rattle.mk_repl.specs.Reverted.{undone};
 

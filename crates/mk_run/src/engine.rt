@@ -1,4 +1,8 @@
 //! A script over a makefile: the steps of a run, in their order.
+//!
+//! Every makefile is opened as a session before the commands, so that whether it is too deep does
+//! not depend on the script. The session is handed back, so that a program that ends soon need not
+//! free a box for each line: that would take a fifth of a run with an empty script.
 ghost use Rattle.std.specs.Prelude.{◌≡◌, ◌↔◌, ◌+◌, ◌||◌, [], ◌∷◌, ℕ, IsTrue, List, Option, map, false, true, OnOk, IfOk, IfErr, IfSome};
 ghost use Rattle.mk_session.specs.Sessions.{IsBadDepth};
 ghost use Rattle.mk_script.specs.Scripts.{step_of};
@@ -16,7 +20,7 @@ use mk_history::history::is_bad_depth;
 use mk_lines::source::{BUFFER, MAX_TEXT, read_all};
 use mk_lines::{ByteSink, ByteSource, Fault};
 use mk_script::{ScriptFault, Step, parse_script};
-use mk_session::{Command, Edit, Refusal, Session};
+use mk_session::{Command, Edit, Expected, Refusal, Session};
 use std::alloc::Allocator;
 
 /// The steps of a script, which is read to its end.
@@ -82,33 +86,15 @@ const MANY_STEPS: usize = 10;
 fn expect_steps<A: Allocator + Copy>(session: &mut Session<A>, steps: &[Step<A>])
     ensures { session.new.shown ≡ session.old.shown }
 {
-    if steps.len() < MANY_STEPS {
-        return;
+    if steps.len() >= MANY_STEPS {
+        session.expect_edits(edits_of(steps));
     }
-    let asked = asked_by(steps);
-    match (asked.renames, asked.others) {
-        (true, true) => {
-            session.expect_renames();
-            session.expect_edits();
-        }
-        (true, false) => session.expect_renames(),
-        (false, true) => session.expect_edits(),
-        (false, false) => {}
-    }
-}
-
-// Which edits some steps ask for.
-#[derive(Clone, Copy)]
-struct Asked {
-    renames: bool,
-    // Edits besides renames.
-    others: bool,
 }
 
 // Which edits some steps ask for. Of a chain it says that it asks for edits besides renames: a rename in
 // a chain has an index made that serves it.
-fn asked_by<A: Allocator>(steps: &[Step<A>]) -> Asked {
-    let mut asked = Asked {
+fn edits_of<A: Allocator>(steps: &[Step<A>]) -> Expected {
+    let mut expected = Expected {
         renames: false,
         others: false,
     };
@@ -120,16 +106,16 @@ fn asked_by<A: Allocator>(steps: &[Step<A>]) -> Asked {
             },
             Step::Try(tried) => &tried.edit,
             Step::Chain(_) => {
-                asked.others = true;
+                expected.others = true;
                 continue;
             }
         };
         match edit {
-            Edit::RenameTarget { .. } => asked.renames = true,
-            _ => asked.others = true,
+            Edit::RenameTarget { .. } => expected.renames = true,
+            _ => expected.others = true,
         }
     }
-    asked
+    expected
 }
 
 // Executes the steps in order, and answers how many refusals were told. The line on each refusal is

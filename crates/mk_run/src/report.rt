@@ -1,4 +1,7 @@
 //! The lines on refused commands.
+//!
+//! If such a line cannot be written, that is a write fault of the run: its user would not learn of
+//! the refusal.
 ghost use Rattle.std.specs.Prelude.{◌≡◌, false};
 ghost use Rattle.mk_lines.specs.Device.{Writes};
 ghost use Rattle.mk_run.specs.Report.{refusal_text, report_line};

@@ -1,4 +1,10 @@
 //! One step of a script, executed by a session.
+//!
+//! What `try` and `or` mean is the run's and not the session's, so a program that drives a session
+//! by itself decides for itself. `NoSuch` leads a chain on to its next edit, since there is nothing
+//! to edit; `Absent` and `Already` end it, since there is nothing to do. Any other refusal is
+//! reported and ends the chain, so that no alternative is made in place of an edit that cannot be
+//! made.
 ghost use Rattle.std.specs.Prelude.{◌≡◌, ◌≤◌, ◌+◌, OnErr, OnOk, IfErr, Ok, map};
 ghost use Rattle.mk_edit_language.specs.Costs.{cost};
 ghost use Rattle.mk_edit_language.specs.EditViews.{edit_of};

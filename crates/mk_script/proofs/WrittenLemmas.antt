@@ -1,6 +1,6 @@
 -- The line of an edit is a script that is this edit.
 use Rattle.std.proofs.Common.{◌≡◌, ◌≢◌, ℕ, zero, suc, ◌-◌, ◌<◌, ◌≤◌, Bool, true, false, cond, List, [], ◌∷◌, ◌++◌, length, length-append, slice_index, refl, sym, ap, ◌∙◌, subst, inl, inr, arith, append_assoc, append-nil, map, take, codes, decimal, Bor, eq-eqb, ne_eqb, lt-ltb}
-use Rattle.std.specs.Prelude.{not, ◌==◌, ◌||◌, ◌&&◌, nat_lt, Option, Some, None, Result, Ok, Err, Vec}
+use Rattle.std.specs.Prelude.{not, ◌==◌, ◌||◌, ◌&&◌, nat_lt, Option, Some, None}
 use Rattle.std.specs.List.{list_any}
 use Rattle.bstr.specs.Text.{without_terminator, no_cr}
 use Rattle.bstr.proofs.lemmas.LineLemmas.{lines-one}
@@ -10,13 +10,14 @@ use Rattle.mk_lines.specs.Spacing.{each_after_space}
 use Rattle.mk_lines.proofs.on_lists.BoolLemmas.{or-left_false, or-right_false}
 use Rattle.mk_edit_language.specs.Edits.{Edit}
 use Rattle.mk_history.specs.Machine.{Apply}
-use Rattle.mk_script.specs.CommandTable.{IsAfterNth, IsCommand}
+use Rattle.mk_script.specs.CommandTable.{Content, Text, Number, texts, after_nth, command_fields, IsCommand}
 use Rattle.mk_script.specs.Fields.{EndsField, is_special, IsBare, IsWritten, HasFields, quoted, escaped}
 use Rattle.mk_script.specs.Lines.{script_lines}
-use Rattle.mk_script.specs.WrittenEdits.{SaysOnly, after_nth, fields_of, has_line_feed, is_plain, is_quoted_byte, line_with, written}
-use Rattle.mk_script.specs.WrittenLines.{IsLineOf, IsLineResult, IsSaid, fields_in}
-use Rattle.mk_script.specs.declared.written.LineError.{LineError}
-use Rattle.mk_script.specs.declared.written.LineError.TheVariants.{LineFeed}
+use Rattle.mk_script.specs.ScriptLaws.{CanBeWritten}
+use Rattle.mk_script.specs.WrittenEdits.{SaysOnly, content_text, fields_of, has_line_feed, is_plain, is_quoted_byte, line_with, written}
+use Rattle.mk_script.specs.WrittenLines.{IsCommandText, fields_in}
+use Rattle.mk_script.proofs.on_commands.ReadLemmas.{edit-read}
+use Rattle.mk_script.proofs.on_scripts.WrittenLines.{contents-had}
 
 -- ---- a field
 
@@ -159,16 +160,11 @@ one-line t h none =
 fields-ends : (f : List ℕ) (fs : List (List ℕ)) → EndsWell (line_with (f ∷ fs))
 fields-ends f fs = line-ends (written f) fs (written-ends f)
 
-says-fields : (f : List ℕ) (fs : List (List ℕ)) (e : Edit) (line : List ℕ) → line ≡ line_with (f ∷ fs) ++ codes "\n" → has_line_feed (line_with (f ∷ fs)) ≡ false → IsCommand (f ∷ fs) (Apply e) → SaysOnly line e
-says-fields f fs e line is none command =
+says-only : (fs : List (List ℕ)) (e : Edit) (line : List ℕ) → line ≡ line_with fs ++ codes "\n" → has_line_feed (line_with fs) ≡ false → IsCommand fs (Apply e) → SaysOnly line e
+says-only [] e line is none command = let no = edit-read [] e command in absurd (cc)
+says-only (f ∷ fs) e line is none command =
     let one = ap script_lines is ∙ one-line (line_with (f ∷ fs)) (fields-ends f fs) none in
     rw one (inr (refl, (f ∷ fs, line-read f fs, command), tt))
-
--- the line of an edit's words is a script that is this edit
-says-only : (nth : Option ℕ) (word : List ℕ) (words : List (List ℕ)) (e : Edit) (line : List ℕ) → IsLineOf nth (word ∷ words) line
-    → ((fields : List (List ℕ)) → IsAfterNth nth fields (word ∷ words) → IsCommand fields (Apply e)) → SaysOnly line e
-says-only None word words e line h is = says-fields word words e line h.text h.one (is (word ∷ words) h.after)
-says-only (Some n) word words e line h is = says-fields (codes "nth") (decimal n ∷ word ∷ words) e line h.text h.one (is (codes "nth" ∷ decimal n ∷ word ∷ words) h.after)
 
 -- ---- a field between quotes
 
@@ -212,26 +208,56 @@ plain-is (x ∷ f) b some h = ap not h
 pub fields-done : (done whole : List ℕ) (fs : List (Bor (List ℕ))) → fs ≡ [] → done ++ each_after_space (map written (fields_in fs)) ≡ whole → done ≡ whole
 fields-done done whole fs none h = sym (append-nil done) ∙ (ap (λ (fs : List (Bor (List ℕ))). done ++ each_after_space (map written (fields_in fs))) (sym none) ∙ h)
 
--- ---- the line of an edit
+-- ---- the text of a command
 
--- the line of an edit's words, or why there is none
-pub result-of : {A : Type 0} → (e : Edit) (nth : Option ℕ) (word : List ℕ) (words : List (List ℕ)) (result : Result (Vec ℕ A) LineError) → fields_of e ≡ after_nth nth (word ∷ words)
-    → ((fields : List (List ℕ)) → IsAfterNth nth fields (word ∷ words) → IsCommand fields (Apply e)) → IsSaid nth (word ∷ words) result → IsLineResult e result
-result-of e nth word words (Ok line) are is h = record {
-  text = rw are h.line.text;
-  read = says-only nth word words e line.items h.line is;
-  feed = λ k. absurd (cc);
+-- texts are those of their contents, and have no numbers
+texts-text : (ts : List (List ℕ)) → map content_text (texts ts) ≡ ts
+texts-text [] = refl
+texts-text (t ∷ ts) = ap (λ zs. t ∷ zs) (texts-text ts)
+
+texts-can : (ts : List (List ℕ)) → CanBeWritten (texts ts)
+texts-can [] = tt
+texts-can (t ∷ ts) = texts-can ts
+
+-- more fields behind some
+fields-more : (fs : List (List ℕ)) (contents : List Content) (ts : List (List ℕ)) → fs ≡ map content_text contents → each_after_space (map written fs) ++ each_after_space (map written ts) ≡ each_after_space (map written (map content_text (contents ++ texts ts)))
+fields-more fs [] ts is = rw (is, texts-text ts) refl
+fields-more fs (c ∷ contents) ts is =
+    ap (λ (zs : List (List ℕ)). each_after_space (map written zs) ++ each_after_space (map written ts)) is
+    ∙ (append_assoc (codes " ") (written (content_text c) ++ each_after_space (map written (map content_text contents))) (each_after_space (map written ts))
+    ∙ ap (λ (t : List ℕ). codes " " ++ t)
+    (append_assoc (written (content_text c)) (each_after_space (map written (map content_text contents))) (each_after_space (map written ts))
+    ∙ ap (λ (t : List ℕ). written (content_text c) ++ t) (fields-more (map content_text contents) contents ts refl)))
+
+can-more : (contents : List Content) (ts : List (List ℕ)) → CanBeWritten contents → CanBeWritten (contents ++ texts ts)
+can-more [] ts h = texts-can ts
+can-more (Text t ∷ contents) ts h = can-more contents ts h
+can-more (Number n ∷ contents) ts h = (h.0, can-more contents ts h.1)
+
+text-more : (c : Content) (contents : List Content) (ts : List (List ℕ)) (text : List ℕ) → IsCommandText (c ∷ contents) text → IsCommandText (c ∷ (contents ++ texts ts)) (text ++ each_after_space (map written ts))
+text-more c contents ts text h = record {
+  text_is =
+      ap (λ (t : List ℕ). t ++ each_after_space (map written ts)) h.text_is
+      ∙ (append_assoc (written (content_text c)) (each_after_space (map written (map content_text contents))) (each_after_space (map written ts))
+      ∙ ap (λ (t : List ℕ). written (content_text c) ++ t) (fields-more (map content_text contents) contents ts refl));
+  can = can-more (c ∷ contents) ts h.can;
 }
-result-of e nth word words (Err error) are is h = record { text = tt; read = tt; feed = λ k. rw are (h.feed k) }
 
--- the text of a command's words, put behind its first ones
-said-text : (nth : Option ℕ) (word : List ℕ) (first others : List (List ℕ)) (begun line done : List ℕ) → begun ≡ line_with (after_nth nth (word ∷ []))
-    → line ≡ begun ++ each_after_space (map written first) → done ≡ line ++ each_after_space (map written others) → done ≡ line_with (after_nth nth (word ∷ (first ++ others)))
-said-text nth word first others begun line done e f g =
-    g
-    ∙ (ap (λ (t : List ℕ). t ++ each_after_space (map written others)) (f ∙ ap (λ (t : List ℕ). t ++ each_after_space (map written first)) e)
-    ∙ (append_assoc (line_with (after_nth nth (word ∷ []))) (each_after_space (map written first)) (each_after_space (map written others))
-    ∙ (ap (λ (t : List ℕ). line_with (after_nth nth (word ∷ [])) ++ t) (both first) ∙ longer nth (first ++ others))))
+nth-more : (nth : Option ℕ) (word : List ℕ) (ts : List (List ℕ)) (text : List ℕ) → IsCommandText (after_nth nth (texts (word ∷ []))) text
+    → IsCommandText (after_nth nth (texts (word ∷ ts))) (text ++ each_after_space (map written ts))
+nth-more None word ts text h = text-more (Text word) [] ts text h
+nth-more (Some n) word ts text h = text-more (Text (codes "nth")) (Number n ∷ Text word ∷ []) ts text h
+
+-- two lists of fields behind a word
+pub said-more : (nth : Option ℕ) (word : List ℕ) (first others : List (List ℕ)) (begun line done : List ℕ) → IsCommandText (after_nth nth (texts (word ∷ []))) begun
+    → line ≡ begun ++ each_after_space (map written first) → done ≡ line ++ each_after_space (map written others)
+    → IsCommandText (after_nth nth (texts (word ∷ (first ++ others)))) done
+said-more nth word first others begun line done h e f =
+    let whole : begun ++ each_after_space (map written (first ++ others)) ≡ done =
+    ap (λ (t : List ℕ). begun ++ t) (sym (both first))
+    ∙ (sym (append_assoc begun (each_after_space (map written first)) (each_after_space (map written others)))
+    ∙ (ap (λ (t : List ℕ). t ++ each_after_space (map written others)) (sym e) ∙ sym f)) in
+    subst (λ (t : List ℕ). IsCommandText (after_nth nth (texts (word ∷ (first ++ others)))) t) whole (nth-more nth word (first ++ others) begun h)
   where
     both : (fs : List (List ℕ)) → each_after_space (map written fs) ++ each_after_space (map written others) ≡ each_after_space (map written (fs ++ others))
     both [] = refl
@@ -239,25 +265,7 @@ said-text nth word first others begun line done e f g =
         append_assoc (codes " ") (written f ++ each_after_space (map written fs)) (each_after_space (map written others))
         ∙ ap (λ (t : List ℕ). codes " " ++ t) (append_assoc (written f) (each_after_space (map written fs)) (each_after_space (map written others)) ∙ ap (λ (t : List ℕ). written f ++ t) (both fs))
 
-    longer : (nth : Option ℕ) (fs : List (List ℕ)) → line_with (after_nth nth (word ∷ [])) ++ each_after_space (map written fs) ≡ line_with (after_nth nth (word ∷ fs))
-    longer None fs = ap (λ (t : List ℕ). t ++ each_after_space (map written fs)) (append-nil (written word))
-    longer (Some n) fs =
-        append_assoc (written (codes "nth")) (codes " " ++ (written (decimal n) ++ (codes " " ++ (written word ++ [])))) (each_after_space (map written fs))
-        ∙ ap (λ (t : List ℕ). written (codes "nth") ++ t)
-        (append_assoc (codes " ") (written (decimal n) ++ (codes " " ++ (written word ++ []))) (each_after_space (map written fs))
-        ∙ ap (λ (t : List ℕ). codes " " ++ t)
-        (append_assoc (written (decimal n)) (codes " " ++ (written word ++ [])) (each_after_space (map written fs))
-        ∙ ap (λ (t : List ℕ). written (decimal n) ++ t) (append_assoc (codes " ") (written word ++ []) (each_after_space (map written fs)) ∙ ap (λ (t : List ℕ). codes " " ++ (t ++ each_after_space (map written fs))) (append-nil (written word)))))
-
--- their line
-pub said-of : {A : Type 0} → (nth : Option ℕ) (word : List ℕ) (first others : List (List ℕ)) (begun line done : List ℕ) (whole : Vec ℕ A) → begun ≡ line_with (after_nth nth (word ∷ []))
-    → line ≡ begun ++ each_after_space (map written first) → done ≡ line ++ each_after_space (map written others) → has_line_feed done ≡ false → whole.items ≡ done ++ codes "\n"
-    → ((words : List (List ℕ)) → IsAfterNth nth (after_nth nth words) words) → IsLineOf nth (word ∷ (first ++ others)) whole.items
-said-of nth word first others begun line done whole e f g none put after =
-    let is = said-text nth word first others begun line done e f g in
-    record { text = put ∙ ap (λ (t : List ℕ). t ++ codes "\n") is; one = rw (sym is) none; after = after (word ∷ (first ++ others)) }
-
--- or why there is none
-pub no-line : {A : Type 0} → (nth : Option ℕ) (word : List ℕ) (first others : List (List ℕ)) (begun line done : List ℕ) → begun ≡ line_with (after_nth nth (word ∷ []))
-    → line ≡ begun ++ each_after_space (map written first) → done ≡ line ++ each_after_space (map written others) → has_line_feed done ≡ true → IsSaid {A = A} nth (word ∷ (first ++ others)) (Err LineFeed)
-no-line nth word first others begun line done e f g some = record { line = tt; feed = λ k. rw (sym (said-text nth word first others begun line done e f g)) some }
+-- the command of an edit and a line feed are a script that is this edit
+pub edit-only : (e : Edit) (text line : List ℕ) → IsCommandText (command_fields (Apply e)) text → has_line_feed text ≡ false → line ≡ text ++ codes "\n" → SaysOnly line e
+edit-only e text line h none is =
+    says-only (fields_of e) e line (is ∙ ap (λ (t : List ℕ). t ++ codes "\n") h.text_is) (sym (ap has_line_feed h.text_is) ∙ none) (contents-had (command_fields (Apply e)) h.can)

@@ -1,19 +1,26 @@
 -- The table of commands: which fields each of them has.
 -- Told in docs/EDITS.md, "The script".
-use Rattle.std.specs.Prelude.{◌≡◌, ℕ, Bool, true, false, List, [], ◌∷◌, ◌++◌, Option, Some, None, codes}
+use Rattle.std.specs.Prelude.{◌≡◌, ℕ, Bool, true, false, List, [], ◌∷◌, ◌++◌, map, Option, Some, None, codes}
 use Rattle.mk_class.specs.OperatorTexts.{operator_text}
 use Rattle.mk_edit_language.specs.Edits.{Place, Bottom, BeforeVar, AfterVar, BeforeRule, NewAssign, NewRule, One, Every, ValueChange, Set, Append, Add, Remove, AddPrereq, RemovePrereq, ByNumber, ByText, Last, At, OfAssign, OfRule, OfRecipe, Edit, ChangeValue, ChangePrereqs, AddLine, AddRecipe, SetRecipe, RemoveLines, RenameTarget}
 use Rattle.mk_edit_language.specs.NewLines.{rule_separator_text}
 use Rattle.mk_history.specs.Machine.{Command, Apply, Undo, Redo, Begin, End, Cancel}
-use Rattle.mk_script.specs.Numbers.{IsNumber}
+use Rattle.mk_script.specs.Numbers.{number}
+
+-- what a field of a command has: a text; or a number, which stands there in digits
+pub data Content : Type 0 where
+  Text : List ℕ → Content
+  Number : ℕ → Content
+
+abbrev pub texts : List (List ℕ) → List Content
+texts ts = map Text ts
 
 -- ---- addresses and places
 
--- some words, after `nth` and a number if there is one
-abbrev pub IsAfterNth : (nth : Option ℕ) → (fields words : List (List ℕ)) → Type 0
-IsAfterNth None fields words = fields ≡ words
-IsAfterNth (Some n) fields words =
-    (digits : List ℕ) × IsNumber digits n × (fields ≡ codes "nth" ∷ digits ∷ words)
+-- some fields, after `nth` and a number if there is one
+abbrev pub after_nth : (nth : Option ℕ) → (fields : List Content) → List Content
+after_nth None fields = fields
+after_nth (Some n) fields = Text (codes "nth") ∷ Number n ∷ fields
 
 -- the words of a place
 abbrev pub place_words : Place → List (List ℕ)
@@ -43,44 +50,58 @@ change_words name (Remove word) = codes "drop" ∷ name ∷ word ∷ []
 
 -- ---- the table
 
+-- the fields of a command
+abbrev pub command_fields : Command Edit → List Content
+command_fields (Apply (ChangeValue (One nth) name change)) =
+    after_nth nth (texts (change_words name change))
+command_fields (Apply (ChangeValue Every name change)) =
+    texts (codes "all" ∷ change_words name change)
+command_fields (Apply (AddLine place (NewAssign name flavor value))) =
+    after_nth (nth_of_place place)
+    (texts (codes "assign" ∷ (place_words place ++ name ∷ operator_text flavor ∷ value ∷ [])))
+command_fields (Apply (RemoveLines (OfAssign nth name))) =
+    after_nth nth (texts (codes "unset" ∷ name ∷ []))
+command_fields (Apply (AddLine place (NewRule targets separator prereqs))) =
+    after_nth (nth_of_place place)
+    (texts
+    (codes "rule" ∷ (place_words place ++ targets ∷ rule_separator_text separator ∷ prereqs ∷ [])))
+command_fields (Apply (RemoveLines (OfRule nth target))) =
+    after_nth nth (texts (codes "unrule" ∷ target ∷ []))
+command_fields (Apply (ChangePrereqs nth target (AddPrereq order word))) =
+    after_nth nth (texts (depend_word order ∷ target ∷ word ∷ []))
+command_fields (Apply (ChangePrereqs nth target (RemovePrereq word))) =
+    after_nth nth (texts (codes "undepend" ∷ target ∷ word ∷ []))
+command_fields (Apply (AddRecipe nth target Last line)) =
+    after_nth nth (texts (codes "recipe" ∷ target ∷ line ∷ []))
+command_fields (Apply (AddRecipe nth target (At n) line)) =
+    after_nth nth (Text (codes "recipe-insert") ∷ Text target ∷ Number n ∷ texts (line ∷ []))
+command_fields (Apply (SetRecipe nth target (ByNumber n) line)) =
+    after_nth nth (Text (codes "recipe-set") ∷ Text target ∷ Number n ∷ texts (line ∷ []))
+command_fields (Apply (SetRecipe nth target (ByText old) line)) =
+    after_nth nth (texts (codes "recipe-replace" ∷ target ∷ old ∷ line ∷ []))
+command_fields (Apply (RemoveLines (OfRecipe nth target (ByNumber n)))) =
+    after_nth nth (Text (codes "recipe-del") ∷ Text target ∷ Number n ∷ [])
+command_fields (Apply (RemoveLines (OfRecipe nth target (ByText old)))) =
+    after_nth nth (texts (codes "recipe-remove" ∷ target ∷ old ∷ []))
+command_fields (Apply (RenameTarget old new)) = texts (codes "rename" ∷ old ∷ new ∷ [])
+command_fields Undo = texts (codes "undo" ∷ [])
+command_fields Redo = texts (codes "redo" ∷ [])
+command_fields Begin = texts (codes "begin" ∷ [])
+command_fields End = texts (codes "end" ∷ [])
+command_fields Cancel = texts (codes "cancel" ∷ [])
+
+-- a field of a line has this
+abbrev Has : (field : List ℕ) → Content → Type 0
+Has field (Text t) = field ≡ t
+Has field (Number n) = number field ≡ Some n
+
+-- fields of a line have these, each in its place
+abbrev pub HaveContents : (fields : List (List ℕ)) → List Content → Type 0
+HaveContents [] [] = Unit {0}
+HaveContents [] (c ∷ contents) = ⊥
+HaveContents (field ∷ fields) [] = ⊥
+HaveContents (field ∷ fields) (c ∷ contents) = Has field c × HaveContents fields contents
+
 -- some fields are this command
 abbrev pub IsCommand : (fields : List (List ℕ)) → Command Edit → Type 0
-IsCommand fields (Apply (ChangeValue (One nth) name change)) =
-    IsAfterNth nth fields (change_words name change)
-IsCommand fields (Apply (ChangeValue Every name change)) =
-    fields ≡ codes "all" ∷ change_words name change
-IsCommand fields (Apply (AddLine place (NewAssign name flavor value))) =
-    IsAfterNth (nth_of_place place) fields
-    (codes "assign" ∷ (place_words place ++ name ∷ operator_text flavor ∷ value ∷ []))
-IsCommand fields (Apply (RemoveLines (OfAssign nth name))) =
-    IsAfterNth nth fields (codes "unset" ∷ name ∷ [])
-IsCommand fields (Apply (AddLine place (NewRule targets separator prereqs))) =
-    IsAfterNth (nth_of_place place) fields
-    (codes "rule" ∷ (place_words place ++ targets ∷ rule_separator_text separator ∷ prereqs ∷ []))
-IsCommand fields (Apply (RemoveLines (OfRule nth target))) =
-    IsAfterNth nth fields (codes "unrule" ∷ target ∷ [])
-IsCommand fields (Apply (ChangePrereqs nth target (AddPrereq order word))) =
-    IsAfterNth nth fields (depend_word order ∷ target ∷ word ∷ [])
-IsCommand fields (Apply (ChangePrereqs nth target (RemovePrereq word))) =
-    IsAfterNth nth fields (codes "undepend" ∷ target ∷ word ∷ [])
-IsCommand fields (Apply (AddRecipe nth target Last line)) =
-    IsAfterNth nth fields (codes "recipe" ∷ target ∷ line ∷ [])
-IsCommand fields (Apply (AddRecipe nth target (At number) line)) =
-    (digits : List ℕ) × IsNumber digits number
-    × IsAfterNth nth fields (codes "recipe-insert" ∷ target ∷ digits ∷ line ∷ [])
-IsCommand fields (Apply (SetRecipe nth target (ByNumber number) line)) =
-    (digits : List ℕ) × IsNumber digits number
-    × IsAfterNth nth fields (codes "recipe-set" ∷ target ∷ digits ∷ line ∷ [])
-IsCommand fields (Apply (SetRecipe nth target (ByText old) line)) =
-    IsAfterNth nth fields (codes "recipe-replace" ∷ target ∷ old ∷ line ∷ [])
-IsCommand fields (Apply (RemoveLines (OfRecipe nth target (ByNumber number)))) =
-    (digits : List ℕ) × IsNumber digits number
-    × IsAfterNth nth fields (codes "recipe-del" ∷ target ∷ digits ∷ [])
-IsCommand fields (Apply (RemoveLines (OfRecipe nth target (ByText old)))) =
-    IsAfterNth nth fields (codes "recipe-remove" ∷ target ∷ old ∷ [])
-IsCommand fields (Apply (RenameTarget old new)) = fields ≡ codes "rename" ∷ old ∷ new ∷ []
-IsCommand fields Undo = fields ≡ codes "undo" ∷ []
-IsCommand fields Redo = fields ≡ codes "redo" ∷ []
-IsCommand fields Begin = fields ≡ codes "begin" ∷ []
-IsCommand fields End = fields ≡ codes "end" ∷ []
-IsCommand fields Cancel = fields ≡ codes "cancel" ∷ []
+IsCommand fields command = HaveContents fields (command_fields command)

@@ -1,6 +1,6 @@
 -- How the fields of a line are read: one after the other, from the front.
 -- Told in docs/ARCHITECTURE.md, "From a script to a text".
-use Rattle.std.specs.Prelude.{◌≡◌, ℕ, Bool, true, false, not, ◌==◌, if◌then◌else◌, List, [], ◌∷◌, take, drop, Option, Some, None, option_map}
+use Rattle.std.specs.Prelude.{◌≡◌, ℕ, zero, suc, Bool, true, false, not, ◌==◌, if◌then◌else◌, List, [], ◌∷◌, take, drop, Option, Some, None, option_map, option_and_then}
 use Rattle.std.specs.List.{prefix_len}
 use Rattle.mk_lines.specs.Bytes.{is_blank_byte}
 use Rattle.mk_script.specs.Fields.{is_special, escaped}
@@ -78,26 +78,12 @@ field_at_front (b ∷ text) =
 abbrev pub first_field : List ℕ → Option (List ℕ × List ℕ)
 first_field line = field_at_front (after_blanks line)
 
--- the field of a line that has exactly one
-abbrev pub last_field : Option (List ℕ × List ℕ) → Option (List ℕ)
-last_field None = None
-last_field (Some p) = if is_blank p.1 then Some p.0 else None
-
-abbrev pub one_field : List ℕ → Option (List ℕ)
-one_field line = last_field (first_field line)
-
--- the fields of a line that has exactly two
-abbrev pub with_one : Option (List ℕ × List ℕ) → Option (List ℕ × List ℕ)
-with_one None = None
-with_one (Some p) = option_map (λ f. (p.0, f)) (one_field p.1)
-
-abbrev pub two_fields : List ℕ → Option (List ℕ × List ℕ)
-two_fields line = with_one (first_field line)
-
--- the fields of a line that has exactly three
-abbrev pub with_two : Option (List ℕ × List ℕ) → Option (List ℕ × List ℕ × List ℕ)
-with_two None = None
-with_two (Some p) = option_map (λ q. (p.0, q.0, q.1)) (two_fields p.1)
-
-abbrev pub three_fields : List ℕ → Option (List ℕ × List ℕ × List ℕ)
-three_fields line = with_two (first_field line)
+-- the fields of a line that has at most so many
+abbrev pub fields_within : (most : ℕ) → (line : List ℕ) → Option (List (List ℕ))
+fields_within zero line = if is_blank line then Some [] else None
+fields_within (suc most) line =
+    if is_blank line
+    then Some []
+    else option_and_then
+    (λ (p : List ℕ × List ℕ). option_map (λ fields. p.0 ∷ fields) (fields_within most p.1))
+    (first_field line)

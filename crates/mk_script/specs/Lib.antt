@@ -15,7 +15,6 @@ pub mod WordReading
 -- # Vocabulary of private contracts
 -- How the code reads a line: what the contracts within this crate say
 pub mod FieldReading
-pub mod NumberReading
 pub mod ReaderAnswers
 pub mod SeenFields
 pub mod CommandReading

@@ -1,12 +1,19 @@
 -- The numbers of a script.
 -- Told in docs/EDITS.md, "The script".
-use Rattle.std.specs.Prelude.{◌≡◌, ◌≤◌, ℕ, List, length}
-use Rattle.std.specs.Str.Parse.{IsNumeral, digits_value}
+use Rattle.std.specs.Prelude.{ℕ, Bool, not, ◌&&◌, nat_lt, if◌then◌else◌, List, length, Option, Some, None}
+use Rattle.std.specs.List.{list_all}
+use Rattle.std.specs.Char.{is_ascii_digit}
+use Rattle.std.specs.Str.Parse.{digits_value}
 
--- One to ten decimal digits write a number, which is at most 4,294,967,295. Leading zeros are
--- digits.
-pub record IsNumber (digits : List ℕ) (number : ℕ) : Type 0 where
-  pub numeral : IsNumeral 10 digits
-  pub short : length digits ≤ 10
-  pub value : digits_value 10 digits ≡ number
-  pub small : number ≤ 4294967295
+-- whether a text is one to ten decimal digits of a value that is at most 4,294,967,295; leading zeros
+-- are digits
+abbrev pub is_number : List ℕ → Bool
+is_number digits =
+    not (nat_lt 10 (length digits))
+    && nat_lt 0 (length digits)
+    && list_all is_ascii_digit digits
+    && nat_lt (digits_value 10 digits) 4294967296
+
+-- the number that a text writes
+abbrev pub number : List ℕ → Option ℕ
+number digits = if is_number digits then Some (digits_value 10 digits) else None

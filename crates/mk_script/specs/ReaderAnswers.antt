@@ -1,17 +1,15 @@
 -- What the readers of a line answer.
 -- Told in docs/ARCHITECTURE.md, "From a script to a text".
-use Rattle.std.specs.Prelude.{◌≡◌, ℕ, Bool, true, false, ◌||◌, ◌==◌, List, [], ◌∷◌, ◌++◌, Option, Some, None, Result, Ok, Err, is_some}
-use Rattle.std.specs.Borrow.{Bor}
+use Rattle.std.specs.Prelude.{◌≡◌, ℕ, Bool, true, false, ◌||◌, ◌==◌, List, [], ◌∷◌, ◌++◌, Option, Some, None, Result, Ok, Err, Vec, is_some}
 use Rattle.mk_edit_language.specs.Edits as edits
 use Rattle.mk_history.specs.Machine.{Apply}
 use Rattle.mk_script.specs.Lines.{Saying}
 use Rattle.mk_script.specs.Scripts.{Step, Alone, Tried, Chain, SayingAt, sayings}
 use Rattle.mk_script.specs.FieldReading.{is_blank}
-use Rattle.mk_script.specs.SeenFields.{field_text}
 use Rattle.mk_script.specs.declared.fault.LineFault.{LineFault}
 use Rattle.mk_script.specs.declared.fault.LineFault.TheVariants.{NotACommand, NoMemory}
-use Rattle.mk_script.specs.declared.edit.WrittenPlace.{WrittenPlace}
-use Rattle.mk_script.specs.declared.edit.WrittenPlace.TheVariants as written
+use Rattle.mk_script.specs.declared.edit.Which.{Which}
+use Rattle.mk_script.specs.declared.edit.Which.TheVariants as which
 
 -- A reader found in a text what stands there, as `seen` sees it; or it answered an error, and
 -- nothing stands there.
@@ -29,16 +27,20 @@ abbrev pub IsRead : {V X : Type 0} → (seen : V → X) → Option X → Result 
 IsRead seen stands (Ok v) = stands ≡ Some (seen v)
 IsRead seen stands (Err fault) = is_some stands ≡ is_short fault
 
--- a place whose text is still in the line
-abbrev pub written_place : WrittenPlace → edits.Place
-written_place written.Bottom = edits.Bottom
-written_place (written.BeforeVar nth name) = edits.BeforeVar nth (field_text name)
-written_place (written.AfterVar nth name) = edits.AfterVar nth (field_text name)
-written_place (written.BeforeRule nth target) = edits.BeforeRule nth (field_text target)
+-- which assignments an edit means
+abbrev pub which_of : Which → edits.Which
+which_of which.Every = edits.Every
+which_of (which.One nth) = edits.One nth
 
--- such a place, and what follows it
-abbrev pub place_and_rest : WrittenPlace × Bor (List ℕ) → edits.Place × List ℕ
-place_and_rest p = (written_place p.0, p.1.now)
+-- two texts that are copied; three; two with a number between them
+abbrev pub copied_two : {A : _} → Vec ℕ A × Vec ℕ A → List ℕ × List ℕ
+copied_two p = (p.0.items, p.1.items)
+
+abbrev pub copied_three : {A : _} → Vec ℕ A × Vec ℕ A × Vec ℕ A → List ℕ × List ℕ × List ℕ
+copied_three p = (p.0.items, p.1.items, p.2.items)
+
+abbrev pub copied_numbered : {A : _} → Vec ℕ A × ℕ × Vec ℕ A → List ℕ × ℕ × List ℕ
+copied_numbered p = (p.0.items, p.1, p.2.items)
 
 -- whether a line begins with `#`
 abbrev pub begins_comment : List ℕ → Bool

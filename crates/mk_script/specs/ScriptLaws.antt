@@ -1,10 +1,10 @@
 -- Laws of lines and of scripts. Each law is the contract of a public function.
 -- Told in docs/PROOFS.md, "Scripts (mk_script)".
-use Rattle.std.specs.Prelude.{◌≡◌, ◌⊎◌, ◌↔◌, ℕ, ◌≤◌, List, [], ◌∷◌, ◌++◌, map, Option, Some, None, codes}
-use Rattle.mk_edit_language.specs.Edits.{One, Every, ByNumber, ByText, Last, At, OfAssign, OfRule, OfRecipe, Edit, ChangeValue, ChangePrereqs, AddLine, AddRecipe, SetRecipe, RemoveLines, RenameTarget}
+use Rattle.std.specs.Prelude.{◌≡◌, ◌⊎◌, ◌↔◌, ℕ, ◌≤◌, List, [], ◌∷◌, ◌++◌, map, codes}
+use Rattle.mk_edit_language.specs.Edits.{Every, Edit, ChangeValue}
 use Rattle.mk_history.specs.Machine.{Command, Apply}
 use Rattle.mk_script.specs.Fields.{quoted, HasFields}
-use Rattle.mk_script.specs.CommandTable.{nth_of_place, IsCommand}
+use Rattle.mk_script.specs.CommandTable.{Content, Text, Number, command_fields, IsCommand}
 use Rattle.mk_script.specs.Lines.{IsSkipped, Saying, Plain, Try, Or, Says}
 use Rattle.mk_script.specs.Scripts.{CommandAt, Step, Alone, IsScript, HasNoCommand}
 use Rattle.mk_script.specs.ScriptsOfCommands.{IsScriptOfCommands, IsFaultOfCommands}
@@ -33,39 +33,16 @@ LineSaysOneThing =
 abbrev pub SkippedLineSaysNothing : Type 0
 SkippedLineSaysNothing = (line : List ℕ) (saying : Saying) → IsSkipped line → Says line saying → ⊥
 
--- a number that a script can write
-abbrev pub CanBeWritten : Option ℕ → Type 0
-CanBeWritten None = Unit {0}
-CanBeWritten (Some n) = n ≤ 4294967295
-
--- an edit whose numbers a script can write
-abbrev pub HasNumbersOfScripts : Edit → Type 0
-HasNumbersOfScripts (ChangeValue (One nth) name change) = CanBeWritten nth
-HasNumbersOfScripts (ChangeValue Every name change) = Unit {0}
-HasNumbersOfScripts (ChangePrereqs nth target change) = CanBeWritten nth
-HasNumbersOfScripts (AddLine place line) = CanBeWritten (nth_of_place place)
-HasNumbersOfScripts (AddRecipe nth target Last line) = CanBeWritten nth
-HasNumbersOfScripts (AddRecipe nth target (At number) line) =
-    CanBeWritten nth × (number ≤ 4294967295)
-HasNumbersOfScripts (SetRecipe nth target (ByNumber number) line) =
-    CanBeWritten nth × (number ≤ 4294967295)
-HasNumbersOfScripts (SetRecipe nth target (ByText old) line) = CanBeWritten nth
-HasNumbersOfScripts (RemoveLines (OfAssign nth name)) = CanBeWritten nth
-HasNumbersOfScripts (RemoveLines (OfRule nth target)) = CanBeWritten nth
-HasNumbersOfScripts (RemoveLines (OfRecipe nth target (ByNumber number))) =
-    CanBeWritten nth × (number ≤ 4294967295)
-HasNumbersOfScripts (RemoveLines (OfRecipe nth target (ByText old))) = CanBeWritten nth
-HasNumbersOfScripts (RenameTarget old new) = Unit {0}
-
--- a command whose numbers a script can write
-abbrev pub HasNumbers : Command Edit → Type 0
-HasNumbers (Apply e) = HasNumbersOfScripts e
-HasNumbers command = Unit {0}
+-- fields whose numbers a script can write
+abbrev pub CanBeWritten : List Content → Type 0
+CanBeWritten [] = Unit {0}
+CanBeWritten (Text t ∷ contents) = CanBeWritten contents
+CanBeWritten (Number n ∷ contents) = (n ≤ 4294967295) × CanBeWritten contents
 
 abbrev HasLine : Saying → Type 0
-HasLine (Plain command) = HasNumbers command
-HasLine (Try e) = HasNumbersOfScripts e
-HasLine (Or e) = HasNumbersOfScripts e
+HasLine (Plain command) = CanBeWritten (command_fields command)
+HasLine (Try e) = CanBeWritten (command_fields (Apply e))
+HasLine (Or e) = CanBeWritten (command_fields (Apply e))
 
 -- Each thing that a line may say has a line.
 abbrev pub EachSayingHasALine : Type 0

@@ -1,63 +1,32 @@
--- The words of a script, in tables: those of calls, edits, places, operators and separators.
+-- The words of a script, in tables.
 -- Told in docs/ARCHITECTURE.md, "From a script to a text".
-use Rattle.std.specs.Prelude.{ℕ, if◌then◌else◌, List, [], ◌∷◌, Option, Some, None, codes}
+use Rattle.std.specs.Prelude.{ℕ, if◌then◌else◌, List, [], ◌∷◌, take, map, Option, Some, None}
 use Rattle.std.specs.Str.{bytes_eq}
 use Rattle.mk_class.specs.declared.assignment.Flavor.{Flavor}
-use Rattle.mk_class.specs.declared.assignment.Flavor.TheVariants.{Recursive, Simple, PosixSimple, Immediate, Conditional, Append, Shell}
-use Rattle.mk_class.specs.OperatorTexts.{operator_text}
-use Rattle.mk_edit_language.specs.Edits.{Edit}
-use Rattle.mk_edit_language.specs.NewLines.{rule_separator_text}
 use Rattle.mk_edit_language.specs.declared.edit.RuleSeparator.{RuleSeparator}
-use Rattle.mk_edit_language.specs.declared.edit.RuleSeparator.TheVariants.{Single, Double}
-use Rattle.mk_history.specs.Machine.{Command, Undo, Redo, Begin, End, Cancel}
-use Rattle.mk_script.specs.declared.word.ChangeWord.{ChangeWord}
-use Rattle.mk_script.specs.declared.word.ChangeWord.TheVariants as change
-use Rattle.mk_script.specs.declared.word.EditWord.{EditWord}
-use Rattle.mk_script.specs.declared.word.EditWord.TheVariants as word
+use Rattle.mk_script.specs.FieldReading.{bare_len}
+use Rattle.mk_script.specs.declared.table.Word.{Word}
+use Rattle.mk_script.specs.declared.table.TheConstants.{COMMANDS}
 use Rattle.mk_script.specs.declared.word.PlaceWord.{PlaceWord}
-use Rattle.mk_script.specs.declared.word.PlaceWord.TheVariants as place
+use Rattle.mk_script.specs.declared.word.TheConstants.{PLACES, OPERATORS, SEPARATORS}
 
 -- what the first pair of a table with this text has
 abbrev pub named : {K : Type 0} → List (K × List ℕ) → List ℕ → Option K
 named [] text = None
 named (entry ∷ table) text = if bytes_eq text entry.1 then Some entry.0 else named table text
 
--- the calls of a session that have no edit
-abbrev pub calls : List (Command Edit × List ℕ)
-calls =
-    (Undo, codes "undo") ∷ (Redo, codes "redo") ∷ (Begin, codes "begin") ∷ (End, codes "end")
-    ∷ (Cancel, codes "cancel") ∷ []
+-- the word of a command, with which its form begins
+abbrev pub word_text : (form : List ℕ) → List ℕ
+word_text form = take (bare_len form) form
 
--- the words of edits
-abbrev pub edit_words : List (EditWord × List ℕ)
-edit_words =
-    (word.Set, codes "set") ∷ (word.Append, codes "append") ∷ (word.Add, codes "add")
-    ∷ (word.Drop, codes "drop") ∷ (word.Unset, codes "unset")
-    ∷ (word.Assign, codes "assign") ∷ (word.Rule, codes "rule") ∷ (word.Unrule, codes "unrule")
-    ∷ (word.Depend, codes "depend") ∷ (word.DependOrder, codes "depend-order")
-    ∷ (word.Undepend, codes "undepend") ∷ (word.Recipe, codes "recipe")
-    ∷ (word.RecipeSet, codes "recipe-set") ∷ (word.RecipeDel, codes "recipe-del")
-    ∷ (word.RecipeInsert, codes "recipe-insert") ∷ (word.RecipeReplace, codes "recipe-replace")
-    ∷ (word.RecipeRemove, codes "recipe-remove") ∷ (word.Rename, codes "rename") ∷ []
+abbrev pub words : List (Word × List ℕ)
+words = map (λ row. (row.2, word_text row.0.now)) COMMANDS
 
--- the words of the edits before which `all` may stand
-abbrev pub value_words : List (ChangeWord × List ℕ)
-value_words =
-    (change.Set, codes "set") ∷ (change.Append, codes "append") ∷ (change.Add, codes "add")
-    ∷ (change.Drop, codes "drop") ∷ []
-
--- the first words of places
 abbrev pub places : List (PlaceWord × List ℕ)
-places =
-    (place.Bottom, codes "bottom") ∷ (place.BeforeVar, codes "before-var")
-    ∷ (place.AfterVar, codes "after-var") ∷ (place.BeforeRule, codes "before-rule") ∷ []
+places = map (λ row. (row.0, row.1.now)) PLACES
 
 abbrev pub operators : List (Flavor × List ℕ)
-operators =
-    (Recursive, operator_text Recursive) ∷ (Simple, operator_text Simple)
-    ∷ (PosixSimple, operator_text PosixSimple) ∷ (Immediate, operator_text Immediate)
-    ∷ (Conditional, operator_text Conditional) ∷ (Append, operator_text Append)
-    ∷ (Shell, operator_text Shell) ∷ []
+operators = map (λ row. (row.0, row.1.now)) OPERATORS
 
 abbrev pub separators : List (RuleSeparator × List ℕ)
-separators = (Single, rule_separator_text Single) ∷ (Double, rule_separator_text Double) ∷ []
+separators = map (λ row. (row.0, row.1.now)) SEPARATORS

@@ -3,17 +3,16 @@
 ghost use Rattle.std.specs.Prelude.{◌≡◌};
 ghost use Rattle.mk_edit_language.specs.CommandViews.{command_of};
 ghost use Rattle.mk_edit_language.specs.EditViews.{edit_of};
-ghost use Rattle.mk_script.specs.SeenFields.{field_text};
-ghost use Rattle.mk_script.specs.CommandReading.{addressed_edit, call_or_edit, edit_line};
-ghost use Rattle.mk_script.specs.WordReading.{calls, named};
+ghost use Rattle.mk_script.specs.SeenFields.{field_texts};
+ghost use Rattle.mk_script.specs.CommandReading.{alone, command_after, edit_after, edit_in};
 ghost use Rattle.mk_script.specs.ReaderAnswers.{IsRead, begins_comment, is_skipped};
 
-use crate::edit::{read_change_values, read_edit};
+use crate::edit::{Which, make_edit};
 use crate::fault::LineFault;
 use crate::field::Field;
-use crate::fields::{first_field, is_blank};
+use crate::fields::{front, is_blank};
 use crate::number::number_of;
-use crate::word::call;
+use crate::table::{Word, front_word};
 use mk_edit_language::{Command, Edit};
 use std::alloc::Allocator;
 
@@ -33,60 +32,73 @@ fn begins_comment(line: &[u8]) -> bool
     }
 }
 
-/// The command of a line without `try` and `or`, from its first field and what follows that field.
-///
-/// # Errors
-///
-/// `NotACommand` if the line is no command; `NoMemory` if it is one, and a growth was refused.
-#[tactic(auto, using(crate::proofs::on_commands::TableLemmas::is_some_mapped))]
-pub(crate) fn read_command<A: Allocator + Copy>(
-    alloc: A,
-    word: Field<'_>,
-    rest: &[u8],
-) -> Result<Command<A>, LineFault>
-    ensures { IsRead command_of (call_or_edit (named calls (field_text word.entry))
-        (field_text word.entry) rest.now) result }
+// A call of a session, if no field stands behind it.
+fn alone<A: Allocator>(call: Command<A>, fields: &[Field<'_>]) -> Result<Command<A>, LineFault>
+    ensures { IsRead command_of (alone (command_of call) (field_texts fields.now)) result }
 {
-    match call(word) {
-        Some(command) if is_blank(rest) => Ok(command),
-        Some(_) => Err(LineFault::NotACommand),
-        None => Ok(Command::Apply(read_addressed(alloc, word, rest)?)),
+    match fields {
+        [] => Ok(call),
+        [_, ..] => Err(LineFault::NotACommand),
     }
 }
 
-/// The edit whose command is a whole text.
+/// The command that a word of the table and the fields behind it are.
 ///
 /// # Errors
 ///
-/// `NotACommand` if the text is no edit's command; `NoMemory` if it is one, and a growth was
-/// refused.
-pub(crate) fn read_edit_line<A: Allocator + Copy>(
+/// `NotACommand` if they are no command; `NoMemory` if they are one, and a growth was refused.
+#[tactic(auto, using(crate::proofs::on_commands::TableLemmas::is_some_mapped))]
+pub(crate) fn read_command<A: Allocator + Copy>(
     alloc: A,
-    text: &[u8],
-) -> Result<Edit<A>, LineFault>
-    ensures { IsRead edit_of (edit_line text.now) result }
+    word: Word,
+    fields: &[Field<'_>],
+) -> Result<Command<A>, LineFault>
+    ensures { IsRead command_of (command_after word (field_texts fields.now)) result }
 {
-    let (word, rest) = first_field(text)?;
-    read_addressed(alloc, word, rest)
+    match word {
+        Word::Undo => alone(Command::Undo, fields),
+        Word::Redo => alone(Command::Redo, fields),
+        Word::Begin => alone(Command::Begin, fields),
+        Word::End => alone(Command::End, fields),
+        Word::Cancel => alone(Command::Cancel, fields),
+        _ => Ok(Command::Apply(read_edit_after(alloc, word, fields)?)),
+    }
 }
 
-// The edit of a line, from its first word, which may be `nth` or `all`, and what follows that word.
-fn read_addressed<A: Allocator + Copy>(
+/// The edit that some fields are.
+///
+/// # Errors
+///
+/// `NotACommand` if they are no edit's command; `NoMemory` if they are one, and a growth was refused.
+pub(crate) fn read_edit<A: Allocator + Copy>(
     alloc: A,
-    word: Field<'_>,
-    rest: &[u8],
+    fields: &[Field<'_>],
 ) -> Result<Edit<A>, LineFault>
-    ensures { IsRead edit_of (addressed_edit (field_text word.entry) rest.now) result }
+    ensures { IsRead edit_of (edit_in (field_texts fields.now)) result }
 {
-    if word.is(b"nth") {
-        let (number, rest) = first_field(rest)?;
-        let nth = number_of(number)?;
-        let (word, rest) = first_field(rest)?;
-        read_edit(alloc, Some(nth), word, rest)
-    } else if word.is(b"all") {
-        let (word, rest) = first_field(rest)?;
-        read_change_values(alloc, word, rest)
-    } else {
-        read_edit(alloc, None, word, rest)
+    let (word, others) = front_word(fields)?;
+    read_edit_after(alloc, word, others)
+}
+
+// The edit that a word, which may be `nth` or `all`, and the fields behind it are.
+fn read_edit_after<A: Allocator + Copy>(
+    alloc: A,
+    word: Word,
+    fields: &[Field<'_>],
+) -> Result<Edit<A>, LineFault>
+    ensures { IsRead edit_of (edit_after word (field_texts fields.now)) result }
+{
+    match word {
+        Word::Nth => {
+            let (number, rest) = front(fields)?;
+            let nth = number_of(number)?;
+            let (word, rest) = front_word(rest)?;
+            make_edit(alloc, Which::One(Some(nth)), word, rest)
+        }
+        Word::All => {
+            let (word, rest) = front_word(fields)?;
+            make_edit(alloc, Which::Every, word, rest)
+        }
+        _ => make_edit(alloc, Which::One(None), word, fields),
     }
 }

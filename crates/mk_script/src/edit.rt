@@ -1,205 +1,225 @@
-//! The edits, read from the fields after their word.
+//! The edits, made from the fields behind their word.
 //!
 //! Fields stay in their line until it is known that they make an edit. Then their bytes are copied,
 //! once each: memory is asked for only if there is an edit.
-ghost use Rattle.std.specs.Prelude.{◌≡◌, IfOk, true, false};
+ghost use Rattle.std.specs.Prelude.{◌≡◌, option_map};
 ghost use Rattle.mk_edit_language.specs.Edits as edits;
 ghost use Rattle.mk_edit_language.specs.EditViews.{edit_of, place_of, value_change_of};
-ghost use Rattle.mk_script.specs.SeenFields.{field_text};
-ghost use Rattle.mk_script.specs.CommandReading.{add_assign_after, add_prereq, add_recipe, add_rule_after, change_by_word, change_with, edit, insert_recipe, numbered_line_after, of_one, of_three, of_two, place_at_front, remove_assign, remove_prereq, remove_recipe, remove_recipe_after, remove_rule, rename_target_of, replace_recipe, set_recipe, value_edit};
-ghost use Rattle.mk_script.specs.FieldReading.{three_fields, two_fields};
-ghost use Rattle.mk_script.specs.WordReading.{named, value_words};
-ghost use Rattle.mk_script.specs.declared.word.ChangeWord.TheVariants as change;
-ghost use Rattle.mk_script.specs.ReaderAnswers.{IsFound, IsRead, place_and_rest, written_place};
+ghost use Rattle.mk_script.specs.SeenFields.{field_texts};
+ghost use Rattle.mk_script.specs.CommandReading.{add_line, before_three, edit_with, last_three, line_edit, new_assign, new_rule, numbered, place_in, recipe_edit, three, two};
+ghost use Rattle.mk_script.specs.ReaderAnswers.{IsRead, copied_numbered, copied_three, copied_two, which_of};
 
-use crate::fault::{LineFault, NotThere};
+use crate::fault::LineFault;
 use crate::field::Field;
-use crate::fields::{first_field, one_field, three_fields, two_fields};
+use crate::fields::{front, one, three, two};
 use crate::number::number_of;
-use crate::word::{
-    ChangeWord, EditWord, PlaceWord, change_word, edit_word, flavor, place_word, rule_separator,
-};
+use crate::table::Word;
+use crate::word::{PlaceWord, flavor, place_word, rule_separator};
 use mk_edit_language::{Edit, Place, ValueChange};
-use std::alloc::{AllocError, Allocator};
+use std::alloc::Allocator;
 
-/// A place whose text is still in the line.
-#[derive(Clone, Copy)]
-pub(crate) enum WrittenPlace<'a> {
-    Bottom,
-    BeforeVar(Option<u32>, Field<'a>),
-    AfterVar(Option<u32>, Field<'a>),
-    BeforeRule(Option<u32>, Field<'a>),
+/// Which assignments an edit of a value means.
+#[derive(Clone, Copy, Debug)]
+pub(crate) enum Which {
+    /// The one of this number, from 1, or the only one.
+    One(Option<u32>),
+    /// Each.
+    Every,
 }
 
-impl<'a> WrittenPlace<'a> {
-    // The place with a text of its own.
-    fn to_place<A: Allocator>(self, alloc: A) -> Result<Place<A>, AllocError>
-        ensures { IfOk result (λ place. place_of place ≡ written_place self.entry) }
-    {
-        match self {
-            WrittenPlace::Bottom => Ok(Place::Bottom),
-            WrittenPlace::BeforeVar(nth, name) => {
-                let name = name.to_vec(alloc)?;
-                Ok(Place::BeforeVar { nth, name })
-            }
-            WrittenPlace::AfterVar(nth, name) => {
-                let name = name.to_vec(alloc)?;
-                Ok(Place::AfterVar { nth, name })
-            }
-            WrittenPlace::BeforeRule(nth, target) => {
-                let target = target.to_vec(alloc)?;
-                Ok(Place::BeforeRule { nth, target })
-            }
-        }
-    }
-}
-
-// The place at the front of a text, and what follows it. No number may stand before `bottom`.
-fn place_at_front(nth: Option<u32>, text: &[u8]) -> Result<(WrittenPlace<'_>, &[u8]), NotThere>
-    ensures { IsFound place_and_rest (place_at_front nth text.now) result }
+// The place that some fields are. No number may stand before `bottom`.
+fn make_place<A: Allocator + Copy>(
+    alloc: A,
+    nth: Option<u32>,
+    fields: &[Field<'_>],
+) -> Result<Place<A>, LineFault>
+    ensures { IsRead place_of (place_in nth (field_texts fields.now)) result }
 {
-    let (word, rest) = first_field(text)?;
-    match place_word(word) {
-        None => Err(NotThere),
-        Some(PlaceWord::Bottom) => match nth {
-            None => Ok((WrittenPlace::Bottom, rest)),
-            Some(_) => Err(NotThere),
-        },
-        Some(PlaceWord::BeforeVar) => {
-            let (name, rest) = first_field(rest)?;
-            Ok((WrittenPlace::BeforeVar(nth, name), rest))
+    let (word, others) = front(fields)?;
+    let Some(word) = place_word(word) else {
+        return Err(LineFault::NotACommand);
+    };
+    match word {
+        PlaceWord::Bottom => {
+            if nth.is_some() {
+                return Err(LineFault::NotACommand);
+            }
+            match others {
+                [] => Ok(Place::Bottom),
+                [_, ..] => Err(LineFault::NotACommand),
+            }
         }
-        Some(PlaceWord::AfterVar) => {
-            let (name, rest) = first_field(rest)?;
-            Ok((WrittenPlace::AfterVar(nth, name), rest))
+        PlaceWord::BeforeVar => {
+            let name = one(others)?.to_vec(alloc)?;
+            Ok(Place::BeforeVar { nth, name })
         }
-        Some(PlaceWord::BeforeRule) => {
-            let (target, rest) = first_field(rest)?;
-            Ok((WrittenPlace::BeforeRule(nth, target), rest))
+        PlaceWord::AfterVar => {
+            let name = one(others)?.to_vec(alloc)?;
+            Ok(Place::AfterVar { nth, name })
+        }
+        PlaceWord::BeforeRule => {
+            let target = one(others)?.to_vec(alloc)?;
+            Ok(Place::BeforeRule { nth, target })
         }
     }
 }
 
-/// The edit that a word and the fields after it make. A number may stand before the word.
+// The fields before the last three, and these.
+fn split_last_three<'b, 'a>(fields: &'b [Field<'a>]) -> (&'b [Field<'a>], &'b [Field<'a>])
+    ensures place { field_texts result.0.now ≡ before_three (field_texts fields.now) }
+    ensures line { field_texts result.1.now ≡ last_three (field_texts fields.now) }
+{
+    fields.split_at(fields.len().saturating_sub(3))
+}
+
+// Two fields, copied.
+fn two_copied<A: Allocator + Copy>(
+    alloc: A,
+    fields: &[Field<'_>],
+) -> Result<(Vec<u8, A>, Vec<u8, A>), LineFault>
+    ensures { IsRead copied_two (two (field_texts fields.now)) result }
+{
+    let (first, second) = two(fields)?;
+    let first = first.to_vec(alloc)?;
+    let second = second.to_vec(alloc)?;
+    Ok((first, second))
+}
+
+// Three fields, copied.
+fn three_copied<A: Allocator + Copy>(
+    alloc: A,
+    fields: &[Field<'_>],
+) -> Result<(Vec<u8, A>, Vec<u8, A>, Vec<u8, A>), LineFault>
+    ensures { IsRead copied_three (three (field_texts fields.now)) result }
+{
+    let (first, second, third) = three(fields)?;
+    let first = first.to_vec(alloc)?;
+    let second = second.to_vec(alloc)?;
+    let third = third.to_vec(alloc)?;
+    Ok((first, second, third))
+}
+
+// The same, if the second is a number.
+fn numbered_copied<A: Allocator + Copy>(
+    alloc: A,
+    fields: &[Field<'_>],
+) -> Result<(Vec<u8, A>, u32, Vec<u8, A>), LineFault>
+    ensures { IsRead copied_numbered (numbered (field_texts fields.now)) result }
+{
+    let (first, number, third) = three(fields)?;
+    let number = number_of(number)?;
+    let first = first.to_vec(alloc)?;
+    let third = third.to_vec(alloc)?;
+    Ok((first, number, third))
+}
+
+/// The edit that a word of the table and the fields behind it make.
 ///
 /// # Errors
 ///
 /// `NotACommand` if they make no edit; `NoMemory` if they make one, and a growth was refused.
-pub(crate) fn read_edit<A: Allocator + Copy>(
+#[tactic(auto, using(crate::proofs::on_commands::TableLemmas::is_some_mapped))]
+pub(crate) fn make_edit<A: Allocator + Copy>(
     alloc: A,
-    nth: Option<u32>,
-    word: Field<'_>,
-    rest: &[u8],
+    which: Which,
+    word: Word,
+    fields: &[Field<'_>],
 ) -> Result<Edit<A>, LineFault>
-    ensures { IsRead edit_of (edit nth (field_text word.entry) rest.now) result }
+    ensures { IsRead edit_of (edit_with (which_of which) word (field_texts fields.now)) result }
 {
-    let Some(word) = edit_word(word) else {
-        return Err(LineFault::NotACommand);
-    };
     match word {
-        EditWord::Set => read_set(alloc, nth, rest),
-        EditWord::Append => read_append(alloc, nth, rest),
-        EditWord::Add => read_add(alloc, nth, rest),
-        EditWord::Drop => read_drop(alloc, nth, rest),
-        EditWord::Unset => read_unset(alloc, nth, rest),
-        EditWord::Assign => read_assign(alloc, nth, rest),
-        EditWord::Rule => read_rule(alloc, nth, rest),
-        EditWord::Unrule => read_unrule(alloc, nth, rest),
-        EditWord::Depend => read_depend(alloc, false, nth, rest),
-        EditWord::DependOrder => read_depend(alloc, true, nth, rest),
-        EditWord::Undepend => read_undepend(alloc, nth, rest),
-        EditWord::Recipe => read_recipe(alloc, nth, rest),
-        EditWord::RecipeSet => read_recipe_set(alloc, nth, rest),
-        EditWord::RecipeDel => read_recipe_del(alloc, nth, rest),
-        EditWord::RecipeInsert => read_recipe_insert(alloc, nth, rest),
-        EditWord::RecipeReplace => read_recipe_replace(alloc, nth, rest),
-        EditWord::RecipeRemove => read_recipe_remove(alloc, nth, rest),
-        EditWord::Rename => read_rename(alloc, nth, rest),
+        Word::Set => {
+            let (name, value) = two_copied(alloc, fields)?;
+            Ok(changing(which, name, ValueChange::Set(value)))
+        }
+        Word::Append => {
+            let (name, value) = two_copied(alloc, fields)?;
+            Ok(changing(which, name, ValueChange::Append(value)))
+        }
+        Word::Add => {
+            let (name, word) = two_copied(alloc, fields)?;
+            Ok(changing(which, name, ValueChange::Add(word)))
+        }
+        Word::Drop => {
+            let (name, word) = two_copied(alloc, fields)?;
+            Ok(changing(which, name, ValueChange::Remove(word)))
+        }
+        _ => match which {
+            Which::One(nth) => make_line_edit(alloc, nth, word, fields),
+            Which::Every => Err(LineFault::NotACommand),
+        },
     }
 }
 
-// `set NAME VALUE`.
-fn read_set<A: Allocator + Copy>(
-    alloc: A,
-    nth: Option<u32>,
-    rest: &[u8],
-) -> Result<Edit<A>, LineFault>
-    ensures { IsRead edit_of (of_two (value_edit (edits.One nth) change.Set) rest.now) result }
+// The edit of the values of a name.
+fn changing<A: Allocator>(which: Which, name: Vec<u8, A>, change: ValueChange<A>) -> Edit<A>
+    ensures { edit_of result
+        ≡ edits.ChangeValue (which_of which) name.items (value_change_of change) }
 {
-    let (name, value) = two_fields(rest)?;
-    let name = name.to_vec(alloc)?;
-    let value = value.to_vec(alloc)?;
-    Ok(Edit::SetValue { nth, name, value })
+    let nth = match which {
+        Which::Every => return Edit::ChangeValues { name, change },
+        Which::One(nth) => nth,
+    };
+    match change {
+        ValueChange::Set(value) => Edit::SetValue { nth, name, value },
+        ValueChange::Append(value) => Edit::AppendValue { nth, name, value },
+        ValueChange::Add(word) => Edit::AddWord { nth, name, word },
+        ValueChange::Remove(word) => Edit::RemoveWord { nth, name, word },
+    }
 }
 
-// `append NAME VALUE`.
-fn read_append<A: Allocator + Copy>(
+// An edit before which a number may stand, and a rename, before which none may.
+#[tactic(auto, using(crate::proofs::on_commands::TableLemmas::is_some_mapped))]
+fn make_line_edit<A: Allocator + Copy>(
     alloc: A,
     nth: Option<u32>,
-    rest: &[u8],
+    word: Word,
+    fields: &[Field<'_>],
 ) -> Result<Edit<A>, LineFault>
-    ensures { IsRead edit_of (of_two (value_edit (edits.One nth) change.Append) rest.now) result }
+    ensures { IsRead edit_of (line_edit nth word (field_texts fields.now)) result }
 {
-    let (name, value) = two_fields(rest)?;
-    let name = name.to_vec(alloc)?;
-    let value = value.to_vec(alloc)?;
-    Ok(Edit::AppendValue { nth, name, value })
+    match word {
+        Word::Unset => {
+            let name = one(fields)?.to_vec(alloc)?;
+            Ok(Edit::RemoveAssign { nth, name })
+        }
+        Word::Assign => make_assign(alloc, nth, fields),
+        Word::Rule => make_rule(alloc, nth, fields),
+        Word::Unrule => {
+            let target = one(fields)?.to_vec(alloc)?;
+            Ok(Edit::RemoveRule { nth, target })
+        }
+        Word::Depend => make_depend(alloc, false, nth, fields),
+        Word::DependOrder => make_depend(alloc, true, nth, fields),
+        Word::Undepend => {
+            let (target, word) = two_copied(alloc, fields)?;
+            Ok(Edit::RemovePrereq { nth, target, word })
+        }
+        Word::Rename => {
+            if nth.is_some() {
+                return Err(LineFault::NotACommand);
+            }
+            let (from, to) = two_copied(alloc, fields)?;
+            Ok(Edit::RenameTarget { from, to })
+        }
+        _ => make_recipe_edit(alloc, nth, word, fields),
+    }
 }
 
-// `add NAME WORD`.
-fn read_add<A: Allocator + Copy>(
+// `assign PLACE NAME OP VALUE`.
+fn make_assign<A: Allocator + Copy>(
     alloc: A,
     nth: Option<u32>,
-    rest: &[u8],
+    fields: &[Field<'_>],
 ) -> Result<Edit<A>, LineFault>
-    ensures { IsRead edit_of (of_two (value_edit (edits.One nth) change.Add) rest.now) result }
+    ensures { IsRead edit_of (add_line nth new_assign (field_texts fields.now)) result }
 {
-    let (name, word) = two_fields(rest)?;
-    let name = name.to_vec(alloc)?;
-    let word = word.to_vec(alloc)?;
-    Ok(Edit::AddWord { nth, name, word })
-}
-
-// `drop NAME WORD`.
-fn read_drop<A: Allocator + Copy>(
-    alloc: A,
-    nth: Option<u32>,
-    rest: &[u8],
-) -> Result<Edit<A>, LineFault>
-    ensures { IsRead edit_of (of_two (value_edit (edits.One nth) change.Drop) rest.now) result }
-{
-    let (name, word) = two_fields(rest)?;
-    let name = name.to_vec(alloc)?;
-    let word = word.to_vec(alloc)?;
-    Ok(Edit::RemoveWord { nth, name, word })
-}
-
-// `unset NAME`.
-fn read_unset<A: Allocator + Copy>(
-    alloc: A,
-    nth: Option<u32>,
-    rest: &[u8],
-) -> Result<Edit<A>, LineFault>
-    ensures { IsRead edit_of (of_one (remove_assign nth) rest.now) result }
-{
-    let name = one_field(rest)?.to_vec(alloc)?;
-    Ok(Edit::RemoveAssign { nth, name })
-}
-
-// `assign PLACE NAME OPERATOR VALUE`.
-fn read_assign<A: Allocator + Copy>(
-    alloc: A,
-    nth: Option<u32>,
-    rest: &[u8],
-) -> Result<Edit<A>, LineFault>
-    ensures { IsRead edit_of (add_assign_after (place_at_front nth rest.now)) result }
-{
-    let (place, rest) = place_at_front(nth, rest)?;
-    let (name, operator, value) = three_fields(rest)?;
+    let (place, line) = split_last_three(fields);
+    let (name, operator, value) = three(line)?;
     let Some(flavor) = flavor(operator) else {
         return Err(LineFault::NotACommand);
     };
-    let place = place.to_place(alloc)?;
+    let place = make_place(alloc, nth, place)?;
     let name = name.to_vec(alloc)?;
     let value = value.to_vec(alloc)?;
     Ok(Edit::AddAssign {
@@ -210,20 +230,20 @@ fn read_assign<A: Allocator + Copy>(
     })
 }
 
-// `rule PLACE TARGETS SEPARATOR PREREQUISITES`.
-fn read_rule<A: Allocator + Copy>(
+// `rule PLACE TARGETS SEP PREREQS`.
+fn make_rule<A: Allocator + Copy>(
     alloc: A,
     nth: Option<u32>,
-    rest: &[u8],
+    fields: &[Field<'_>],
 ) -> Result<Edit<A>, LineFault>
-    ensures { IsRead edit_of (add_rule_after (place_at_front nth rest.now)) result }
+    ensures { IsRead edit_of (add_line nth new_rule (field_texts fields.now)) result }
 {
-    let (place, rest) = place_at_front(nth, rest)?;
-    let (targets, separator, prereqs) = three_fields(rest)?;
+    let (place, line) = split_last_three(fields);
+    let (targets, separator, prereqs) = three(line)?;
     let Some(separator) = rule_separator(separator) else {
         return Err(LineFault::NotACommand);
     };
-    let place = place.to_place(alloc)?;
+    let place = make_place(alloc, nth, place)?;
     let targets = targets.to_vec(alloc)?;
     let prereqs = prereqs.to_vec(alloc)?;
     Ok(Edit::AddRule {
@@ -234,30 +254,19 @@ fn read_rule<A: Allocator + Copy>(
     })
 }
 
-// `unrule TARGET`.
-fn read_unrule<A: Allocator + Copy>(
-    alloc: A,
-    nth: Option<u32>,
-    rest: &[u8],
-) -> Result<Edit<A>, LineFault>
-    ensures { IsRead edit_of (of_one (remove_rule nth) rest.now) result }
-{
-    let target = one_field(rest)?.to_vec(alloc)?;
-    Ok(Edit::RemoveRule { nth, target })
-}
-
 // `depend TARGET WORD` and `depend-order TARGET WORD`.
-fn read_depend<A: Allocator + Copy>(
+#[tactic(auto, using(crate::proofs::on_commands::TableLemmas::is_some_mapped))]
+fn make_depend<A: Allocator + Copy>(
     alloc: A,
     order: bool,
     nth: Option<u32>,
-    rest: &[u8],
+    fields: &[Field<'_>],
 ) -> Result<Edit<A>, LineFault>
-    ensures { IsRead edit_of (of_two (add_prereq order nth) rest.now) result }
+    ensures { IsRead edit_of
+        (option_map (λ p. edits.ChangePrereqs nth p.0 (edits.AddPrereq order p.1))
+        (two (field_texts fields.now))) result }
 {
-    let (target, word) = two_fields(rest)?;
-    let target = target.to_vec(alloc)?;
-    let word = word.to_vec(alloc)?;
+    let (target, word) = two_copied(alloc, fields)?;
     Ok(Edit::AddPrereq {
         order,
         nth,
@@ -266,174 +275,62 @@ fn read_depend<A: Allocator + Copy>(
     })
 }
 
-// `undepend TARGET WORD`.
-fn read_undepend<A: Allocator + Copy>(
+// An edit of a recipe.
+#[tactic(auto, using(crate::proofs::on_commands::TableLemmas::is_some_mapped))]
+fn make_recipe_edit<A: Allocator + Copy>(
     alloc: A,
     nth: Option<u32>,
-    rest: &[u8],
+    word: Word,
+    fields: &[Field<'_>],
 ) -> Result<Edit<A>, LineFault>
-    ensures { IsRead edit_of (of_two (remove_prereq nth) rest.now) result }
-{
-    let (target, word) = two_fields(rest)?;
-    let target = target.to_vec(alloc)?;
-    let word = word.to_vec(alloc)?;
-    Ok(Edit::RemovePrereq { nth, target, word })
-}
-
-// `recipe TARGET LINE`.
-fn read_recipe<A: Allocator + Copy>(
-    alloc: A,
-    nth: Option<u32>,
-    rest: &[u8],
-) -> Result<Edit<A>, LineFault>
-    ensures { IsRead edit_of (of_two (add_recipe nth) rest.now) result }
-{
-    let (target, line) = two_fields(rest)?;
-    let target = target.to_vec(alloc)?;
-    let line = line.to_vec(alloc)?;
-    Ok(Edit::AddRecipe { nth, target, line })
-}
-
-// `recipe-set TARGET K LINE`.
-fn read_recipe_set<A: Allocator + Copy>(
-    alloc: A,
-    nth: Option<u32>,
-    rest: &[u8],
-) -> Result<Edit<A>, LineFault>
-    ensures { IsRead edit_of (numbered_line_after (set_recipe nth) (three_fields rest.now)) result }
-{
-    let (target, number, line) = three_fields(rest)?;
-    let number = number_of(number)?;
-    let target = target.to_vec(alloc)?;
-    let line = line.to_vec(alloc)?;
-    Ok(Edit::SetRecipe {
-        nth,
-        target,
-        number,
-        line,
-    })
-}
-
-// `recipe-del TARGET K`.
-fn read_recipe_del<A: Allocator + Copy>(
-    alloc: A,
-    nth: Option<u32>,
-    rest: &[u8],
-) -> Result<Edit<A>, LineFault>
-    ensures { IsRead edit_of (remove_recipe_after nth (two_fields rest.now)) result }
-{
-    let (target, number) = two_fields(rest)?;
-    let number = number_of(number)?;
-    let target = target.to_vec(alloc)?;
-    Ok(Edit::RemoveRecipe {
-        nth,
-        target,
-        number,
-    })
-}
-
-// `recipe-insert TARGET K LINE`.
-fn read_recipe_insert<A: Allocator + Copy>(
-    alloc: A,
-    nth: Option<u32>,
-    rest: &[u8],
-) -> Result<Edit<A>, LineFault>
-    ensures { IsRead edit_of
-        (numbered_line_after (insert_recipe nth) (three_fields rest.now)) result }
-{
-    let (target, number, line) = three_fields(rest)?;
-    let number = number_of(number)?;
-    let target = target.to_vec(alloc)?;
-    let line = line.to_vec(alloc)?;
-    Ok(Edit::InsertRecipe {
-        nth,
-        target,
-        number,
-        line,
-    })
-}
-
-// `recipe-replace TARGET OLD LINE`.
-fn read_recipe_replace<A: Allocator + Copy>(
-    alloc: A,
-    nth: Option<u32>,
-    rest: &[u8],
-) -> Result<Edit<A>, LineFault>
-    ensures { IsRead edit_of (of_three (replace_recipe nth) rest.now) result }
-{
-    let (target, old, line) = three_fields(rest)?;
-    let target = target.to_vec(alloc)?;
-    let old = old.to_vec(alloc)?;
-    let line = line.to_vec(alloc)?;
-    Ok(Edit::SetRecipeByText {
-        nth,
-        target,
-        old,
-        line,
-    })
-}
-
-// `recipe-remove TARGET OLD`.
-fn read_recipe_remove<A: Allocator + Copy>(
-    alloc: A,
-    nth: Option<u32>,
-    rest: &[u8],
-) -> Result<Edit<A>, LineFault>
-    ensures { IsRead edit_of (of_two (remove_recipe nth) rest.now) result }
-{
-    let (target, old) = two_fields(rest)?;
-    let target = target.to_vec(alloc)?;
-    let old = old.to_vec(alloc)?;
-    Ok(Edit::RemoveRecipeByText { nth, target, old })
-}
-
-// `rename OLD NEW`. No number may stand before it.
-fn read_rename<A: Allocator + Copy>(
-    alloc: A,
-    nth: Option<u32>,
-    rest: &[u8],
-) -> Result<Edit<A>, LineFault>
-    ensures { IsRead edit_of (rename_target_of nth rest.now) result }
-{
-    if nth.is_some() {
-        return Err(LineFault::NotACommand);
-    }
-    let (from, to) = two_fields(rest)?;
-    let from = from.to_vec(alloc)?;
-    let to = to.to_vec(alloc)?;
-    Ok(Edit::RenameTarget { from, to })
-}
-
-/// The edit of every assignment of a name, from the word behind `all` and the fields after it.
-///
-/// # Errors
-///
-/// `NotACommand` if they make no such edit; `NoMemory` if they make one, and a growth was refused.
-pub(crate) fn read_change_values<A: Allocator + Copy>(
-    alloc: A,
-    word: Field<'_>,
-    rest: &[u8],
-) -> Result<Edit<A>, LineFault>
-    ensures { IsRead edit_of (change_by_word (named value_words (field_text word.entry)) rest.now) result }
-{
-    let Some(word) = change_word(word) else {
-        return Err(LineFault::NotACommand);
-    };
-    let (name, text) = two_fields(rest)?;
-    let name = name.to_vec(alloc)?;
-    let text = text.to_vec(alloc)?;
-    let change = change_with(word, text);
-    Ok(Edit::ChangeValues { name, change })
-}
-
-// The change that a word says, with the text after the name.
-fn change_with<A: Allocator>(word: ChangeWord, text: Vec<u8, A>) -> ValueChange<A>
-    ensures { value_change_of result ≡ change_with word text.items }
+    ensures { IsRead edit_of (recipe_edit nth word (field_texts fields.now)) result }
 {
     match word {
-        ChangeWord::Set => ValueChange::Set(text),
-        ChangeWord::Append => ValueChange::Append(text),
-        ChangeWord::Add => ValueChange::Add(text),
-        ChangeWord::Drop => ValueChange::Remove(text),
+        Word::Recipe => {
+            let (target, line) = two_copied(alloc, fields)?;
+            Ok(Edit::AddRecipe { nth, target, line })
+        }
+        Word::RecipeInsert => {
+            let (target, number, line) = numbered_copied(alloc, fields)?;
+            Ok(Edit::InsertRecipe {
+                nth,
+                target,
+                number,
+                line,
+            })
+        }
+        Word::RecipeSet => {
+            let (target, number, line) = numbered_copied(alloc, fields)?;
+            Ok(Edit::SetRecipe {
+                nth,
+                target,
+                number,
+                line,
+            })
+        }
+        Word::RecipeDel => {
+            let (target, number) = two(fields)?;
+            let number = number_of(number)?;
+            let target = target.to_vec(alloc)?;
+            Ok(Edit::RemoveRecipe {
+                nth,
+                target,
+                number,
+            })
+        }
+        Word::RecipeReplace => {
+            let (target, old, line) = three_copied(alloc, fields)?;
+            Ok(Edit::SetRecipeByText {
+                nth,
+                target,
+                old,
+                line,
+            })
+        }
+        Word::RecipeRemove => {
+            let (target, old) = two_copied(alloc, fields)?;
+            Ok(Edit::RemoveRecipeByText { nth, target, old })
+        }
+        _ => Err(LineFault::NotACommand),
     }
 }

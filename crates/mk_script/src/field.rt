@@ -2,10 +2,9 @@
 //!
 //! A field is written as it is, if it is not empty, has no blank and does not begin with a quote;
 //! or it is written between quotes, with a backslash before each quote and each backslash in it.
+//!
+//! A quote inside a field that does not begin with one stands for itself, as in `set X a"b`.
 ghost use Rattle.std.specs.Prelude.{◌≡◌, ◌++◌, true, false, IfOk, OnOk};
-ghost use Rattle.std.specs.List.{list_any};
-ghost use Rattle.std.specs.Str.{bytes_eq};
-ghost use Rattle.mk_script.specs.Fields.{is_special};
 ghost use Rattle.mk_script.specs.FieldReading.{IsEscaped, unescaped};
 
 use std::alloc::{AllocError, Allocator};
@@ -44,14 +43,6 @@ impl<'a> Field<'a> {
         }
     }
 
-    /// Whether the field is this word. The word has no quotes and no backslashes.
-    pub(crate) fn is(self, word: &[u8]) -> bool
-        requires { list_any is_special word.now ≡ false }
-        ensures { result ≡ bytes_eq (field_text self.entry) word.now }
-    {
-        self.written == word
-    }
-
     /// The bytes of the field as they stand in the line. They are the bytes of the field, unless
     /// some of these are quotes or backslashes.
     pub(crate) fn written(self) -> &'a [u8]
@@ -71,6 +62,12 @@ impl<'a> Field<'a> {
             text.extend_from_slice(self.written)?;
         }
         Ok(text)
+    }
+}
+
+impl Default for Field<'_> {
+    fn default() -> Self {
+        Field::bare(b"")
     }
 }
 

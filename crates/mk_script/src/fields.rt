@@ -4,12 +4,14 @@
 ghost use Rattle.std.specs.Prelude.{◌≡◌, ◌≤◌, false, length, option_map};
 ghost use Rattle.mk_lines.specs.Bytes.{is_blank_byte};
 ghost use Rattle.mk_script.specs.Fields.{is_special};
-ghost use Rattle.mk_script.specs.FieldReading.{after_blanks, bare_len, blanks_before, ends_field, first_field, is_blank, one_field, quoted_field, three_fields, two_fields, until_quote};
-ghost use Rattle.mk_script.specs.SeenFields.{field_and_rest, field_text, three_texts, two_parts, two_texts};
+ghost use Rattle.mk_script.specs.FieldReading.{after_blanks, bare_len, blanks_before, ends_field, fields_within, first_field, is_blank, quoted_field, until_quote};
+ghost use Rattle.mk_script.specs.CommandReading.{front, one, three, two};
+ghost use Rattle.mk_script.specs.SeenFields.{field_and_others, field_and_rest, field_text, field_texts, gathered_texts, three_texts, two_parts, two_texts};
 ghost use Rattle.mk_script.specs.ReaderAnswers.{IsFound};
 
 use crate::fault::NotThere;
 use crate::field::Field;
+use arrayvec::ArrayVec;
 
 fn is_blank_byte(byte: u8) -> bool
     ensures { result ≡ is_blank_byte byte }
@@ -116,44 +118,65 @@ pub(crate) fn first_field(line: &[u8]) -> Result<(Field<'_>, &[u8]), NotThere>
     }
 }
 
-/// The field of a line that has exactly one.
+/// The fields of a line. No command has more of them than `try nth N assign after-var NAME NAME OP VALUE`.
 ///
 /// # Errors
 ///
-/// [`NotThere`] if the line does not have exactly one field, or its quotes are bad.
-pub(crate) fn one_field(line: &[u8]) -> Result<Field<'_>, NotThere>
-    ensures { IsFound field_text (one_field line.now) result }
+/// [`NotThere`] if the line has more than nine fields, or if its quotes are bad.
+pub(crate) fn fields_of(line: &[u8]) -> Result<ArrayVec<Field<'_>, 9>, NotThere>
+    ensures { IsFound gathered_texts (fields_within 9 line.now) result }
 {
-    let (field, rest) = first_field(line)?;
-    if is_blank(rest) {
-        Ok(field)
-    } else {
-        Err(NotThere)
+    let mut fields = ArrayVec::new();
+    let mut rest = line;
+    'read: while !is_blank(rest) {
+        if fields.is_full() {
+            return Err(NotThere);
+        }
+        let (field, others) = first_field(rest)?;
+        fields.push(field);
+        rest = others;
+    }
+    Ok(fields)
+}
+
+/// The first of some fields, and the others; an error if there is no field.
+pub(crate) fn front<'b, 'a>(
+    fields: &'b [Field<'a>],
+) -> Result<(Field<'a>, &'b [Field<'a>]), NotThere>
+    ensures { IsFound field_and_others (front (field_texts fields.now)) result }
+{
+    match fields {
+        [] => Err(NotThere),
+        [field, others @ ..] => Ok((*field, others)),
     }
 }
 
-/// The fields of a line that has exactly two.
-///
-/// # Errors
-///
-/// [`NotThere`] if the line does not have exactly two fields, or its quotes are bad.
-pub(crate) fn two_fields(line: &[u8]) -> Result<(Field<'_>, Field<'_>), NotThere>
-    ensures { IsFound two_texts (two_fields line.now) result }
+/// The only field; an error if there is none, or more than one.
+pub(crate) fn one<'a>(fields: &[Field<'a>]) -> Result<Field<'a>, NotThere>
+    ensures { IsFound field_text (one (field_texts fields.now)) result }
 {
-    let (first, rest) = first_field(line)?;
-    let second = one_field(rest)?;
-    Ok((first, second))
+    match fields {
+        [field] => Ok(*field),
+        _ => Err(NotThere),
+    }
 }
 
-/// The fields of a line that has exactly three.
-///
-/// # Errors
-///
-/// [`NotThere`] if the line does not have exactly three fields, or its quotes are bad.
-pub(crate) fn three_fields(line: &[u8]) -> Result<(Field<'_>, Field<'_>, Field<'_>), NotThere>
-    ensures { IsFound three_texts (three_fields line.now) result }
+/// Two fields; an error if there are not exactly two.
+pub(crate) fn two<'a>(fields: &[Field<'a>]) -> Result<(Field<'a>, Field<'a>), NotThere>
+    ensures { IsFound two_texts (two (field_texts fields.now)) result }
 {
-    let (first, rest) = first_field(line)?;
-    let (second, third) = two_fields(rest)?;
-    Ok((first, second, third))
+    match fields {
+        [first, second] => Ok((*first, *second)),
+        _ => Err(NotThere),
+    }
+}
+
+/// Three fields; an error if there are not exactly three.
+pub(crate) fn three<'a>(fields: &[Field<'a>]) -> Result<(Field<'a>, Field<'a>, Field<'a>), NotThere>
+    ensures { IsFound three_texts (three (field_texts fields.now)) result }
+{
+    match fields {
+        [first, second, third] => Ok((*first, *second, *third)),
+        _ => Err(NotThere),
+    }
 }

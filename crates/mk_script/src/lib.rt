@@ -6,7 +6,7 @@
 //! alternative of the edit above. This is this project's profile.
 //!
 //! - [`command`]: a command.
-//! - [`edit`]: the edits, and the places of new lines, by their fields.
+//! - [`edit`]: the edits, and the places of new lines, made from their fields.
 //! - [`fault`]: why a line gave no command.
 //! - [`field`]: a field, bare or between quotes.
 //! - [`fields`]: the fields of a line.
@@ -16,8 +16,8 @@
 //! - [`script`]: the steps of a script, from its lines.
 //! - [`spelling`]: words that are spelled alike.
 //! - [`step`]: the steps of a script.
-//! - [`table`]: the table of commands.
-//! - [`word`]: the words that commands are known by.
+//! - [`table`]: the table of commands, and the words that it has.
+//! - [`word`]: the words of places, operators and separators.
 //! - [`written`]: the line of a script that says an edit.
 //!
 //! A script does not say whether a field may stand in its edit, such as a name or a value: an edit

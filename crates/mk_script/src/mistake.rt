@@ -8,7 +8,7 @@ use crate::field::Field;
 use crate::fields::{after_blanks, bare_len, first_field, is_blank, is_special, split_at_quote};
 use crate::number::number_of;
 use crate::spelling::nearest_command;
-use crate::table::{CommandForm, CommandKind, command_form};
+use crate::table::{CommandKind, Row, Word, row_of};
 use crate::word::{PlaceWord, flavor, place_word, rule_separator};
 use bstr::ByteSlice;
 
@@ -150,7 +150,7 @@ fn check_end(text: &[u8]) -> Result<(), Fault> {
 
 // Whether a text is what may follow the word of a command: its fields, which the row of the table has behind
 // the word. `is_numbered` says whether `nth` and a number stand before it.
-fn check_fields(command: CommandForm, is_numbered: bool, text: &[u8]) -> Result<(), Fault> {
+fn check_fields(command: Row, is_numbered: bool, text: &[u8]) -> Result<(), Fault> {
     let mut names = command.0.split(' ');
     names.next();
     let mut rest = text;
@@ -165,8 +165,8 @@ fn check_fields(command: CommandForm, is_numbered: bool, text: &[u8]) -> Result<
 }
 
 // The command that the word at the front of a text begins.
-fn command_at(word: Field<'_>, text: &[u8]) -> Result<CommandForm, Fault> {
-    match command_form(word.written()) {
+fn command_at(word: Field<'_>, text: &[u8]) -> Result<Row, Fault> {
+    match row_of(word.written()) {
         Some(command) => Ok(command),
         None => Err(Fault::at_field(text, MistakeCause::UnknownCommand)),
     }
@@ -196,18 +196,13 @@ fn check_all(text: &[u8]) -> Result<(), Fault> {
 // Whether a text is an edit's command.
 fn check_edit(text: &[u8]) -> Result<(), Fault> {
     let (word, rest) = field_at("COMMAND", text)?;
-    if word.is(b"nth") {
-        return check_numbered(rest);
-    }
-    if word.is(b"all") {
-        return check_all(rest);
-    }
-    let command = command_at(word, text)?;
-    match command.1 {
-        CommandKind::Call | CommandKind::Prefix => {
+    match command_at(word, text)? {
+        (_, _, Word::Nth) => check_numbered(rest),
+        (_, _, Word::All) => check_all(rest),
+        (_, CommandKind::Call | CommandKind::Prefix, _) => {
             Err(Fault::at_field(text, MistakeCause::NotAfterTry))
         }
-        _ => check_fields(command, false, rest),
+        command => check_fields(command, false, rest),
     }
 }
 
@@ -217,11 +212,9 @@ fn check_line(line: &[u8]) -> Result<(), Fault> {
         return Ok(());
     }
     let (word, rest) = field_at("COMMAND", line)?;
-    if word.is(b"try") || word.is(b"or") {
-        return check_edit(rest);
-    }
-    match command_form(word.written()) {
-        Some(call @ CommandForm(_, CommandKind::Call)) => check_fields(call, false, rest),
+    match row_of(word.written()) {
+        Some((_, _, Word::Try | Word::Or)) => check_edit(rest),
+        Some(call @ (_, CommandKind::Call, _)) => check_fields(call, false, rest),
         _ => check_edit(line),
     }
 }

@@ -1,6 +1,6 @@
 //! Numbers: one to ten decimal digits, whose value fits in a `u32`. Leading zeros are digits.
 ghost use Rattle.std.specs.Prelude.{◌≡◌};
-ghost use Rattle.mk_script.specs.NumberReading.{number};
+ghost use Rattle.mk_script.specs.Numbers.{number};
 ghost use Rattle.mk_script.specs.SeenFields.{field_text};
 ghost use Rattle.mk_script.specs.ReaderAnswers.{IsFound};
 ghost use Rattle.mk_class.specs.TextClasses.{itself};

@@ -1,14 +1,21 @@
 //! A script: its steps, from its lines.
+//!
+//! By itself a line says one thing, and what the lines say is what the steps say: so no definition
+//! goes over the lines with a state. An `or` that may not stand in its line is found before its
+//! edit is read, so want of memory never hides it.
 ghost use Rattle.std.specs.Prelude.{map, option_map, IfOk, IfErr};
 ghost use Rattle.mk_script.specs.Lines.{Or};
 ghost use Rattle.mk_script.specs.Scripts.{IsScript, IsScriptFault, step_of};
-ghost use Rattle.mk_script.specs.CommandReading.{edit_line, saying};
+ghost use Rattle.mk_script.specs.CommandReading.{edit_in, saying};
+ghost use Rattle.mk_script.specs.SeenFields.{field_texts};
 ghost use Rattle.mk_script.specs.ReaderAnswers.{Adds, Pushes};
 
-use crate::command::{is_skipped, read_command, read_edit_line};
+use crate::command::{is_skipped, read_command, read_edit};
 use crate::fault::LineFault;
-use crate::fields::first_field;
+use crate::field::Field;
+use crate::fields::fields_of;
 use crate::step::{Chain, NumberedCommand, NumberedEdit, Step};
+use crate::table::{Word, front_word};
 use bstr::ByteSlice;
 use std::alloc::Allocator;
 use thiserror::Error;
@@ -66,19 +73,22 @@ fn add_line<A: Allocator + Copy>(
     ensures { Adds (map step_of steps.old.items) number (saying line.now)
         (map step_of steps.new.items) result }
 {
-    let (word, rest) = first_field(line)?;
-    if word.is(b"try") {
-        let edit = read_edit_line(alloc, rest)?;
-        push(steps, Step::Try(NumberedEdit { line: number, edit }))
-    } else if word.is(b"or") {
-        add_alternative(alloc, steps, number, rest)
-    } else {
-        let command = read_command(alloc, word, rest)?;
-        let numbered = NumberedCommand {
-            line: number,
-            command,
-        };
-        push(steps, Step::Alone(numbered))
+    let fields = fields_of(line)?;
+    let (word, rest) = front_word(fields.as_slice())?;
+    match word {
+        Word::Try => {
+            let edit = read_edit(alloc, rest)?;
+            push(steps, Step::Try(NumberedEdit { line: number, edit }))
+        }
+        Word::Or => add_alternative(alloc, steps, number, rest),
+        _ => {
+            let command = read_command(alloc, word, rest)?;
+            let numbered = NumberedCommand {
+                line: number,
+                command,
+            };
+            push(steps, Step::Alone(numbered))
+        }
     }
 }
 
@@ -87,10 +97,10 @@ fn add_alternative<A: Allocator + Copy>(
     alloc: A,
     steps: &mut Vec<Step<A>, A>,
     number: u64,
-    rest: &[u8],
+    rest: &[Field<'_>],
 ) -> Result<(), LineFault>
-    ensures { Adds (map step_of steps.old.items) number (option_map Or (edit_line rest.now))
-        (map step_of steps.new.items) result }
+    ensures { Adds (map step_of steps.old.items) number
+        (option_map Or (edit_in (field_texts rest.now))) (map step_of steps.new.items) result }
 {
     let Some(last) = steps.pop() else {
         return Err(LineFault::NotACommand);
@@ -98,7 +108,7 @@ fn add_alternative<A: Allocator + Copy>(
     let Some((first, mut others)) = last.into_edits(alloc) else {
         return Err(LineFault::NotACommand);
     };
-    let edit = read_edit_line(alloc, rest)?;
+    let edit = read_edit(alloc, rest)?;
     push(&mut others, NumberedEdit { line: number, edit })?;
     push(steps, Step::Chain(Chain { first, others }))
 }

@@ -1,6 +1,6 @@
 //! Words that are spelled alike: what somebody may have meant who wrote a word that is none.
 
-use crate::table::COMMANDS;
+use crate::table::{COMMANDS, CommandForm};
 
 // What a text has behind its first bytes, of which there are so many.
 fn behind(text: &[u8], count: usize) -> &[u8] {
@@ -38,9 +38,10 @@ pub fn are_alike(one: &[u8], other: &[u8]) -> bool {
 /// The first word with which commands begin that is spelled like this word, if there is one. Of several the
 /// first of the table is meant.
 pub fn nearest_command(word: &[u8]) -> Option<&'static str> {
-    for command in COMMANDS {
-        if are_alike(word, command.word().as_bytes()) {
-            return Some(command.word());
+    for (form, kind, _) in COMMANDS {
+        let command = CommandForm(form, kind).word();
+        if are_alike(word, command.as_bytes()) {
+            return Some(command);
         }
     }
     None

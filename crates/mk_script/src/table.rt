@@ -1,5 +1,16 @@
-//! The table of the commands of a script. Help, the documents, the completions and the hints on mistakes have
-//! the words and the fields from here.
+//! The table of the commands of a script. The reader goes by it, and help, the documents, the completions and the
+//! hints on mistakes have the words and the fields from here.
+ghost use Rattle.std.specs.Prelude.{◌≡◌, option_map};
+ghost use Rattle.std.specs.Str.{bytes_eq};
+ghost use Rattle.mk_script.specs.CommandReading.{worded};
+ghost use Rattle.mk_script.specs.ReaderAnswers.{IsFound};
+ghost use Rattle.mk_script.specs.SeenFields.{field_texts, word_and_others};
+ghost use Rattle.mk_script.specs.WordReading.{named, word_text, words};
+
+use self::CommandKind::{Call, NumberedEdit, PlainEdit, Prefix, ValueEdit};
+use crate::fault::NotThere;
+use crate::field::Field;
+use crate::fields::{bare_len, front};
 
 /// What a command is, and what may stand before it beside `try` and `or`.
 #[derive(Clone, Copy, Debug, PartialEq, Eq)]
@@ -14,6 +25,38 @@ pub enum CommandKind {
     Call,
     /// Words that stand before the command of an edit.
     Prefix,
+}
+
+/// The words of the table, each by its name.
+#[derive(Clone, Copy, Debug)]
+pub(crate) enum Word {
+    Set,
+    Append,
+    Add,
+    Drop,
+    Unset,
+    Assign,
+    Rule,
+    Unrule,
+    Depend,
+    DependOrder,
+    Undepend,
+    Recipe,
+    RecipeInsert,
+    RecipeSet,
+    RecipeDel,
+    RecipeReplace,
+    RecipeRemove,
+    Rename,
+    Nth,
+    All,
+    Undo,
+    Redo,
+    Begin,
+    End,
+    Cancel,
+    Try,
+    Or,
 }
 
 /// A command of a script, or words that stand before one.
@@ -32,43 +75,89 @@ impl CommandForm {
     }
 }
 
+/// A row of the table: a command's word and the names of its fields, what it is, and which word it has.
+pub(crate) type Row = (&'static str, CommandKind, Word);
+
 /// All commands of a script, and the words that may stand before one.
-pub const COMMANDS: [CommandForm; 27] = [
-    CommandForm("set NAME VALUE", CommandKind::ValueEdit),
-    CommandForm("append NAME VALUE", CommandKind::ValueEdit),
-    CommandForm("add NAME WORD", CommandKind::ValueEdit),
-    CommandForm("drop NAME WORD", CommandKind::ValueEdit),
-    CommandForm("unset NAME", CommandKind::NumberedEdit),
-    CommandForm("assign PLACE NAME OP VALUE", CommandKind::NumberedEdit),
-    CommandForm("rule PLACE TARGETS SEP PREREQS", CommandKind::NumberedEdit),
-    CommandForm("unrule TARGET", CommandKind::NumberedEdit),
-    CommandForm("depend TARGET WORD", CommandKind::NumberedEdit),
-    CommandForm("depend-order TARGET WORD", CommandKind::NumberedEdit),
-    CommandForm("undepend TARGET WORD", CommandKind::NumberedEdit),
-    CommandForm("recipe TARGET LINE", CommandKind::NumberedEdit),
-    CommandForm("recipe-insert TARGET K LINE", CommandKind::NumberedEdit),
-    CommandForm("recipe-set TARGET K LINE", CommandKind::NumberedEdit),
-    CommandForm("recipe-del TARGET K", CommandKind::NumberedEdit),
-    CommandForm("recipe-replace TARGET OLD LINE", CommandKind::NumberedEdit),
-    CommandForm("recipe-remove TARGET OLD", CommandKind::NumberedEdit),
-    CommandForm("rename OLD NEW", CommandKind::PlainEdit),
-    CommandForm("nth N COMMAND", CommandKind::Prefix),
-    CommandForm("all COMMAND", CommandKind::Prefix),
-    CommandForm("undo", CommandKind::Call),
-    CommandForm("redo", CommandKind::Call),
-    CommandForm("begin", CommandKind::Call),
-    CommandForm("end", CommandKind::Call),
-    CommandForm("cancel", CommandKind::Call),
-    CommandForm("try COMMAND", CommandKind::Prefix),
-    CommandForm("or COMMAND", CommandKind::Prefix),
+pub(crate) const COMMANDS: [(&str, CommandKind, Word); 27] = [
+    ("set NAME VALUE", ValueEdit, Word::Set),
+    ("append NAME VALUE", ValueEdit, Word::Append),
+    ("add NAME WORD", ValueEdit, Word::Add),
+    ("drop NAME WORD", ValueEdit, Word::Drop),
+    ("unset NAME", NumberedEdit, Word::Unset),
+    ("assign PLACE NAME OP VALUE", NumberedEdit, Word::Assign),
+    ("rule PLACE TARGETS SEP PREREQS", NumberedEdit, Word::Rule),
+    ("unrule TARGET", NumberedEdit, Word::Unrule),
+    ("depend TARGET WORD", NumberedEdit, Word::Depend),
+    ("depend-order TARGET WORD", NumberedEdit, Word::DependOrder),
+    ("undepend TARGET WORD", NumberedEdit, Word::Undepend),
+    ("recipe TARGET LINE", NumberedEdit, Word::Recipe),
+    (
+        "recipe-insert TARGET K LINE",
+        NumberedEdit,
+        Word::RecipeInsert,
+    ),
+    ("recipe-set TARGET K LINE", NumberedEdit, Word::RecipeSet),
+    ("recipe-del TARGET K", NumberedEdit, Word::RecipeDel),
+    (
+        "recipe-replace TARGET OLD LINE",
+        NumberedEdit,
+        Word::RecipeReplace,
+    ),
+    ("recipe-remove TARGET OLD", NumberedEdit, Word::RecipeRemove),
+    ("rename OLD NEW", PlainEdit, Word::Rename),
+    ("nth N COMMAND", Prefix, Word::Nth),
+    ("all COMMAND", Prefix, Word::All),
+    ("undo", Call, Word::Undo),
+    ("redo", Call, Word::Redo),
+    ("begin", Call, Word::Begin),
+    ("end", Call, Word::End),
+    ("cancel", Call, Word::Cancel),
+    ("try COMMAND", Prefix, Word::Try),
+    ("or COMMAND", Prefix, Word::Or),
 ];
 
 /// The row of this word, if there is one.
-pub fn command_form(word: &[u8]) -> Option<CommandForm> {
-    for command in COMMANDS {
-        if command.word().as_bytes() == word {
-            return Some(command);
+pub(crate) fn row_of(word: &[u8]) -> Option<Row>
+    ensures { option_map (λ row. row.2) result ≡ named words word.now }
+{
+    let mut rows: &[Row] = &COMMANDS;
+    while let [row, rest @ ..] = rows {
+        if begins_form(row.0, word) {
+            return Some(*row);
         }
+        rows = rest;
     }
     None
+}
+
+/// What the table says of the command of this word, if there is one.
+pub fn command_form(word: &[u8]) -> Option<CommandForm> {
+    let (form, kind, _) = row_of(word)?;
+    Some(CommandForm(form, kind))
+}
+
+/// The first of some fields as a word of the table, and the others.
+///
+/// # Errors
+///
+/// [`NotThere`] if there is no field, or the first is no such word.
+pub(crate) fn front_word<'b, 'a>(
+    fields: &'b [Field<'a>],
+) -> Result<(Word, &'b [Field<'a>]), NotThere>
+    ensures { IsFound word_and_others (worded (field_texts fields.now)) result }
+{
+    let (word, others) = front(fields)?;
+    match row_of(word.written()) {
+        Some(row) => Ok((row.2, others)),
+        None => Err(NotThere),
+    }
+}
+
+// Whether this is the word of a form.
+fn begins_form(form: &str, word: &[u8]) -> bool
+    ensures { result ≡ bytes_eq word.now (word_text form.now) }
+{
+    let form = form.as_bytes();
+    word == &form[..bare_len(form)]
 }

@@ -1,15 +1,18 @@
 //! The line of a script that says an edit.
-ghost use Rattle.std.specs.Prelude.{◌≡◌, ◌++◌, ◌∷◌, [], ℕ, List, None, Err, true, IfOk, OnOk, codes, decimal, map};
+//!
+//! The line is bytes, and `Edit` has no `Display`: the names and values of a makefile need not be
+//! UTF-8, and a text with other bytes in their place would not read back as the same edit.
+ghost use Rattle.std.specs.Prelude.{◌≡◌, ◌++◌, ◌∷◌, [], Err, true, IfOk, OnOk, codes, map};
 ghost use Rattle.std.specs.List.{list_any};
 ghost use Rattle.mk_lines.specs.Spacing.{each_after_space};
 ghost use Rattle.mk_class.specs.OperatorTexts.{operator_text};
 ghost use Rattle.mk_edit_language.specs.EditViews.{edit_of, place_of, value_change_of};
 ghost use Rattle.mk_edit_language.specs.NewLines.{rule_separator_text};
-ghost use Rattle.mk_script.specs.CommandTable.{IsAfterNth, change_words, depend_word, nth_of_place, place_words};
+ghost use Rattle.mk_history.specs.Machine.{Apply};
+ghost use Rattle.mk_script.specs.CommandTable.{Number, Text, after_nth, change_words, command_fields, depend_word, nth_of_place, place_words, texts};
 ghost use Rattle.mk_script.specs.Fields.{escaped, quoted};
-ghost use Rattle.mk_script.specs.Numbers.{IsNumber};
-ghost use Rattle.mk_script.specs.WrittenEdits.{SaysOnly, after_nth, fields_of, has_line_feed, is_plain, is_quoted_byte, line_with, written};
-ghost use Rattle.mk_script.specs.WrittenLines.{IsLineResult, IsSaid, fields_in, is_of_recipe, is_of_rule};
+ghost use Rattle.mk_script.specs.WrittenEdits.{SaysOnly, fields_of, has_line_feed, is_plain, is_quoted_byte, line_with, written};
+ghost use Rattle.mk_script.specs.WrittenLines.{IsCommandText, fields_in, is_of_recipe};
 
 use mk_class::Flavor;
 use mk_edit_language::{Edit, Place, RuleSeparator, ValueChange};
@@ -60,12 +63,28 @@ pub fn line_of_edit<A: Allocator + Copy, B: Allocator>(
     ensures feed { result ≡ Err LineError.LineFeed
         → has_line_feed (line_with (fields_of (edit_of edit.now))) ≡ true }
 {
+    let mut line = command_text(alloc, edit)?;
+    if has_line_feed(&line) {
+        return Err(LineError::LineFeed);
+    }
+    line.extend_from_slice(b"\n")?;
+    Ok(line)
+}
+
+// The command of an edit, without a line feed behind it.
+fn command_text<A: Allocator + Copy, B: Allocator>(
+    alloc: A,
+    edit: &Edit<B>,
+) -> Result<Vec<u8, A>, AllocError>
+    ensures { IfOk result
+        (λ text. IsCommandText (command_fields (Apply (edit_of edit.now))) text.items) }
+{
     match edit {
         Edit::SetValue { nth, name, value } => said(alloc, *nth, b"set", &[name, value]),
         Edit::AppendValue { nth, name, value } => said(alloc, *nth, b"append", &[name, value]),
         Edit::AddWord { nth, name, word } => said(alloc, *nth, b"add", &[name, word]),
         Edit::RemoveWord { nth, name, word } => said(alloc, *nth, b"drop", &[name, word]),
-        Edit::ChangeValues { name, change } => line_of_change(alloc, name, change),
+        Edit::ChangeValues { name, change } => change_text(alloc, name, change),
         Edit::AddAssign {
             place,
             name,
@@ -73,45 +92,6 @@ pub fn line_of_edit<A: Allocator + Copy, B: Allocator>(
             value,
         } => said_at(alloc, b"assign", place, &[name, operator(*flavor), value]),
         Edit::RemoveAssign { nth, name } => said(alloc, *nth, b"unset", &[name]),
-        Edit::AddRule { .. }
-        | Edit::RemoveRule { .. }
-        | Edit::AddPrereq { .. }
-        | Edit::RemovePrereq { .. }
-        | Edit::RenameTarget { .. } => line_of_rule_edit(alloc, edit),
-        Edit::AddRecipe { .. }
-        | Edit::SetRecipe { .. }
-        | Edit::RemoveRecipe { .. }
-        | Edit::InsertRecipe { .. }
-        | Edit::SetRecipeByText { .. }
-        | Edit::RemoveRecipeByText { .. } => line_of_recipe_edit(alloc, edit),
-    }
-}
-
-// The line of an edit of all values of a name.
-fn line_of_change<A: Allocator + Copy, B: Allocator>(
-    alloc: A,
-    name: &[u8],
-    change: &ValueChange<B>,
-) -> Result<Vec<u8, A>, LineError>
-    ensures { IsSaid None (codes "all" ∷ change_words name.now (value_change_of change.now)) result }
-{
-    match change {
-        ValueChange::Set(value) => said(alloc, None, b"all", &[b"set", name, value]),
-        ValueChange::Append(value) => said(alloc, None, b"all", &[b"append", name, value]),
-        ValueChange::Add(word) => said(alloc, None, b"all", &[b"add", name, word]),
-        ValueChange::Remove(word) => said(alloc, None, b"all", &[b"drop", name, word]),
-    }
-}
-
-// The line of an edit of rules.
-fn line_of_rule_edit<A: Allocator + Copy, B: Allocator>(
-    alloc: A,
-    edit: &Edit<B>,
-) -> Result<Vec<u8, A>, LineError>
-    requires { is_of_rule (edit_of edit.now) ≡ true }
-    ensures { IsLineResult (edit_of edit.now) result }
-{
-    match edit {
         Edit::AddRule {
             place,
             targets,
@@ -134,19 +114,36 @@ fn line_of_rule_edit<A: Allocator + Copy, B: Allocator>(
             said(alloc, *nth, b"undepend", &[target, word])
         }
         Edit::RenameTarget { from, to } => said(alloc, None, b"rename", &[from, to]),
-        _ => unreachable!(),
+        _ => recipe_text(alloc, edit),
     }
 }
 
-// The line of an edit of recipes.
-fn line_of_recipe_edit<A: Allocator + Copy, B: Allocator>(
+// The command of an edit of all values of a name.
+fn change_text<A: Allocator + Copy, B: Allocator>(
+    alloc: A,
+    name: &[u8],
+    change: &ValueChange<B>,
+) -> Result<Vec<u8, A>, AllocError>
+    ensures { IfOk result (λ text. IsCommandText
+        (texts (codes "all" ∷ change_words name.now (value_change_of change.now))) text.items) }
+{
+    match change {
+        ValueChange::Set(value) => said(alloc, None, b"all", &[b"set", name, value]),
+        ValueChange::Append(value) => said(alloc, None, b"all", &[b"append", name, value]),
+        ValueChange::Add(word) => said(alloc, None, b"all", &[b"add", name, word]),
+        ValueChange::Remove(word) => said(alloc, None, b"all", &[b"drop", name, word]),
+    }
+}
+
+// The command of an edit of recipes.
+fn recipe_text<A: Allocator + Copy, B: Allocator>(
     alloc: A,
     edit: &Edit<B>,
-) -> Result<Vec<u8, A>, LineError>
+) -> Result<Vec<u8, A>, AllocError>
     requires { is_of_recipe (edit_of edit.now) ≡ true }
-    ensures { IsLineResult (edit_of edit.now) result }
+    ensures { IfOk result
+        (λ text. IsCommandText (command_fields (Apply (edit_of edit.now))) text.items) }
 {
-    let mut digits = itoa::Buffer::new();
     match edit {
         Edit::AddRecipe { nth, target, line } => said(alloc, *nth, b"recipe", &[target, line]),
         Edit::SetRecipe {
@@ -154,27 +151,18 @@ fn line_of_recipe_edit<A: Allocator + Copy, B: Allocator>(
             target,
             number,
             line,
-        } => {
-            let number = number_text(*number, &mut digits);
-            said(alloc, *nth, b"recipe-set", &[target, number, line])
-        }
+        } => said_of_number(alloc, *nth, b"recipe-set", target, *number, &[line]),
         Edit::RemoveRecipe {
             nth,
             target,
             number,
-        } => {
-            let number = number_text(*number, &mut digits);
-            said(alloc, *nth, b"recipe-del", &[target, number])
-        }
+        } => said_of_number(alloc, *nth, b"recipe-del", target, *number, &[]),
         Edit::InsertRecipe {
             nth,
             target,
             number,
             line,
-        } => {
-            let number = number_text(*number, &mut digits);
-            said(alloc, *nth, b"recipe-insert", &[target, number, line])
-        }
+        } => said_of_number(alloc, *nth, b"recipe-insert", target, *number, &[line]),
         Edit::SetRecipeByText {
             nth,
             target,
@@ -186,14 +174,6 @@ fn line_of_recipe_edit<A: Allocator + Copy, B: Allocator>(
         }
         _ => unreachable!(),
     }
-}
-
-// The digits of a number, which a script reads as that number.
-fn number_text(number: u32, digits: &mut itoa::Buffer) -> &[u8]
-    ensures text { result.now ≡ decimal number }
-    ensures number { IsNumber (decimal number) number }
-{
-    digits.format(number).as_bytes()
 }
 
 // The operator of an assignment.
@@ -221,16 +201,16 @@ fn colons<'a>(separator: RuleSeparator) -> &'a [u8]
     }
 }
 
-// The line of a command that has a place: its word, then the words of the place, then these fields.
+// A command that has a place: its word, then the words of the place, then these fields.
 fn said_at<A: Allocator + Copy, B: Allocator>(
     alloc: A,
     word: &[u8],
     place: &Place<B>,
     fields: &[&[u8]],
-) -> Result<Vec<u8, A>, LineError>
+) -> Result<Vec<u8, A>, AllocError>
     requires { is_plain word.now ≡ true }
-    ensures { IsSaid (nth_of_place (place_of place.now))
-        (word.now ∷ (place_words (place_of place.now) ++ fields_in fields.now)) result }
+    ensures { IfOk result (λ text. IsCommandText (after_nth (nth_of_place (place_of place.now))
+        (texts (word.now ∷ (place_words (place_of place.now) ++ fields_in fields.now)))) text.items) }
 {
     match place {
         Place::Bottom => said_after(alloc, None, word, &[b"bottom"], fields),
@@ -246,15 +226,34 @@ fn said_at<A: Allocator + Copy, B: Allocator>(
     }
 }
 
-// The line of a command: its word after `nth` and a number if there is one, and these fields.
+// A command that has a number behind its target.
+fn said_of_number<A: Allocator + Copy>(
+    alloc: A,
+    nth: Option<u32>,
+    word: &[u8],
+    target: &[u8],
+    number: u32,
+    fields: &[&[u8]],
+) -> Result<Vec<u8, A>, AllocError>
+    requires { is_plain word.now ≡ true }
+    ensures { IfOk result (λ text. IsCommandText (after_nth nth
+        (Text word.now ∷ Text target.now ∷ Number number ∷ texts (fields_in fields.now))) text.items) }
+{
+    let mut digits = itoa::Buffer::new();
+    let digits = digits.format(number).as_bytes();
+    said_after(alloc, nth, word, &[target, digits], fields)
+}
+
+// A command: its word after `nth` and a number if there is one, and these fields.
 fn said<A: Allocator + Copy>(
     alloc: A,
     nth: Option<u32>,
     word: &[u8],
     fields: &[&[u8]],
-) -> Result<Vec<u8, A>, LineError>
+) -> Result<Vec<u8, A>, AllocError>
     requires { is_plain word.now ≡ true }
-    ensures { IsSaid nth (word.now ∷ fields_in fields.now) result }
+    ensures { IfOk result
+        (λ text. IsCommandText (after_nth nth (texts (word.now ∷ fields_in fields.now))) text.items) }
 {
     said_after(alloc, nth, word, &[], fields)
 }
@@ -266,17 +265,14 @@ fn said_after<A: Allocator + Copy>(
     word: &[u8],
     first: &[&[u8]],
     others: &[&[u8]],
-) -> Result<Vec<u8, A>, LineError>
+) -> Result<Vec<u8, A>, AllocError>
     requires { is_plain word.now ≡ true }
-    ensures { IsSaid nth (word.now ∷ (fields_in first.now ++ fields_in others.now)) result }
+    ensures { IfOk result (λ text. IsCommandText (after_nth nth
+        (texts (word.now ∷ (fields_in first.now ++ fields_in others.now)))) text.items) }
 {
     let mut line = begun(alloc, nth, word)?;
     push_fields(&mut line, first)?;
     push_fields(&mut line, others)?;
-    if has_line_feed(&line) {
-        return Err(LineError::LineFeed);
-    }
-    line.extend_from_slice(b"\n")?;
     Ok(line)
 }
 
@@ -287,14 +283,13 @@ fn begun<A: Allocator + Copy>(
     word: &[u8],
 ) -> Result<Vec<u8, A>, AllocError>
     requires { is_plain word.now ≡ true }
-    ensures text { IfOk result (λ line. line.items ≡ line_with (after_nth nth (word.now ∷ []))) }
-    ensures number { (words : List (List ℕ)) → IsAfterNth nth (after_nth nth words) words }
+    ensures { IfOk result (λ text. IsCommandText (after_nth nth (texts (word.now ∷ []))) text.items) }
 {
     let Some(number) = nth else {
         return Vec::from_slice(alloc, word);
     };
     let mut digits = itoa::Buffer::new();
-    let digits = number_text(number, &mut digits);
+    let digits = digits.format(number).as_bytes();
     let mut line = Vec::from_slice(alloc, b"nth")?;
     push_fields(&mut line, &[digits, word])?;
     Ok(line)

@@ -1,8 +1,13 @@
--- What a caller of a session relies on, stated of what its calls promise: that the text is what it
--- was after an undo, a redo, the end of a group or its cancel.
+-- What a caller of a session relies on, stated of what its calls promise: what the text is after an
+-- edit, and that it is what it was after an undo, a redo, the end of a group or its cancel.
 -- Told in docs/LIBRARY.md, "Laws for callers".
 use Rattle.std.specs.Prelude.{◌≡◌, ℕ, ◌<◌, List, [], ◌∷◌, ◌++◌, length, map, Some, None, Ok}
+use Rattle.mk_lines.specs.Pieces.{Replacement}
+use Rattle.mk_class.specs.ClassedLines.{ClassedLine, classed_lines}
 use Rattle.mk_edit_language.specs.Edits.{Edit}
+use Rattle.mk_edit_language.specs.Stretches.{Stretch, IsStretchOf, insertion, touched_by}
+use Rattle.mk_edit_language.specs.KeptLines.{IsOfOnePlace, above_after}
+use Rattle.mk_edit_language.specs.Refusals.{spans, text_after}
 use Rattle.mk_history.specs.Machine.{Apply, Undo, Redo, Begin, End, Cancel}
 use Rattle.mk_history.specs.Shown.{Shown}
 use Rattle.mk_session.specs.Sessions.{answer}
@@ -11,6 +16,31 @@ use Rattle.mk_session.specs.InTurn.{answers, as_group}
 -- what is seen of a session
 abbrev State : Type 0
 State = Shown (List ℕ)
+
+-- ---- an edit
+
+-- An edit that is made has spans in the text, and the text after it is the text before with these
+-- replaced. All laws of edits speak of these two.
+abbrev pub EditsReplaceTheirSpans : Type 0
+EditsReplaceTheirSpans = (e : Edit) (s t : State) → answer (Apply e) s ≡ Ok t
+    → (rs : List Replacement) × ((spans s.text e ≡ Ok rs) × (t.text ≡ text_after s.text e))
+
+-- Lines of one place became others: the lines that the edit touches gave way to new ones. The lines
+-- above and below are as before, each with its class, but that a last line without a line end gets
+-- one where a new line follows it.
+pub record AreLinesKept (e : Edit) (before after : List ℕ) : Type 0 where
+  pub touched : Stretch
+  pub new : List ClassedLine
+  pub place : touched_by (classed_lines before) e ≡ Some touched
+  pub lines_before : IsStretchOf (classed_lines before) touched
+  pub lines_after : classed_lines after
+      ≡ above_after before (insertion (classed_lines before) e) touched ++ (new ++ touched.below)
+
+-- An edit of one place, which is any but a rename and an edit of all values of a name, leaves the
+-- lines above and below its place.
+abbrev pub EditsKeepTheirOtherLines : Type 0
+EditsKeepTheirOtherLines = (e : Edit) (s t : State) → IsOfOnePlace e
+    → answer (Apply e) s ≡ Ok t → AreLinesKept e s.text t.text
 
 -- ---- undo and redo
 

@@ -2,6 +2,8 @@
 -- The session machine of makefiles
 pub mod Sessions
 pub use Rattle.mk_edit_language.specs.CommandViews
+-- Calls that make an edit of texts
+pub mod Applied
 -- What a session stores
 pub mod StoredSessions
 -- Calls in turn

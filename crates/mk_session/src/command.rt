@@ -1,4 +1,8 @@
 //! A call of a session as a value, and the session that does it.
+//!
+//! The clause `stated` says what a call does in bytes and lines alone, so that a reader has few
+//! definitions to believe. A law could not be as short: it would name the answers of calls, and so
+//! all definitions of edits.
 ghost use Rattle.std.specs.Prelude.{is_ok};
 ghost use Rattle.mk_edit_language.specs.CommandViews.{command_of};
 ghost use Rattle.mk_session.specs.Calls.{IsAnswered};

@@ -6,7 +6,7 @@
 //! `done` of a few calls, and say what the text is then.
 ghost use Rattle.std.specs.Prelude.{Bool, List, ℕ};
 ghost use Rattle.mk_edit_language.specs.declared.command.Command.{Command};
-ghost use Rattle.mk_session.specs.CallerLaws.{AGroupCanBeUndone, AnEditCanBeUndone, BeginOpensAGroup, CancelShowsTheBeginning, CancelTakesBackAllEdits, EditsStayInTheirGroup, NoEditsAreNoStep, RedoMakesAgain, UndoTakesBackAGroup, UndoTakesBackAllEdits, UndoTakesBackARedo, UndoTakesBackAnEdit};
+ghost use Rattle.mk_session.specs.CallerLaws.{AGroupCanBeUndone, AnEditCanBeUndone, BeginOpensAGroup, CancelShowsTheBeginning, CancelTakesBackAllEdits, EditsKeepTheirOtherLines, EditsReplaceTheirSpans, EditsStayInTheirGroup, NoEditsAreNoStep, RedoMakesAgain, UndoTakesBackAGroup, UndoTakesBackAllEdits, UndoTakesBackARedo, UndoTakesBackAnEdit};
 ghost use Rattle.mk_session.specs.SessionLaws.{GrantedEditsAreMade, OtherCallsChangeNothing, ReplaysWhatStands, UndoingAllGivesTheFirstText};
 ghost use Rattle.mk_session.specs.Statement.{AreTakenBack};
 
@@ -30,6 +30,16 @@ pub fn undoing_all_gives_the_first_text()
 pub fn edits_are_made_or_nothing_changes()
     ensures made { GrantedEditsAreMade }
     ensures kept { OtherCallsChangeNothing }
+{}
+
+/// For a program that says what an edit makes of the text: an edit that is made has spans, and the text
+/// is the text before with these replaced, so that the laws of `mk_edit_language::laws` speak of it. An
+/// edit of one place, which is any but a rename and an edit of all values of a name, leaves the lines
+/// above and below its place, bytes and classes; a last line without a line end gets one where a new
+/// line follows it.
+pub fn edits_leave_the_rest()
+    ensures spans { EditsReplaceTheirSpans }
+    ensures lines { EditsKeepTheirOtherLines }
 {}
 
 /// For a program that tries an edit and takes it back: after an edit outside a group, an undo shows

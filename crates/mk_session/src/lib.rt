@@ -2,9 +2,9 @@
 //!
 //! - [`command`]: the calls of a session as values, which `mk_edit_language` has, done.
 //! - [`laws`]: what holds for a session over any list of calls.
-//! - [`session`]: the session; its module `group` has the call that makes edits as one, `dry_run` the one
-//!   that tells whether they can be made, `finding` those that say where the lines stand that edits take,
-//!   and `shown` what `{:?}` shows of it.
+//! - [`session`]: the session; its module `edits` has the calls that make one edit each, `group` the call
+//!   that makes edits as one, `dry_run` the one that tells whether they can be made, `finding` those that
+//!   say where the lines stand that edits take, and `shown` what `{:?}` shows of it.
 //!
 //! `mk_history` has the machine of a session over anything that is changed, `mk_edit` has the edits
 //! of makefiles. This crate puts them together; it is the only crate that knows both.
@@ -20,4 +20,5 @@ pub use mk_edit::{Detail, Edit, Field, Place, Refusal, RuleSeparator, ValueChang
 pub use mk_edit_language::{
     clone_edit, clone_place, is_same_edit, is_same_place, number_edit, number_place,
 };
+pub use mk_index::Expected;
 pub use session::Session;

@@ -1,4 +1,9 @@
 //! A makefile that is edited.
+//!
+//! Undoing a group passes through documents of which nothing is known but that the moves fit. So
+//! the invariant speaks of the documents to which undoing and redoing lead, one for each member of
+//! the history. A call that finds no memory is one that the session machine grants: want of memory
+//! never stands in place of a refusal.
 ghost use Rattle.std.specs.Prelude.{◌≡◌, ◌≤◌, ◌+◌, ◌^◌, ◌<◌, ◌↔◌, Ok, Err, IfOk, IfErr, IsOkUnless, OnOk, OnErr, length, is_ok, is_some, nat_lt, Some, None};
 ghost use Rattle.mk_lines.specs.Limits.{max_text};
 ghost use Rattle.mk_tree.specs.Counting.{AreCounted};
@@ -12,6 +17,7 @@ ghost use Rattle.mk_history.specs.Machine as machine;
 ghost use Rattle.mk_session.specs.Sessions.{IsBadDepth, IsBeginRefusal, IsEditRefusal, IsOpeningFault, IsRefusedBy, answer, seen_opened};
 
 mod dry_run;
+mod edits;
 mod finding;
 mod group;
 mod shown;
@@ -20,7 +26,7 @@ use mk_class::Meter;
 use mk_edit::{Edit, Refusal, plan_with};
 use mk_history::history::is_bad_depth;
 use mk_history::{Change, History, Sequence};
-use mk_index::{Finder, IndexedDoc, IndexedPatch};
+use mk_index::{Expected, Finder, IndexedDoc, IndexedPatch};
 use mk_lines::Fault;
 use mk_lines::source::MAX_TEXT;
 use mk_patch::Patch;
@@ -139,27 +145,16 @@ impl<A: Allocator + Copy> Session<A> {
         })
     }
 
-    /// Tells the session that many edits are to come. Nothing that is shown changes. In a document
-    /// of 1,024 lines or more the next edit of a variable or a rule, or the next rename, then makes an
-    /// index of all variables and rules, which otherwise the second one would make. For a session in
-    /// which all edits are renames, call [`Session::expect_renames`] in place of this. The call reads no
-    /// line and takes no memory.
-    pub fn expect_edits(&mut self)
+    /// Tells the session that many edits are to come, and whether renames and others are among them.
+    /// Nothing that is shown changes. In a document of 1,024 lines or more the next edit of a variable or
+    /// a rule, or the next rename, then makes an index, which otherwise the second one would make. The
+    /// index has targets, for renames also prerequisites, and for others also variables; one that has
+    /// not all of these is dropped. The call reads no line and takes no memory.
+    pub fn expect_edits(&mut self, expected: Expected)
         ensures same { self.new.shown ≡ self.old.shown }
         ensures none_read { self.new.rereads ≡ self.old.rereads }
     {
-        self.doc.expect_edits();
-    }
-
-    /// Tells the session that many renames are to come. Nothing that is shown changes. The next edit then
-    /// makes an index, as after [`Session::expect_edits`], but one of all targets and prerequisites, which
-    /// renames ask for. After both calls the index has variables too. An index that has not all of these
-    /// is dropped. The call reads no line and takes no memory.
-    pub fn expect_renames(&mut self)
-        ensures same { self.new.shown ≡ self.old.shown }
-        ensures none_read { self.new.rereads ≡ self.old.rereads }
-    {
-        self.doc.expect_renames();
+        self.doc.expect_edits(expected);
     }
 
     /// Makes an edit. It can be undone next: alone, or, if a group is open, together with the

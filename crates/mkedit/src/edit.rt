@@ -1,4 +1,8 @@
 //! `mkedit edit`: a script over makefiles. The script is read once.
+//!
+//! One makefile goes the same way as several, and the note on a bad line of the script has its
+//! text. If there is one makefile, it is opened before the script is read, so that nothing is read
+//! if either cannot be opened.
 ghost use Rattle.std.specs.Prelude.{IfOk};
 ghost use Rattle.mk_session.specs.Sessions.{IsBadDepth};
 

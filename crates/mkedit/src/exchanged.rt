@@ -1,4 +1,7 @@
 //! Whether SCRIPT and FILE may be exchanged: SCRIPT is no script, and FILE is one.
+//!
+//! A line of a makefile is almost never a command of a script, so a file that is a script
+//! throughout is no makefile. Whether SCRIPT reads as a makefile is not asked: every text does.
 ghost use Rattle.std.specs.Prelude.{◌≡◌, false};
 
 use crate::ending::End;

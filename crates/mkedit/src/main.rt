@@ -31,11 +31,10 @@ mod several;
 
 use ending::{BAD_COMMAND_LINE, End, answered, ended, printed};
 use mk_cli::{
-    CalledRefusal, Input, Request, asked_command, bad_files, is_utf8, put_explanation, put_help,
+    CalledRefusal, Request, asked_command, bad_files, is_utf8, put_explanation, put_help,
     read_request, words,
 };
 use mk_lines::StdSink;
-use mk_repl::Inquiry;
 use mk_run::Outcome;
 use std::io::IsTerminal;
 use std::process::ExitCode;
@@ -59,11 +58,6 @@ fn has_notes(rt: &HostRuntime, asked: bool) -> bool
     asked || rt.stderr().is_terminal()
 }
 
-// Answers what the makefiles are asked for.
-fn asked(rt: &HostRuntime, inquiry: Inquiry<'_>, files: &[Input<'_>], notes: bool) -> ExitCode {
-    query::ask(rt, inquiry, files, has_notes(rt, notes))
-}
-
 // Does what the command line asks for.
 fn done(rt: &HostRuntime, words: &[String]) -> ExitCode {
     let bad_words = tell_bad_words(rt, words);
@@ -77,12 +71,8 @@ fn done(rt: &HostRuntime, words: &[String]) -> ExitCode {
             edit::edit(rt, &words)
         }
         Ok(Request::Query(words)) => {
-            let inquiry = Inquiry::Query(words.query, words.form);
-            asked(rt, inquiry, words.files.as_slice(), words.notes)
-        }
-        Ok(Request::Get(words)) => {
-            let inquiry = Inquiry::Value(words.nth, words.name);
-            asked(rt, inquiry, words.files.as_slice(), words.notes)
+            let notes = has_notes(rt, words.notes);
+            query::ask(rt, words.question, words.files.as_slice(), notes)
         }
         Ok(Request::Explain(CalledRefusal(refusal))) => {
             printed(

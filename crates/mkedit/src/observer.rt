@@ -3,7 +3,7 @@
 
 use mk_lines::sink::write_all;
 use mk_lines::{ByteSink, StdSink};
-use mk_notes::{Names, edit_notes, refusal_notes};
+use mk_notes::{Names, RunNotes};
 use mk_run::{Observer, Reported};
 use mk_session::{Edit, Session};
 use std::alloc::Allocator;
@@ -12,22 +12,15 @@ use std::io::Write;
 // The notes on a refusal; nothing where it is not that of an edit, or memory ends.
 fn notes_on<A: Allocator, B: Allocator + Copy>(
     alloc: B,
-    names: Names<'_>,
+    notes: &mut RunNotes<'_, B>,
     reported: &Reported<'_, A>,
     session: &Session<A>,
 ) -> Vec<u8, B> {
     let Some(edit) = reported.edit else {
         return Vec::new(alloc);
     };
-    match refusal_notes(
-        alloc,
-        names,
-        reported.line,
-        session.doc(),
-        edit,
-        reported.refusal,
-    ) {
-        Ok(notes) => notes,
+    match notes.refused(reported.line, session.doc(), edit, reported.refusal) {
+        Ok(text) => text,
         Err(_) => Vec::new(alloc),
     }
 }
@@ -35,13 +28,13 @@ fn notes_on<A: Allocator, B: Allocator + Copy>(
 // The notes on an edit that was made; nothing where memory ends.
 fn notes_on_made<A: Allocator, B: Allocator + Copy>(
     alloc: B,
-    names: Names<'_>,
+    notes: &mut RunNotes<'_, B>,
     line: u64,
     edit: &Edit<A>,
     session: &Session<A>,
 ) -> Vec<u8, B> {
-    match edit_notes(alloc, names, line, session.doc(), edit) {
-        Ok(notes) => notes,
+    match notes.accepted(line, session.doc(), edit) {
+        Ok(text) => text,
         Err(_) => Vec::new(alloc),
     }
 }
@@ -49,18 +42,18 @@ fn notes_on_made<A: Allocator, B: Allocator + Copy>(
 /// An observer that writes the notes on each refusal once its line is in the report, and those on each edit
 /// once it is made. Where a write fails, it writes nothing more.
 #[derive(Drop)]
-pub struct NotesBelow<'a, W, B> {
+pub struct NotesBelow<'a, W, B: Allocator> {
     alloc: B,
-    names: Names<'a>,
+    notes: RunNotes<'a, B>,
     out: StdSink<W>,
 }
 
-impl<'a, W: Write, B> NotesBelow<'a, W, B> {
+impl<'a, W: Write, B: Allocator + Copy> NotesBelow<'a, W, B> {
     /// An observer that writes to where the report goes.
     pub fn new(alloc: B, names: Names<'a>, out: W) -> NotesBelow<'a, W, B> {
         NotesBelow {
             alloc,
-            names,
+            notes: RunNotes::new(alloc, names),
             out: StdSink::new(out),
         }
     }
@@ -75,12 +68,12 @@ impl<'a, W: Write, B> NotesBelow<'a, W, B> {
 
 impl<A: Allocator, W: Write, B: Allocator + Copy> Observer<A> for NotesBelow<'_, W, B> {
     fn refused(&mut self, reported: &Reported<'_, A>, session: &Session<A>) {
-        let notes = notes_on(self.alloc, self.names, reported, session);
+        let notes = notes_on(self.alloc, &mut self.notes, reported, session);
         self.put(notes.as_slice());
     }
 
     fn accepted(&mut self, line: u64, edit: &Edit<A>, session: &Session<A>) {
-        let notes = notes_on_made(self.alloc, self.names, line, edit, session);
+        let notes = notes_on_made(self.alloc, &mut self.notes, line, edit, session);
         self.put(notes.as_slice());
     }
 }
@@ -89,7 +82,7 @@ impl<A: Allocator, W: Write, B: Allocator + Copy> Observer<A> for NotesBelow<'_,
 /// ends, it keeps no more.
 #[derive(Drop)]
 pub struct NotesKept<'a, B: Allocator> {
-    names: Names<'a>,
+    notes: RunNotes<'a, B>,
     alloc: B,
     /// The notes before the first refusal.
     pub before: Vec<u8, B>,
@@ -102,7 +95,7 @@ impl<'a, B: Allocator + Copy> NotesKept<'a, B> {
     /// An observer that was told nothing yet.
     pub fn new(alloc: B, names: Names<'a>) -> NotesKept<'a, B> {
         NotesKept {
-            names,
+            notes: RunNotes::new(alloc, names),
             alloc,
             before: Vec::new(alloc),
             below: Vec::new(alloc),
@@ -125,7 +118,7 @@ impl<A: Allocator, B: Allocator + Copy> Observer<A> for NotesKept<'_, B> {
         if self.is_full {
             return;
         }
-        let notes = notes_on(self.alloc, self.names, reported, session);
+        let notes = notes_on(self.alloc, &mut self.notes, reported, session);
         self.is_full = self.below.push(notes).is_err();
     }
 
@@ -133,7 +126,7 @@ impl<A: Allocator, B: Allocator + Copy> Observer<A> for NotesKept<'_, B> {
         if self.is_full {
             return;
         }
-        let notes = notes_on_made(self.alloc, self.names, line, edit, session);
+        let notes = notes_on_made(self.alloc, &mut self.notes, line, edit, session);
         self.keep(notes.as_slice());
     }
 }

@@ -1,6 +1,10 @@
 //! `mkedit vars`, `mkedit rules`, `mkedit recipes`, `mkedit check` and `mkedit caveats`: what a
 //! makefile has, a line for each thing, for a person or as JSON; and `mkedit get`: the value of a
 //! variable.
+//!
+//! If nobody reads the output to its end, as below `head`, a query is done; a run is not, since
+//! half of a makefile is never what is wanted. No name stands before a line of JSON: it would be no
+//! JSON then, and each object has the name in it.
 ghost use Rattle.std.specs.Prelude.{◌≡◌, ◌↔◌, ◌<◌, ◌+◌, ◌||◌, ◌⊎◌, ℕ, List, IsTrue, IfSome, OnOk, Err, None, Some, false, true, length, if◌then◌else◌, is_ok, option_map};
 ghost use Rattle.std.specs.Io.KnownBytes.{Appends};
 ghost use Rattle.mk_lines.specs.Limits.{max_text};
@@ -16,13 +20,13 @@ ghost use Rattle.mkedit.specs.Destinations.{name_of};
 use crate::ending::{End, Statuses, finished};
 use crate::input::{input_name, name_of, open_input};
 use crate::several::{Told, kept_outcome, put_named, tell_named, tell_unopened};
-use mk_cli::{Form, Input, Progress};
+use mk_cli::{Form, Input, Progress, Question};
 use mk_escape::{Layout, escaped, shown_text};
 use mk_fs::{STANDARD_OUTPUT, SystemFault, WithError};
 use mk_lines::sink::write_all;
 use mk_lines::source::{BUFFER, MAX_TEXT, read_all};
 use mk_lines::{ByteSink, ByteSource, Fault, StdSink, StdSource};
-use mk_repl::{Found, Inquiry, Question, Unanswered, found_for, put_found};
+use mk_repl::{Found, Unanswered, found_for, put_found};
 use mk_run::{Outcome, write_refusal};
 use mk_session::{Refusal, Session};
 use mk_tree::Doc;
@@ -54,6 +58,7 @@ fn put_out<A: Allocator, B: Allocator, W: ByteSink>(
 fn put_answer<A: Allocator, B: Allocator + Copy, W: ByteSink>(
     alloc: B,
     question: Question<'_>,
+    file: &str,
     doc: &Doc<A>,
     out: &mut W,
 ) -> Result<(), Unanswered>
@@ -72,11 +77,12 @@ fn put_answer<A: Allocator, B: Allocator + Copy, W: ByteSink>(
     ensures write { result ≡ Err (Unanswered.Fault Fault.Write) ↔ W.failed out.new ≡ true }
     ensures out { PutsOutIf W.failed W.flushes W.pending out.old out.new (is_ok result) }
 {
-    let found = found_for(alloc, question, doc)?;
+    let found = found_for(alloc, question, file, doc)?;
     Ok(put_out(found, doc, out)?)
 }
 
-/// Reads a makefile to its end, and writes the answer, which it flushes once.
+/// Reads a makefile to its end, and writes the answer, which it flushes once. Lines of JSON call the
+/// makefile by this name.
 ///
 /// # Errors
 ///
@@ -92,6 +98,7 @@ fn put_answer<A: Allocator, B: Allocator + Copy, W: ByteSink>(
 pub fn answer<A, R, W>(
     alloc: A,
     question: Question<'_>,
+    file: &str,
     makefile: &mut R,
     out: &mut W,
 ) -> Result<(), Unanswered>
@@ -126,7 +133,7 @@ where
 {
     let text = read_all(alloc, makefile)?;
     let session = Session::open_vec(alloc, text, DEPTH)?;
-    let answered = put_answer(alloc, question, session.doc(), out);
+    let answered = put_answer(alloc, question, file, session.doc(), out);
     // The program ends soon: it does not give up a box for each line.
     mem::forget(session);
     answered
@@ -136,6 +143,7 @@ where
 fn print<A, R, W, P>(
     alloc: A,
     question: Question<'_>,
+    file: &str,
     makefile: &mut R,
     out: &mut W,
     report: &mut P,
@@ -169,7 +177,7 @@ where
     ensures too_deep { result ≡ Outcome.TooDeep
         → IfSome (R.remaining makefile.old) (λ text. IsTooDeep text) }
 {
-    match answer(alloc, question, makefile, out) {
+    match answer(alloc, question, file, makefile, out) {
         Ok(()) => Outcome::Done,
         Err(Unanswered::Fault(fault)) => Outcome::from(fault),
         Err(Unanswered::Refused(refusal)) => match write_refusal(report, refusal) {
@@ -214,6 +222,7 @@ fn put_shown<W: ByteSink>(
 fn print_shown<R: ByteSource, W: ByteSink, P: ByteSink>(
     alloc: Global,
     question: Question<'_>,
+    file: &str,
     shown: Shown<'_>,
     makefile: &mut R,
     out: &mut W,
@@ -225,7 +234,7 @@ fn print_shown<R: ByteSource, W: ByteSink, P: ByteSink>(
 {
     let mut text = Vec::new(alloc);
     let mut kept = StdSink::new(&mut text);
-    let outcome = print(alloc, question, makefile, &mut kept, report);
+    let outcome = print(alloc, question, file, makefile, &mut kept, report);
     match kept_outcome(outcome, kept.failed()) {
         Outcome::Done => match put_shown(alloc, shown, text, out) {
             Ok(()) => Outcome::Done,
@@ -275,7 +284,7 @@ fn end_of_query<'a, R, W>(
 // line of the answer gets it. A refusal is told on the sink.
 fn ask_one<'a, P: ByteSink>(
     rt: &HostRuntime,
-    inquiry: Inquiry<'_>,
+    question: Question<'_>,
     prefix: Option<&str>,
     file: Input<'a>,
     report: &mut P,
@@ -286,29 +295,29 @@ fn ask_one<'a, P: ByteSink>(
     let mut out = WithError::new(rt.stdout());
     let mut source = StdSource::new(&mut makefile);
     let mut sink = StdSink::new(&mut out);
-    let (alloc, question) = (rt.alloc(), inquiry.to(name_of(file)));
+    let (alloc, name) = (rt.alloc(), name_of(file));
     let is_terminal = rt.stdout().is_terminal();
     let outcome = if is_terminal || prefix.is_some() {
         let shown = Shown {
             prefix,
             is_terminal,
         };
-        print_shown(alloc, question, shown, &mut source, &mut sink, report)
+        print_shown(alloc, question, name, shown, &mut source, &mut sink, report)
     } else {
-        print(alloc, question, &mut source, &mut sink, report)
+        print(alloc, question, name, &mut source, &mut sink, report)
     };
     Ok(end_of_query(outcome, input_name(file), &makefile, &out))
 }
 
 // What stands before each line of an answer where several makefiles are asked: the name of the makefile,
 // which a line of JSON has in it.
-fn prefix_of<'a>(inquiry: Inquiry<'_>, file: Input<'a>) -> Option<&'a str>
+fn prefix_of<'a>(question: Question<'_>, file: Input<'a>) -> Option<&'a str>
     ensures { option_map (λ name. name.now) result
-        ≡ (if has_prefix inquiry.entry then Some (name_of file.entry) else None) }
+        ≡ (if has_prefix question.entry then Some (name_of file.entry) else None) }
 {
-    match inquiry {
-        Inquiry::Query(_, Form::Json) => None,
-        Inquiry::Query(_, Form::Text) | Inquiry::Value(_, _) => Some(name_of(file)),
+    match question {
+        Question::List(_, Form::Json) => None,
+        Question::List(_, Form::Text) | Question::Value(_, _) => Some(name_of(file)),
     }
 }
 
@@ -316,14 +325,14 @@ fn prefix_of<'a>(inquiry: Inquiry<'_>, file: Input<'a>) -> Option<&'a str>
 // is gathered in memory.
 fn ask_named(
     rt: &HostRuntime,
-    inquiry: Inquiry<'_>,
+    question: Question<'_>,
     progress: &mut Progress<'_>,
     file: Input<'_>,
     notes: bool,
 ) -> Told {
     let mut report = Vec::new(rt.alloc());
     let mut lines = StdSink::new(&mut report);
-    let asked = match ask_one(rt, inquiry, prefix_of(inquiry, file), file, &mut lines) {
+    let asked = match ask_one(rt, question, prefix_of(question, file), file, &mut lines) {
         Ok(asked) => asked,
         Err(fault) => return tell_unopened(rt, progress, fault, notes),
     };
@@ -338,12 +347,17 @@ fn ask_named(
 }
 
 // Answers what several makefiles are asked for, in turn, until nobody reads the output any more.
-fn ask_each(rt: &HostRuntime, inquiry: Inquiry<'_>, files: &[Input<'_>], notes: bool) -> ExitCode {
+fn ask_each(
+    rt: &HostRuntime,
+    question: Question<'_>,
+    files: &[Input<'_>],
+    notes: bool,
+) -> ExitCode {
     let mut progress = Progress::new(rt, files.len(), true);
     let mut statuses = Statuses::new();
     for (done, file) in files.iter().enumerate() {
         progress.show(done);
-        let told = ask_named(rt, inquiry, &mut progress, *file, notes);
+        let told = ask_named(rt, question, &mut progress, *file, notes);
         statuses.add(told.status);
         if told.is_left {
             break;
@@ -356,18 +370,18 @@ fn ask_each(rt: &HostRuntime, inquiry: Inquiry<'_>, files: &[Input<'_>], notes: 
 // Answers what one makefile is asked for, and says how that ended.
 fn ask_alone<'a>(
     rt: &HostRuntime,
-    inquiry: Inquiry<'_>,
+    question: Question<'_>,
     file: Input<'a>,
 ) -> Result<End<'a>, End<'a>> {
     let mut report = StdSink::new(rt.stderr());
-    Ok(ask_one(rt, inquiry, None, file, &mut report)?.end)
+    Ok(ask_one(rt, question, None, file, &mut report)?.end)
 }
 
 /// Answers what the makefiles are asked for, on standard output, and answers the status. Where nobody
 /// reads that to its end, it ends as where all was read.
-pub fn ask(rt: &HostRuntime, inquiry: Inquiry<'_>, files: &[Input<'_>], notes: bool) -> ExitCode {
+pub fn ask(rt: &HostRuntime, question: Question<'_>, files: &[Input<'_>], notes: bool) -> ExitCode {
     match files {
-        [file] => finished(rt, ask_alone(rt, inquiry, *file), notes),
-        files => ask_each(rt, inquiry, files, notes),
+        [file] => finished(rt, ask_alone(rt, question, *file), notes),
+        files => ask_each(rt, question, files, notes),
     }
 }

@@ -1,6 +1,9 @@
 //! Several makefiles: each is a run, or a query, by itself.
 //!
 //! What is said of a makefile is gathered in memory, so that each line can get the makefile's name.
+//!
+//! They are done one after the other: the program is allowed no threads (the file HANDLES), and
+//! `xargs -P` runs several processes.
 ghost use Rattle.std.specs.Prelude.{◌≡◌, ◌++◌, OnOk, false, if◌then◌else◌, map};
 ghost use Rattle.std.specs.Io.KnownBytes.{Appends};
 ghost use Rattle.mk_lines.specs.Device.{AppendsPrefix};

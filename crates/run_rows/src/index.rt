@@ -9,7 +9,7 @@ use mk_edit::plan_with;
 use mk_edit_parts::address::Address;
 use mk_edit_parts::seek::Sought;
 use mk_edit_parts::window::Known;
-use mk_index::{Finder, Index, IndexedDoc, Scope};
+use mk_index::{Expected, Finder, Index, IndexedDoc, Scope};
 use mk_lines::Fault;
 use mk_session::Session;
 use mk_tree::Doc;
@@ -85,6 +85,12 @@ fn is_known(alloc: Global, indexed: &mut IndexedDoc, line: &[u8]) -> Result<bool
     Ok(!matches!(indexed.known(alloc, &edit), Known::Nothing))
 }
 
+/// Edits besides renames are expected.
+const OTHERS: Expected = Expected {
+    renames: false,
+    others: true,
+};
+
 /// Whether something is known at each of some edits in turn, one in a line. A `*` before them says that
 /// renames are expected.
 pub fn known(case: &Case<'_>, makefile: &[u8], edits: &[u8]) -> Result<Vec<u8>, Fault> {
@@ -94,7 +100,10 @@ pub fn known(case: &Case<'_>, makefile: &[u8], edits: &[u8]) -> Result<Vec<u8>, 
         _ => (false, edits),
     };
     if expects {
-        indexed.expect_renames();
+        indexed.expect_edits(Expected {
+            renames: true,
+            others: false,
+        });
     }
     known_in_turn(case.alloc, &mut indexed, edits)
 }
@@ -118,7 +127,7 @@ pub fn known_after(
     second: &[u8],
 ) -> Result<Vec<u8>, Fault> {
     let mut indexed = indexed(case.alloc, makefile)?;
-    indexed.expect_edits();
+    indexed.expect_edits(OTHERS);
     let is_known = is_known_after(case.alloc, &mut indexed, first, second)?;
     Ok(is_known.to_string(case.alloc)?.into_bytes())
 }
@@ -163,7 +172,7 @@ pub fn first_growths(
     heap.refuse_none();
     let mut session = Session::open(heap, makefile, 100)?;
     if expects {
-        session.expect_edits();
+        session.expect_edits(OTHERS);
     }
     growths_of(heap, &mut session, edit)
 }
@@ -172,7 +181,7 @@ pub fn first_growths(
 /// the growth of the copy of a name for each of the two: it makes an index and asks it.
 pub fn found_lines(case: &Case<'_>, makefile: &[u8], name: &[u8]) -> Result<Vec<u8>, Fault> {
     let mut session = Session::open(case.heap, makefile, 100)?;
-    session.expect_edits();
+    session.expect_edits(OTHERS);
     case.heap.refuse_none();
     let assignment = session.find_assignment(None, name);
     let rule = session.find_rule(None, name);

@@ -1,9 +1,11 @@
-//! Edits by the calls that make them, beside the lines of scripts that say the same.
+//! Edits by the calls that make them, beside the lines of scripts that say the same; and by the calls of a
+//! session.
 
-use crate::sessions::edit_of;
+use crate::sessions::{edit_of, text_of};
 use mk_lines::Fault;
 use mk_session::{
-    Edit, Flavor, Place, RuleSeparator, clone_edit, clone_place, is_same_edit, is_same_place,
+    Edit, Flavor, Place, Refusal, RuleSeparator, Session, clone_edit, clone_place, is_same_edit,
+    is_same_place,
 };
 use std::alloc::AllocError;
 use test_support::text::number;
@@ -65,5 +67,43 @@ fn place_at(heap: &Heap, number: u64) -> Result<Place<&Heap>, AllocError> {
         Ok(copy)
     } else {
         Err(AllocError)
+    }
+}
+
+/// The text after the call of a session of a number, on a makefile.
+pub fn applied(case: &Case<'_>, call: &[u8], makefile: &[u8]) -> Result<Vec<u8>, Fault> {
+    let mut session = Session::open(case.heap, makefile, 100)?;
+    match apply_at(&mut session, number(call)) {
+        Ok(()) => Ok(text_of(case.alloc, &session)?),
+        Err(Refusal::NoMemory) => Err(Fault::NoMemory),
+        Err(_) => Err(Fault::Read),
+    }
+}
+
+/// Makes the call of a number.
+fn apply_at(session: &mut Session<&Heap>, number: u64) -> Result<(), Refusal> {
+    match number {
+        0 => session.set(b"A", b"b"),
+        1 => session.append(b"A", b"b"),
+        2 => session.add_word(b"A", b"b"),
+        3 => session.drop_word(b"A", b"b"),
+        4 => session.all_set(b"A", b"b"),
+        5 => session.all_append(b"A", b"b"),
+        6 => session.all_add_word(b"A", b"b"),
+        7 => session.all_drop_word(b"A", b"b"),
+        8 => session.unset(b"A"),
+        9 => session.unrule(b"A"),
+        10 => session.rename(b"A", b"b"),
+        11 => session.depend(b"A", b"b"),
+        12 => session.depend_order(b"A", b"b"),
+        13 => session.undepend(b"A", b"b"),
+        14 => session.recipe(b"A", b"b"),
+        15 => session.recipe_insert(b"A", 1, b"b"),
+        16 => session.recipe_set(b"A", 1, b"b"),
+        17 => session.recipe_del(b"A", 1),
+        18 => session.recipe_replace(b"A", b"b", b"c"),
+        19 => session.recipe_remove(b"A", b"b"),
+        20 => session.assign(Place::Bottom, b"A", Flavor::Simple, b"b"),
+        _ => session.rule(Place::Bottom, b"A", RuleSeparator::Single, b"b"),
     }
 }

@@ -4,7 +4,7 @@
 //!
 //! - [`scripts`]: `mk_script`.
 //! - [`changes`]: `mk_history` at a change of a type of its own, and `mk_patch`.
-//! - [`made`]: edits by the calls that make them.
+//! - [`made`]: edits by the calls that make them, and by the calls of a session.
 //! - [`sessions`]: sessions, lookups, and how edits are shown.
 //! - [`groups`]: groups of edits that are one call, and dry runs.
 //! - [`memory`]: how many bytes edits take.
@@ -38,6 +38,7 @@ impl Calls for RunCalls {
             ("mistake", [script, line]) => scripts::mistake(case, script, line),
             ("alike", [one, other]) => scripts::alike(case, one, other),
             ("made", [call, line]) => made::made(case, call, line),
+            ("applied", [call, makefile]) => made::applied(case, call, makefile),
             _ => return of_changes(case),
         };
         Ok(Some(answer?))

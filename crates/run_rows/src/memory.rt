@@ -4,7 +4,7 @@
 use crate::index::first_growths;
 use crate::sessions::{execute, growths_of};
 use mk_lines::Fault;
-use mk_session::Session;
+use mk_session::{Expected, Session};
 use std::alloc::Global;
 use test_support::text::number;
 use test_support::{Case, Heap};
@@ -72,14 +72,16 @@ pub fn by_index(
     )
 }
 
-/// The bytes of an edit of a session that expects edits and renames, after another edit that is undone.
+/// The bytes of an edit of a session that expects edits of all kinds, after another edit that is undone.
 fn indexed_bytes<'h>(
     heap: &'h Heap,
     session: &mut Session<&'h Heap>,
     edit: &[u8],
 ) -> Result<u64, Fault> {
-    session.expect_edits();
-    session.expect_renames();
+    session.expect_edits(Expected {
+        renames: true,
+        others: true,
+    });
     execute(heap, session, b"set A 2")?;
     execute(heap, session, b"undo")?;
     Ok(growths_of(heap, session, edit)?.bytes)

@@ -1,4 +1,7 @@
 //! The query `caveats`: the lines that make may read otherwise.
+//!
+//! No definition says what is printed: these are hints to a person, and a definition would be this
+//! code once more. `tests/program` compares them with a reading in Python.
 ghost use Rattle.std.specs.Prelude.{◌≡◌, ℕ, List, false};
 ghost use Rattle.mk_lines.specs.Device.{Writes};
 ghost use Rattle.mk_tree.specs.Documents.{IsFaithful};

@@ -1,4 +1,7 @@
 //! The query `vars`: the assignments.
+//!
+//! The query goes over all lines and not over a list of assignments, since assignments for targets
+//! stand among the others.
 ghost use Rattle.std.specs.Prelude.{◌≡◌, ◌++◌, Some, None, false, option_map};
 ghost use Rattle.mk_lines.specs.Device.{Writes};
 ghost use Rattle.mk_lines.specs.Spacing.{after_space};

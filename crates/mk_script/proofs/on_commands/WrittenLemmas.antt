@@ -1,360 +1,244 @@
--- What is read as a command is written in the line.
-use Rattle.std.proofs.Common.{◌≡◌, ℕ, Bool, true, false, List, [], ◌∷◌, ◌++◌, refl, sym, ap, ◌∙◌, subst, cond, codes}
-use Rattle.std.specs.Prelude.{Option, Some, None, option_map}
-use Rattle.std.specs.Str.{bytes_eq}
-use Rattle.std.proofs.lemmas.Slice.Eq.{bytes_eq-Decides}
+-- What fields are read as is a command that has these fields.
+use Rattle.std.proofs.Common.{◌≡◌, ℕ, ◌-◌, true, false, List, [], ◌∷◌, ◌++◌, length, refl, sym, ap, ◌∙◌, subst, codes}
+use Rattle.std.specs.Prelude.{Option, Some, None, option_map, option_and_then}
+use Rattle.std.proofs.lemmas.List.{take-append-drop}
 use Rattle.mk_class.specs.declared.assignment.Flavor.{Flavor}
 use Rattle.mk_class.specs.OperatorTexts.{operator_text}
 use Rattle.mk_edit_language.specs.declared.edit.RuleSeparator.{RuleSeparator}
-use Rattle.mk_edit_language.specs.Edits.{Place, Bottom, BeforeVar, AfterVar, BeforeRule, NewAssign, NewRule, One, Every, ByNumber, OfRecipe, Edit, AddLine, RemoveLines, RenameTarget}
+use Rattle.mk_edit_language.specs.Edits.{Place, Bottom, BeforeVar, AfterVar, BeforeRule, NewLine, NewAssign, NewRule, Which, One, Every, ValueChange, Set, Append, Add, Remove, AddPrereq, RemovePrereq, ByNumber, ByText, Last, At, OfAssign, OfRule, OfRecipe, Edit, ChangeValue, ChangePrereqs, AddLine, AddRecipe, SetRecipe, RemoveLines, RenameTarget}
 use Rattle.mk_edit_language.specs.NewLines.{rule_separator_text}
-use Rattle.mk_history.specs.Machine.{Command, Apply}
-use Rattle.mk_script.specs.Numbers.{IsNumber}
-use Rattle.mk_script.specs.Fields.{HasFields, BeginsWithField}
-use Rattle.mk_script.specs.CommandTable.{IsAfterNth, place_words, nth_of_place, IsCommand}
-use Rattle.mk_script.specs.Lines.{HasCommand}
-use Rattle.mk_script.specs.FieldReading.{is_blank, first_field, one_field, two_fields, three_fields}
-use Rattle.mk_script.specs.NumberReading.{number}
-use Rattle.mk_script.specs.WordReading.{named, calls, edit_words, value_words, places, operators, separators}
-use Rattle.mk_script.specs.CommandReading.{placed_at, bottom, place_by_word, place_at_front, place_after, of_one, of_two, of_three, add_assign_after, add_assign_at, add_assign_of, add_rule_after, add_rule_at, add_rule_of, numbered_line_after, numbered_line_of, remove_recipe_after, remove_recipe_of, rename_target_of, value_edit, remove_assign, remove_rule, add_prereq, remove_prereq, add_recipe, insert_recipe, set_recipe, replace_recipe, remove_recipe, edit_by_word, edit, change_by_word, edit_after_all, edit_after_nth, edit_after_number, numbered_edit, addressed_edit, call_or_edit, command_after, command}
-use Rattle.mk_script.specs.declared.word.ChangeWord.{ChangeWord}
-use Rattle.mk_script.specs.declared.word.ChangeWord.TheVariants as change
-use Rattle.mk_script.specs.declared.word.EditWord.{EditWord}
-use Rattle.mk_script.specs.declared.word.EditWord.TheVariants as word
+use Rattle.mk_history.specs.Machine.{Command, Apply, Undo, Redo, Begin, End, Cancel}
+use Rattle.mk_script.specs.Numbers.{number}
+use Rattle.mk_script.specs.CommandTable.{Content, Text, Number, texts, after_nth, place_words, nth_of_place, change_words, command_fields, HaveContents, IsCommand}
+use Rattle.mk_script.specs.WordReading.{named, words, places, operators, separators}
+use Rattle.mk_script.specs.CommandReading.{Texts, one, two, three, numbered, worded, place_with, place_in, new_assign, new_rule, before_three, last_three, edit_with, edit_by, edit_after, edit_in, alone, command_after}
+use Rattle.mk_script.specs.declared.table.Word.{Word}
+use Rattle.mk_script.specs.declared.table.Word.TheVariants as word
 use Rattle.mk_script.specs.declared.word.PlaceWord.{PlaceWord}
 use Rattle.mk_script.specs.declared.word.PlaceWord.TheVariants as spot
-use Rattle.mk_script.proofs.on_fields.BlankLemmas.{blank-is}
-use Rattle.mk_script.proofs.on_fields.FirstLemmas.{read-begins, one-is, two-is, three-is}
-use Rattle.mk_script.proofs.on_fields.NumberLemmas.{number-is}
-use Rattle.mk_script.proofs.on_commands.TableLemmas.{word_text, change_text, named-word, named-change, named-place, named-operator, named-separator, named-call}
+use Rattle.mk_script.proofs.on_commands.TableLemmas.{text_of, place_text, named-word, named-place, named-operator, named-separator, mapped, chained}
 
--- ---- edits
+-- ---- so many fields
 
--- The fields after a word, which with it are the edit.
-record IsWrittenEdit (nth : Option ℕ) (word rest : List ℕ) (e : Edit) : Type 0 where
-  args : List (List ℕ)
-  args_are : HasFields rest args
-  is_command : (fields : List (List ℕ)) → IsAfterNth nth fields (word ∷ args) → IsCommand fields (Apply e)
+one-is : (fields : Texts) (a : List ℕ) → one fields ≡ Some a → fields ≡ a ∷ []
+one-is [] a h = absurd (cc)
+one-is (x ∷ []) a h = let same : x ≡ a = cc in ap (λ z. z ∷ []) same
+one-is (x ∷ y ∷ fields) a h = absurd (cc)
 
--- an edit of two fields
-two-written : (nth : Option ℕ) (word rest : List ℕ) (e : Edit) (make : List ℕ → List ℕ → Edit) → of_two make rest ≡ Some e
-    → ((a b : List ℕ) (fields : List (List ℕ)) → IsAfterNth nth fields (word ∷ a ∷ b ∷ []) → IsCommand fields (Apply (make a b))) → IsWrittenEdit nth word rest e
-two-written nth word rest e make h is = go (two_fields rest) refl h
-  where
-    go : (o : Option (List ℕ × List ℕ)) → two_fields rest ≡ o → option_map (λ (p : List ℕ × List ℕ). make p.0 p.1) o ≡ Some e → IsWrittenEdit nth word rest e
-    go None k m = absurd (cc)
-    go (Some p) k m =
-        let same : make p.0 p.1 ≡ e = cc in
-        record {
-          args = p.0 ∷ p.1 ∷ [];
-          args_are = two-is rest p.0 p.1 k;
-          is_command = λ fields a. subst (λ x. IsCommand fields (Apply x)) same (is p.0 p.1 fields a);
-        }
+two-is : (fields : Texts) (p : List ℕ × List ℕ) → two fields ≡ Some p → fields ≡ p.0 ∷ p.1 ∷ []
+two-is [] p h = absurd (cc)
+two-is (x ∷ []) p h = absurd (cc)
+two-is (x ∷ y ∷ []) p h = let same : ◌≡◌ {A = List ℕ × List ℕ} (x, y) p = cc in ap (λ (q : List ℕ × List ℕ). q.0 ∷ q.1 ∷ []) same
+two-is (x ∷ y ∷ z ∷ fields) p h = absurd (cc)
 
-one-written : (nth : Option ℕ) (word rest : List ℕ) (e : Edit) (make : List ℕ → Edit) → of_one make rest ≡ Some e
-    → ((a : List ℕ) (fields : List (List ℕ)) → IsAfterNth nth fields (word ∷ a ∷ []) → IsCommand fields (Apply (make a))) → IsWrittenEdit nth word rest e
-one-written nth word rest e make h is = go (one_field rest) refl h
-  where
-    go : (o : Option (List ℕ)) → one_field rest ≡ o → option_map make o ≡ Some e → IsWrittenEdit nth word rest e
-    go None k m = absurd (cc)
-    go (Some f) k m =
-        let same : make f ≡ e = cc in
-        record {
-          args = f ∷ [];
-          args_are = one-is rest f k;
-          is_command = λ fields a. subst (λ x. IsCommand fields (Apply x)) same (is f fields a);
-        }
+three-is : (fields : Texts) (p : List ℕ × List ℕ × List ℕ) → three fields ≡ Some p → fields ≡ p.0 ∷ p.1 ∷ p.2 ∷ []
+three-is [] p h = absurd (cc)
+three-is (x ∷ []) p h = absurd (cc)
+three-is (x ∷ y ∷ []) p h = absurd (cc)
+three-is (x ∷ y ∷ z ∷ []) p h =
+    let same : ◌≡◌ {A = List ℕ × List ℕ × List ℕ} (x, y, z) p = cc in ap (λ (q : List ℕ × List ℕ × List ℕ). q.0 ∷ q.1 ∷ q.2 ∷ []) same
+three-is (x ∷ y ∷ z ∷ u ∷ fields) p h = absurd (cc)
+
+numbered-is : (fields : Texts) (p : List ℕ × ℕ × List ℕ) → numbered fields ≡ Some p → (d : List ℕ) × (fields ≡ p.0 ∷ d ∷ p.2 ∷ []) × (number d ≡ Some p.1)
+numbered-is fields p h =
+    let c = chained (λ (q : List ℕ × List ℕ × List ℕ). option_map (λ (n : ℕ). (q.0, n, q.2)) (number q.1)) (three fields) p h in
+    let m = mapped (λ (n : ℕ). (c.0.0, n, c.0.2)) (number c.0.1) p c.2 in (
+      c.0.1,
+      three-is fields c.0 c.1 ∙ ap (λ (q : List ℕ × ℕ × List ℕ). q.0 ∷ c.0.1 ∷ q.2 ∷ []) m.2,
+      m.1 ∙ ap (λ (q : List ℕ × ℕ × List ℕ). Some q.1) m.2,
+    )
 
 -- ---- places
 
--- a place that stands before a rest
-record IsWrittenPlace (nth : Option ℕ) (text : List ℕ) (place : Place) (rest : List ℕ) : Type 0 where
-  nth_is : nth ≡ nth_of_place place
-  words : (others : List (List ℕ)) → HasFields rest others → HasFields text (place_words place ++ others)
+place-with : (nth : Option ℕ) (w : PlaceWord) (f : List ℕ) (fs : Texts) (place : Place) → f ≡ place_text w → place_with nth w fs ≡ Some place
+    → (nth ≡ nth_of_place place) × (f ∷ fs ≡ place_words place)
+place-with None spot.Bottom f [] place is h = let same : Bottom ≡ place = cc in (ap nth_of_place same, ap (λ z. z ∷ []) is ∙ ap place_words same)
+place-with None spot.Bottom f (g ∷ fs) place is h = absurd (cc)
+place-with (Some n) spot.Bottom f fs place is h = absurd (cc)
+place-with nth spot.BeforeVar f fs place is h =
+    let m = mapped (λ (name : List ℕ). BeforeVar nth name) (one fs) place h in
+    (ap nth_of_place m.2, ap (λ z. z ∷ fs) is ∙ (ap (λ zs. codes "before-var" ∷ zs) (one-is fs m.0 m.1) ∙ ap place_words m.2))
+place-with nth spot.AfterVar f fs place is h =
+    let m = mapped (λ (name : List ℕ). AfterVar nth name) (one fs) place h in
+    (ap nth_of_place m.2, ap (λ z. z ∷ fs) is ∙ (ap (λ zs. codes "after-var" ∷ zs) (one-is fs m.0 m.1) ∙ ap place_words m.2))
+place-with nth spot.BeforeRule f fs place is h =
+    let m = mapped (λ (target : List ℕ). BeforeRule nth target) (one fs) place h in
+    (ap nth_of_place m.2, ap (λ z. z ∷ fs) is ∙ (ap (λ zs. codes "before-rule" ∷ zs) (one-is fs m.0 m.1) ∙ ap place_words m.2))
 
--- a place of a first word and a field
-place-written : (nth : Option ℕ) (text word after : List ℕ) (make : List ℕ → Place) (place : Place) (rest : List ℕ) → BeginsWithField text word after
-    → ((f : List ℕ) → (nth ≡ nth_of_place (make f)) × (place_words (make f) ≡ word ∷ f ∷ [])) → placed_at make (first_field after) ≡ Some (place, rest)
-    → IsWrittenPlace nth text place rest
-place-written nth text word after make place rest begins is h = go (first_field after) refl h
-  where
-    go : (o : Option (List ℕ × List ℕ)) → first_field after ≡ o → placed_at make o ≡ Some (place, rest) → IsWrittenPlace nth text place rest
-    go None k m = absurd (cc)
-    go (Some p) k m =
-        let pairs : ◌≡◌ {A = Place × List ℕ} (make p.0, p.1) (place, rest) = cc in
-        let same : make p.0 ≡ place = ap (λ z. z.0) pairs in
-        let left : p.1 ≡ rest = ap (λ z. z.1) pairs in
-        record {
-          nth_is = (is p.0).0 ∙ ap (λ z. nth_of_place z) same;
-          words = λ others f.
-              subst (λ z. HasFields text (z ++ others)) (sym (is p.0).1 ∙ ap (λ z. place_words z) same)
-              (after, begins, (rest, subst (λ z. BeginsWithField after p.0 z) left (read-begins after p.0 p.1 k), f));
-        }
+place-is : (nth : Option ℕ) (fields : Texts) (place : Place) → place_in nth fields ≡ Some place → (nth ≡ nth_of_place place) × (fields ≡ place_words place)
+place-is nth [] place h = absurd (cc)
+place-is nth (f ∷ fs) place h =
+    let c = chained (λ (w : PlaceWord). place_with nth w fs) (named places f) place h in
+    place-with nth c.0 f fs place (named-place f c.0 c.1) c.2
 
-front-written : (nth : Option ℕ) (text : List ℕ) (place : Place) (rest : List ℕ) → place_at_front nth text ≡ Some (place, rest) → IsWrittenPlace nth text place rest
-front-written nth text place rest h = go (first_field text) refl h
-  where
-    bottom-written : (p : List ℕ × List ℕ) → first_field text ≡ Some p → p.0 ≡ codes "bottom" → (n : Option ℕ) → nth ≡ n → bottom n p.1 ≡ Some (place, rest)
-        → IsWrittenPlace nth text place rest
-    bottom-written p k w None e m =
-        let pairs : ◌≡◌ {A = Place × List ℕ} (Bottom, p.1) (place, rest) = cc in
-        let same : Bottom ≡ place = ap (λ z. z.0) pairs in
-        let left : p.1 ≡ rest = ap (λ z. z.1) pairs in
-        record {
-          nth_is = e ∙ ap (λ z. nth_of_place z) same;
-          words = λ others f.
-              subst (λ z. HasFields text (place_words z ++ others)) same
-              (rest, subst (λ z. BeginsWithField text (codes "bottom") z) left (subst (λ z. BeginsWithField text z p.1) w (read-begins text p.0 p.1 k)), f);
-        }
-    bottom-written p k w (Some n) e m = absurd (cc)
+-- ---- an edit by its word
 
-    begins : (p : List ℕ × List ℕ) (w : List ℕ) → first_field text ≡ Some p → p.0 ≡ w → BeginsWithField text w p.1
-    begins p w k e = subst (λ z. BeginsWithField text z p.1) e (read-begins text p.0 p.1 k)
+-- what stands before the words of an edit
+abbrev behind : Which → List Content → List Content
+behind (One nth) contents = after_nth nth contents
+behind Every contents = Text (codes "all") ∷ contents
 
-    by_word : (p : List ℕ × List ℕ) → first_field text ≡ Some p → (o : Option PlaceWord) → named places p.0 ≡ o → place_by_word nth o p.1 ≡ Some (place, rest)
-        → IsWrittenPlace nth text place rest
-    by_word p k None e m = absurd (cc)
-    by_word p k (Some spot.Bottom) e m = bottom-written p k (named-place p.0 spot.Bottom e) nth refl m
-    by_word p k (Some spot.BeforeVar) e m =
-        place-written nth text (codes "before-var") p.1 (BeforeVar nth) place rest (begins p (codes "before-var") k (named-place p.0 spot.BeforeVar e)) (λ f. (refl, refl)) m
-    by_word p k (Some spot.AfterVar) e m =
-        place-written nth text (codes "after-var") p.1 (AfterVar nth) place rest (begins p (codes "after-var") k (named-place p.0 spot.AfterVar e)) (λ f. (refl, refl)) m
-    by_word p k (Some spot.BeforeRule) e m =
-        place-written nth text (codes "before-rule") p.1 (BeforeRule nth) place rest (begins p (codes "before-rule") k (named-place p.0 spot.BeforeRule e)) (λ f. (refl, refl)) m
+-- The fields after a word have contents that with it are the command of the edit.
+record IsWrittenEdit (which : Which) (w : Word) (fields : Texts) (e : Edit) : Type 0 where
+  contents : List Content
+  have : HaveContents fields contents
+  command : command_fields (Apply e) ≡ behind which (Text (text_of w) ∷ contents)
 
-    go : (o : Option (List ℕ × List ℕ)) → first_field text ≡ o → place_after nth o ≡ Some (place, rest) → IsWrittenPlace nth text place rest
-    go None k m = absurd (cc)
-    go (Some p) k m = by_word p k (named places p.0) refl m
+texts-have : (ts : Texts) → HaveContents ts (texts ts)
+texts-have [] = tt
+texts-have (t ∷ ts) = (refl, texts-have ts)
 
--- ---- edits of places and of numbers
+text-written : (which : Which) (w : Word) (fields ts : Texts) (e d : Edit) → fields ≡ ts → d ≡ e → command_fields (Apply d) ≡ behind which (Text (text_of w) ∷ texts ts)
+    → IsWrittenEdit which w fields e
+text-written which w fields ts e d is same command = record {
+  contents = texts ts;
+  have = subst (λ z. HaveContents z (texts ts)) (sym is) (texts-have ts);
+  command = ap (λ x. command_fields (Apply x)) (sym same) ∙ command;
+}
 
-add_assign-written : (nth : Option ℕ) (rest : List ℕ) (e : Edit) → add_assign_after (place_at_front nth rest) ≡ Some e → IsWrittenEdit nth (codes "assign") rest e
-add_assign-written nth rest e h = go (place_at_front nth rest) refl h
-  where
-    of_fields : (p : Place × List ℕ) → place_at_front nth rest ≡ Some p → (q : List ℕ × List ℕ × List ℕ) → three_fields p.1 ≡ Some q
-        → (o : Option Flavor) → named operators q.1 ≡ o → add_assign_of p.0 o q.0 q.2 ≡ Some e → IsWrittenEdit nth (codes "assign") rest e
-    of_fields p k q m None n x = absurd (cc)
-    of_fields p k q m (Some flavor) n x =
-        let w = front-written nth rest p.0 p.1 k in
-        let same : AddLine p.0 (NewAssign q.0 flavor q.2) ≡ e = cc in
-        let fields_are : HasFields p.1 (q.0 ∷ operator_text flavor ∷ q.2 ∷ []) = subst (λ z. HasFields p.1 (q.0 ∷ z ∷ q.2 ∷ [])) (named-operator q.1 flavor n) (three-is p.1 q.0 q.1 q.2 m) in
-        record {
-          args = place_words p.0 ++ q.0 ∷ operator_text flavor ∷ q.2 ∷ [];
-          args_are = w.words (q.0 ∷ operator_text flavor ∷ q.2 ∷ []) fields_are;
-          is_command = λ fields a.
-              subst (λ z. IsCommand fields (Apply z)) same
-              (subst (λ z. IsAfterNth z fields (codes "assign" ∷ (place_words p.0 ++ q.0 ∷ operator_text flavor ∷ q.2 ∷ []))) w.nth_is a);
-        }
+one-written : (which : Which) (w : Word) (fields : Texts) (e : Edit) (make : List ℕ → Edit) → option_map make (one fields) ≡ Some e
+    → ((a : List ℕ) → command_fields (Apply (make a)) ≡ behind which (Text (text_of w) ∷ texts (a ∷ []))) → IsWrittenEdit which w fields e
+one-written which w fields e make h is =
+    let m = mapped make (one fields) e h in text-written which w fields (m.0 ∷ []) e (make m.0) (one-is fields m.0 m.1) m.2 (is m.0)
 
-    of_place : (p : Place × List ℕ) → place_at_front nth rest ≡ Some p → (o : Option (List ℕ × List ℕ × List ℕ)) → three_fields p.1 ≡ o → add_assign_at p.0 o ≡ Some e
-        → IsWrittenEdit nth (codes "assign") rest e
-    of_place p k None m n = absurd (cc)
-    of_place p k (Some q) m n = of_fields p k q m (named operators q.1) refl n
+two-written : (which : Which) (w : Word) (fields : Texts) (e : Edit) (make : List ℕ → List ℕ → Edit) → option_map (λ (p : List ℕ × List ℕ). make p.0 p.1) (two fields) ≡ Some e
+    → ((a b : List ℕ) → command_fields (Apply (make a b)) ≡ behind which (Text (text_of w) ∷ texts (a ∷ b ∷ []))) → IsWrittenEdit which w fields e
+two-written which w fields e make h is =
+    let m = mapped (λ (p : List ℕ × List ℕ). make p.0 p.1) (two fields) e h in
+    text-written which w fields (m.0.0 ∷ m.0.1 ∷ []) e (make m.0.0 m.0.1) (two-is fields m.0 m.1) m.2 (is m.0.0 m.0.1)
 
-    go : (o : Option (Place × List ℕ)) → place_at_front nth rest ≡ o → add_assign_after o ≡ Some e → IsWrittenEdit nth (codes "assign") rest e
-    go None k m = absurd (cc)
-    go (Some p) k m = of_place p k (three_fields p.1) refl m
+three-written : (which : Which) (w : Word) (fields : Texts) (e : Edit) (make : List ℕ → List ℕ → List ℕ → Edit)
+    → option_map (λ (p : List ℕ × List ℕ × List ℕ). make p.0 p.1 p.2) (three fields) ≡ Some e
+    → ((a b c : List ℕ) → command_fields (Apply (make a b c)) ≡ behind which (Text (text_of w) ∷ texts (a ∷ b ∷ c ∷ []))) → IsWrittenEdit which w fields e
+three-written which w fields e make h is =
+    let m = mapped (λ (p : List ℕ × List ℕ × List ℕ). make p.0 p.1 p.2) (three fields) e h in
+    text-written which w fields (m.0.0 ∷ m.0.1 ∷ m.0.2 ∷ []) e (make m.0.0 m.0.1 m.0.2) (three-is fields m.0 m.1) m.2 (is m.0.0 m.0.1 m.0.2)
 
-add_rule-written : (nth : Option ℕ) (rest : List ℕ) (e : Edit) → add_rule_after (place_at_front nth rest) ≡ Some e → IsWrittenEdit nth (codes "rule") rest e
-add_rule-written nth rest e h = go (place_at_front nth rest) refl h
-  where
-    of_fields : (p : Place × List ℕ) → place_at_front nth rest ≡ Some p → (q : List ℕ × List ℕ × List ℕ) → three_fields p.1 ≡ Some q
-        → (o : Option RuleSeparator) → named separators q.1 ≡ o → add_rule_of p.0 o q.0 q.2 ≡ Some e → IsWrittenEdit nth (codes "rule") rest e
-    of_fields p k q m None n x = absurd (cc)
-    of_fields p k q m (Some colons) n x =
-        let w = front-written nth rest p.0 p.1 k in
-        let same : AddLine p.0 (NewRule q.0 colons q.2) ≡ e = cc in
-        let fields_are : HasFields p.1 (q.0 ∷ rule_separator_text colons ∷ q.2 ∷ []) = subst (λ z. HasFields p.1 (q.0 ∷ z ∷ q.2 ∷ [])) (named-separator q.1 colons n) (three-is p.1 q.0 q.1 q.2 m) in
-        record {
-          args = place_words p.0 ++ q.0 ∷ rule_separator_text colons ∷ q.2 ∷ [];
-          args_are = w.words (q.0 ∷ rule_separator_text colons ∷ q.2 ∷ []) fields_are;
-          is_command = λ fields a.
-              subst (λ z. IsCommand fields (Apply z)) same
-              (subst (λ z. IsAfterNth z fields (codes "rule" ∷ (place_words p.0 ++ q.0 ∷ rule_separator_text colons ∷ q.2 ∷ []))) w.nth_is a);
-        }
+numbered-written : (which : Which) (w : Word) (fields : Texts) (e : Edit) (make : List ℕ → ℕ → List ℕ → Edit)
+    → option_map (λ (p : List ℕ × ℕ × List ℕ). make p.0 p.1 p.2) (numbered fields) ≡ Some e
+    → ((a : List ℕ) (n : ℕ) (c : List ℕ) → command_fields (Apply (make a n c)) ≡ behind which (Text (text_of w) ∷ Text a ∷ Number n ∷ texts (c ∷ []))) → IsWrittenEdit which w fields e
+numbered-written which w fields e make h is =
+    let m = mapped (λ (p : List ℕ × ℕ × List ℕ). make p.0 p.1 p.2) (numbered fields) e h in
+    let k = numbered-is fields m.0 m.1 in
+    let contents : List Content = Text m.0.0 ∷ Number m.0.1 ∷ texts (m.0.2 ∷ []) in
+    record {
+      contents = contents;
+      have = subst (λ z. HaveContents z contents) (sym k.1) (refl, (k.2, (refl, tt)));
+      command = ap (λ x. command_fields (Apply x)) (sym m.2) ∙ is m.0.0 m.0.1 m.0.2;
+    }
 
-    of_place : (p : Place × List ℕ) → place_at_front nth rest ≡ Some p → (o : Option (List ℕ × List ℕ × List ℕ)) → three_fields p.1 ≡ o → add_rule_at p.0 o ≡ Some e
-        → IsWrittenEdit nth (codes "rule") rest e
-    of_place p k None m n = absurd (cc)
-    of_place p k (Some q) m n = of_fields p k q m (named separators q.1) refl n
+recipe_del-written : (nth : Option ℕ) (fields : Texts) (e : Edit) → edit_with (One nth) word.RecipeDel fields ≡ Some e → IsWrittenEdit (One nth) word.RecipeDel fields e
+recipe_del-written nth fields e h =
+    let c = chained (λ (p : List ℕ × List ℕ). option_map (λ (n : ℕ). RemoveLines (OfRecipe nth p.0 (ByNumber n))) (number p.1)) (two fields) e h in
+    let m = mapped (λ (n : ℕ). RemoveLines (OfRecipe nth c.0.0 (ByNumber n))) (number c.0.1) e c.2 in
+    let contents : List Content = Text c.0.0 ∷ Number m.0 ∷ [] in
+    record {
+      contents = contents;
+      have = subst (λ z. HaveContents z contents) (sym (two-is fields c.0 c.1)) (refl, (m.1, tt));
+      command = ap (λ x. command_fields (Apply x)) (sym m.2);
+    }
 
-    go : (o : Option (Place × List ℕ)) → place_at_front nth rest ≡ o → add_rule_after o ≡ Some e → IsWrittenEdit nth (codes "rule") rest e
-    go None k m = absurd (cc)
-    go (Some p) k m = of_place p k (three_fields p.1) refl m
+-- a new line behind its place
+add_line-written : (nth : Option ℕ) (w : Word) (fields ts : Texts) (e : Edit) (l : NewLine) → last_three fields ≡ ts
+    → option_map (λ p. AddLine p l) (place_in nth (before_three fields)) ≡ Some e
+    → ((p : Place) → command_fields (Apply (AddLine p l)) ≡ after_nth (nth_of_place p) (Text (text_of w) ∷ texts (place_words p ++ ts))) → IsWrittenEdit (One nth) w fields e
+add_line-written nth w fields ts e l is h command =
+    let m = mapped (λ (p : Place). AddLine p l) (place_in nth (before_three fields)) e h in
+    let p = place-is nth (before_three fields) m.0 m.1 in
+    let whole : fields ≡ place_words m.0 ++ ts =
+    sym (take-append-drop (length fields - 3) fields) ∙ (ap (λ z. z ++ last_three fields) p.1 ∙ ap (λ z. place_words m.0 ++ z) is) in
+    text-written (One nth) w fields (place_words m.0 ++ ts) e (AddLine m.0 l) whole m.2
+    (command m.0 ∙ ap (λ n. after_nth n (Text (text_of w) ∷ texts (place_words m.0 ++ ts))) (sym p.0))
 
-three-written : (nth : Option ℕ) (word rest : List ℕ) (e : Edit) (make : List ℕ → List ℕ → List ℕ → Edit) → of_three make rest ≡ Some e
-    → ((a b c : List ℕ) (fields : List (List ℕ)) → IsAfterNth nth fields (word ∷ a ∷ b ∷ c ∷ []) → IsCommand fields (Apply (make a b c))) → IsWrittenEdit nth word rest e
-three-written nth word rest e make h is = go (three_fields rest) refl h
-  where
-    go : (o : Option (List ℕ × List ℕ × List ℕ)) → three_fields rest ≡ o → option_map (λ (p : List ℕ × List ℕ × List ℕ). make p.0 p.1 p.2) o ≡ Some e → IsWrittenEdit nth word rest e
-    go None k m = absurd (cc)
-    go (Some p) k m =
-        let same : make p.0 p.1 p.2 ≡ e = cc in
-        record {
-          args = p.0 ∷ p.1 ∷ p.2 ∷ [];
-          args_are = three-is rest p.0 p.1 p.2 k;
-          is_command = λ fields a. subst (λ z. IsCommand fields (Apply z)) same (is p.0 p.1 p.2 fields a);
-        }
+assign-written : (nth : Option ℕ) (fields : Texts) (e : Edit) → edit_with (One nth) word.Assign fields ≡ Some e → IsWrittenEdit (One nth) word.Assign fields e
+assign-written nth fields e h =
+    let c = chained (λ (l : NewLine). option_map (λ p. AddLine p l) (place_in nth (before_three fields))) (new_assign (last_three fields)) e h in
+    let t = chained (λ (q : List ℕ × List ℕ × List ℕ). option_map (λ (f : Flavor). NewAssign q.0 f q.2) (named operators q.1)) (three (last_three fields)) c.0 c.1 in
+    let f = mapped (λ (f : Flavor). NewAssign t.0.0 f t.0.2) (named operators t.0.1) c.0 t.2 in
+    let is = three-is (last_three fields) t.0 t.1 ∙ ap (λ z. t.0.0 ∷ z ∷ t.0.2 ∷ []) (named-operator t.0.1 f.0 f.1) in
+    add_line-written nth word.Assign fields (t.0.0 ∷ operator_text f.0 ∷ t.0.2 ∷ []) e (NewAssign t.0.0 f.0 t.0.2) is
+    (subst (λ (l : NewLine). option_map (λ p. AddLine p l) (place_in nth (before_three fields)) ≡ Some e) (sym f.2) c.2) (λ p. refl)
 
-numbered_line-written : (nth : Option ℕ) (word rest : List ℕ) (e : Edit) (make : List ℕ → ℕ → List ℕ → Edit) → numbered_line_after make (three_fields rest) ≡ Some e
-    → ((target digits line : List ℕ) (n : ℕ) (fields : List (List ℕ)) → IsNumber digits n → IsAfterNth nth fields (word ∷ target ∷ digits ∷ line ∷ []) → IsCommand fields (Apply (make target n line)))
-    → IsWrittenEdit nth word rest e
-numbered_line-written nth word rest e make h is = go (three_fields rest) refl h
-  where
-    of_number : (q : List ℕ × List ℕ × List ℕ) → three_fields rest ≡ Some q → (o : Option ℕ) → number q.1 ≡ o → numbered_line_of make q.0 o q.2 ≡ Some e
-        → IsWrittenEdit nth word rest e
-    of_number q k None n x = absurd (cc)
-    of_number q k (Some i) n x =
-        let same : make q.0 i q.2 ≡ e = cc in
-        record {
-          args = q.0 ∷ q.1 ∷ q.2 ∷ [];
-          args_are = three-is rest q.0 q.1 q.2 k;
-          is_command = λ fields a. subst (λ z. IsCommand fields (Apply z)) same (is q.0 q.1 q.2 i fields (number-is q.1 i n) a);
-        }
+rule-written : (nth : Option ℕ) (fields : Texts) (e : Edit) → edit_with (One nth) word.Rule fields ≡ Some e → IsWrittenEdit (One nth) word.Rule fields e
+rule-written nth fields e h =
+    let c = chained (λ (l : NewLine). option_map (λ p. AddLine p l) (place_in nth (before_three fields))) (new_rule (last_three fields)) e h in
+    let t = chained (λ (q : List ℕ × List ℕ × List ℕ). option_map (λ (s : RuleSeparator). NewRule q.0 s q.2) (named separators q.1)) (three (last_three fields)) c.0 c.1 in
+    let s = mapped (λ (s : RuleSeparator). NewRule t.0.0 s t.0.2) (named separators t.0.1) c.0 t.2 in
+    let is = three-is (last_three fields) t.0 t.1 ∙ ap (λ z. t.0.0 ∷ z ∷ t.0.2 ∷ []) (named-separator t.0.1 s.0 s.1) in
+    add_line-written nth word.Rule fields (t.0.0 ∷ rule_separator_text s.0 ∷ t.0.2 ∷ []) e (NewRule t.0.0 s.0 t.0.2) is
+    (subst (λ (l : NewLine). option_map (λ p. AddLine p l) (place_in nth (before_three fields)) ≡ Some e) (sym s.2) c.2) (λ p. refl)
 
-    go : (o : Option (List ℕ × List ℕ × List ℕ)) → three_fields rest ≡ o → numbered_line_after make o ≡ Some e → IsWrittenEdit nth word rest e
-    go None k m = absurd (cc)
-    go (Some q) k m = of_number q k (number q.1) refl m
+change-fields : (which : Which) (name : List ℕ) (change : ValueChange) → command_fields (Apply (ChangeValue which name change)) ≡ behind which (texts (change_words name change))
+change-fields (One nth) name change = refl
+change-fields Every name change = refl
 
-remove_recipe-written : (nth : Option ℕ) (rest : List ℕ) (e : Edit) → remove_recipe_after nth (two_fields rest) ≡ Some e → IsWrittenEdit nth (codes "recipe-del") rest e
-remove_recipe-written nth rest e h = go (two_fields rest) refl h
-  where
-    of_number : (q : List ℕ × List ℕ) → two_fields rest ≡ Some q → (o : Option ℕ) → number q.1 ≡ o → remove_recipe_of nth q.0 o ≡ Some e
-        → IsWrittenEdit nth (codes "recipe-del") rest e
-    of_number q k None n x = absurd (cc)
-    of_number q k (Some i) n x =
-        let same : RemoveLines (OfRecipe nth q.0 (ByNumber i)) ≡ e = cc in
-        record {
-          args = q.0 ∷ q.1 ∷ [];
-          args_are = two-is rest q.0 q.1 k;
-          is_command = λ fields a. subst (λ z. IsCommand fields (Apply z)) same (q.1, number-is q.1 i n, a);
-        }
-
-    go : (o : Option (List ℕ × List ℕ)) → two_fields rest ≡ o → remove_recipe_after nth o ≡ Some e → IsWrittenEdit nth (codes "recipe-del") rest e
-    go None k m = absurd (cc)
-    go (Some q) k m = of_number q k (number q.1) refl m
-
-rename_target-written : (nth : Option ℕ) (rest : List ℕ) (e : Edit) → rename_target_of nth rest ≡ Some e → IsWrittenEdit nth (codes "rename") rest e
-rename_target-written None rest e h = two-written None (codes "rename") rest e RenameTarget h (λ a b fields k. k)
-rename_target-written (Some n) rest e h = absurd (cc)
-
-by_word-written : (nth : Option ℕ) (k : EditWord) (rest : List ℕ) (e : Edit) → edit_by_word nth (Some k) rest ≡ Some e → IsWrittenEdit nth (word_text k) rest e
-by_word-written nth word.Set rest e h = two-written nth (codes "set") rest e (value_edit (One nth) change.Set) h (λ a b fields k. k)
-by_word-written nth word.Append rest e h = two-written nth (codes "append") rest e (value_edit (One nth) change.Append) h (λ a b fields k. k)
-by_word-written nth word.Add rest e h = two-written nth (codes "add") rest e (value_edit (One nth) change.Add) h (λ a b fields k. k)
-by_word-written nth word.Drop rest e h = two-written nth (codes "drop") rest e (value_edit (One nth) change.Drop) h (λ a b fields k. k)
-by_word-written nth word.Unset rest e h = one-written nth (codes "unset") rest e (remove_assign nth) h (λ a fields k. k)
-by_word-written nth word.Assign rest e h = add_assign-written nth rest e h
-by_word-written nth word.Rule rest e h = add_rule-written nth rest e h
-by_word-written nth word.Unrule rest e h = one-written nth (codes "unrule") rest e (remove_rule nth) h (λ a fields k. k)
-by_word-written nth word.Depend rest e h = two-written nth (codes "depend") rest e (add_prereq false nth) h (λ a b fields k. k)
-by_word-written nth word.DependOrder rest e h = two-written nth (codes "depend-order") rest e (add_prereq true nth) h (λ a b fields k. k)
-by_word-written nth word.Undepend rest e h = two-written nth (codes "undepend") rest e (remove_prereq nth) h (λ a b fields k. k)
-by_word-written nth word.Recipe rest e h = two-written nth (codes "recipe") rest e (add_recipe nth) h (λ a b fields k. k)
-by_word-written nth word.RecipeSet rest e h = numbered_line-written nth (codes "recipe-set") rest e (set_recipe nth) h (λ target digits line n fields i a. (digits, i, a))
-by_word-written nth word.RecipeDel rest e h = remove_recipe-written nth rest e h
-by_word-written nth word.RecipeInsert rest e h = numbered_line-written nth (codes "recipe-insert") rest e (insert_recipe nth) h (λ target digits line n fields i a. (digits, i, a))
-by_word-written nth word.RecipeReplace rest e h = three-written nth (codes "recipe-replace") rest e (replace_recipe nth) h (λ a b c fields k. k)
-by_word-written nth word.RecipeRemove rest e h = two-written nth (codes "recipe-remove") rest e (remove_recipe nth) h (λ a b fields k. k)
-by_word-written nth word.Rename rest e h = rename_target-written nth rest e h
-
-edit-written : (nth : Option ℕ) (first rest : List ℕ) (e : Edit) → edit nth first rest ≡ Some e → IsWrittenEdit nth first rest e
-edit-written nth first rest e h = go (named edit_words first) refl h
-  where
-    go : (o : Option EditWord) → named edit_words first ≡ o → edit_by_word nth o rest ≡ Some e → IsWrittenEdit nth first rest e
-    go None k m = absurd (cc)
-    go (Some w) k m = subst (λ t. IsWrittenEdit nth t rest e) (sym (named-word first w k)) (by_word-written nth w rest e m)
+with-written : (which : Which) (w : Word) (fields : Texts) (e : Edit) → edit_with which w fields ≡ Some e → IsWrittenEdit which w fields e
+with-written which word.Set fields e h = two-written which word.Set fields e (λ a b. ChangeValue which a (Set b)) h (λ a b. change-fields which a (Set b))
+with-written which word.Append fields e h = two-written which word.Append fields e (λ a b. ChangeValue which a (Append b)) h (λ a b. change-fields which a (Append b))
+with-written which word.Add fields e h = two-written which word.Add fields e (λ a b. ChangeValue which a (Add b)) h (λ a b. change-fields which a (Add b))
+with-written which word.Drop fields e h = two-written which word.Drop fields e (λ a b. ChangeValue which a (Remove b)) h (λ a b. change-fields which a (Remove b))
+with-written (One nth) word.Unset fields e h = one-written (One nth) word.Unset fields e (λ a. RemoveLines (OfAssign nth a)) h (λ a. refl)
+with-written (One nth) word.Assign fields e h = assign-written nth fields e h
+with-written (One nth) word.Rule fields e h = rule-written nth fields e h
+with-written (One nth) word.Unrule fields e h = one-written (One nth) word.Unrule fields e (λ a. RemoveLines (OfRule nth a)) h (λ a. refl)
+with-written (One nth) word.Depend fields e h = two-written (One nth) word.Depend fields e (λ a b. ChangePrereqs nth a (AddPrereq false b)) h (λ a b. refl)
+with-written (One nth) word.DependOrder fields e h = two-written (One nth) word.DependOrder fields e (λ a b. ChangePrereqs nth a (AddPrereq true b)) h (λ a b. refl)
+with-written (One nth) word.Undepend fields e h = two-written (One nth) word.Undepend fields e (λ a b. ChangePrereqs nth a (RemovePrereq b)) h (λ a b. refl)
+with-written (One nth) word.Recipe fields e h = two-written (One nth) word.Recipe fields e (λ a b. AddRecipe nth a Last b) h (λ a b. refl)
+with-written (One nth) word.RecipeInsert fields e h = numbered-written (One nth) word.RecipeInsert fields e (λ a n c. AddRecipe nth a (At n) c) h (λ a n c. refl)
+with-written (One nth) word.RecipeSet fields e h = numbered-written (One nth) word.RecipeSet fields e (λ a n c. SetRecipe nth a (ByNumber n) c) h (λ a n c. refl)
+with-written (One nth) word.RecipeDel fields e h = recipe_del-written nth fields e h
+with-written (One nth) word.RecipeReplace fields e h = three-written (One nth) word.RecipeReplace fields e (λ a b c. SetRecipe nth a (ByText b) c) h (λ a b c. refl)
+with-written (One nth) word.RecipeRemove fields e h = two-written (One nth) word.RecipeRemove fields e (λ a b. RemoveLines (OfRecipe nth a (ByText b))) h (λ a b. refl)
+with-written (One None) word.Rename fields e h = two-written (One None) word.Rename fields e (λ a b. RenameTarget a b) h (λ a b. refl)
+with-written (One nth) w fields e h = absurd (cc)
+with-written Every w fields e h = absurd (cc)
 
 -- ---- commands
 
-numbered-written : (line first rest : List ℕ) (e : Edit) → BeginsWithField line first rest → first ≡ codes "nth" → edit_after_nth (first_field rest) ≡ Some e
-    → HasCommand line (Apply e)
-numbered-written line first rest e begins is h = of_digits (first_field rest) refl h
-  where
-    of_word : (p : List ℕ × List ℕ) → first_field rest ≡ Some p → (n : ℕ) → number p.0 ≡ Some n → (o : Option (List ℕ × List ℕ)) → first_field p.1 ≡ o
-        → numbered_edit n o ≡ Some e → HasCommand line (Apply e)
-    of_word p k n m None x y = absurd (cc)
-    of_word p k n m (Some q) x y =
-        let w = edit-written (Some n) q.0 q.1 e y in (
-          codes "nth" ∷ p.0 ∷ q.0 ∷ w.args,
-          (rest, subst (λ z. BeginsWithField line z rest) is begins, (p.1, read-begins rest p.0 p.1 k, (q.1, read-begins p.1 q.0 q.1 x, w.args_are))),
-          w.is_command (codes "nth" ∷ p.0 ∷ q.0 ∷ w.args) (p.0, number-is p.0 n m, refl),
-        )
+pub worded-is : (fields : Texts) (p : Word × Texts) → worded fields ≡ Some p → fields ≡ text_of p.0 ∷ p.1
+worded-is [] p h = absurd (cc)
+worded-is (f ∷ fs) p h =
+    let m = mapped (λ (w : Word). (w, fs)) (named words f) p h in
+    ap (λ z. z ∷ fs) (named-word f m.0 m.1) ∙ ap (λ (q : Word × Texts). text_of q.0 ∷ q.1) m.2
 
-    of_number : (p : List ℕ × List ℕ) → first_field rest ≡ Some p → (o : Option ℕ) → number p.0 ≡ o → edit_after_number o p.1 ≡ Some e → HasCommand line (Apply e)
-    of_number p k None m n = absurd (cc)
-    of_number p k (Some n) m x = of_word p k n m (first_field p.1) refl x
+by-written : (which : Which) (fields : Texts) (e : Edit) → edit_by which fields ≡ Some e
+    → (contents : List Content) × HaveContents fields contents × (command_fields (Apply e) ≡ behind which contents)
+by-written which fields e h =
+    let c = chained (λ (p : Word × Texts). edit_with which p.0 p.1) (worded fields) e h in
+    let w = with-written which c.0.0 c.0.1 e c.2 in
+    let contents : List Content = Text (text_of c.0.0) ∷ w.contents in
+    (contents, subst (λ z. HaveContents z contents) (sym (worded-is fields c.0 c.1)) (refl, w.have), w.command)
 
-    of_digits : (o : Option (List ℕ × List ℕ)) → first_field rest ≡ o → edit_after_nth o ≡ Some e → HasCommand line (Apply e)
-    of_digits None k m = absurd (cc)
-    of_digits (Some p) k m = of_number p k (number p.0) refl m
+after-written : (w : Word) (fs : Texts) (e : Edit) → edit_after w fs ≡ Some e → IsCommand (text_of w ∷ fs) (Apply e)
+after-written word.Nth [] e h = absurd (cc)
+after-written word.Nth (d ∷ fs) e h =
+    let c = chained (λ (n : ℕ). edit_by (One (Some n)) fs) (number d) e h in
+    let b = by-written (One (Some c.0)) fs e c.2 in
+    subst (λ z. HaveContents (codes "nth" ∷ d ∷ fs) z) (sym b.2) (refl, (c.1, b.1))
+after-written word.All fs e h =
+    let b = by-written Every fs e h in
+    subst (λ z. HaveContents (codes "all" ∷ fs) z) (sym b.2) (refl, b.1)
+after-written w fs e h =
+    let x = with-written (One None) w fs e h in
+    subst (λ z. HaveContents (text_of w ∷ fs) z) (sym x.command) (refl, x.have)
 
--- `all`, and the words of a change
-all-command : (k : ChangeWord) (name text : List ℕ) → IsCommand (codes "all" ∷ change_text k ∷ name ∷ text ∷ []) (Apply (value_edit Every k name text))
-all-command change.Set name text = refl
-all-command change.Append name text = refl
-all-command change.Add name text = refl
-all-command change.Drop name text = refl
+pub in-written : (fields : Texts) (e : Edit) → edit_in fields ≡ Some e → IsCommand fields (Apply e)
+in-written fields e h =
+    let c = chained (λ (p : Word × Texts). edit_after p.0 p.1) (worded fields) e h in
+    subst (λ z. IsCommand z (Apply e)) (sym (worded-is fields c.0 c.1)) (after-written c.0.0 c.0.1 e c.2)
 
-all-written : (line first rest : List ℕ) (e : Edit) → BeginsWithField line first rest → first ≡ codes "all" → edit_after_all (first_field rest) ≡ Some e → HasCommand line (Apply e)
-all-written line first rest e begins is h = of_first (first_field rest) refl h
-  where
-    of_fields : (p : List ℕ × List ℕ) → first_field rest ≡ Some p → (k : ChangeWord) → named value_words p.0 ≡ Some k → (o : Option (List ℕ × List ℕ)) → two_fields p.1 ≡ o
-        → option_map (λ (q : List ℕ × List ℕ). value_edit Every k q.0 q.1) o ≡ Some e → HasCommand line (Apply e)
-    of_fields p m k n None x y = absurd (cc)
-    of_fields p m k n (Some q) x y =
-        let same : value_edit Every k q.0 q.1 ≡ e = cc in (
-          codes "all" ∷ change_text k ∷ q.0 ∷ q.1 ∷ [],
-          (
-            rest,
-            subst (λ z. BeginsWithField line z rest) is begins,
-            (p.1, subst (λ z. BeginsWithField rest z p.1) (named-change p.0 k n) (read-begins rest p.0 p.1 m), two-is p.1 q.0 q.1 x),
-          ),
-          subst (λ z. IsCommand (codes "all" ∷ change_text k ∷ q.0 ∷ q.1 ∷ []) (Apply z)) same (all-command k q.0 q.1),
-        )
+-- a call, behind which nothing stands
+call-written : (w : Word) (d c : Command Edit) (fs : Texts) → alone d fs ≡ Some c → IsCommand (text_of w ∷ []) d → IsCommand (text_of w ∷ fs) c
+call-written w d c [] h is = let same : d ≡ c = cc in subst (λ z. IsCommand (text_of w ∷ []) z) same is
+call-written w d c (f ∷ fs) h is = absurd (cc)
 
-    of_word : (p : List ℕ × List ℕ) → first_field rest ≡ Some p → (o : Option ChangeWord) → named value_words p.0 ≡ o → change_by_word o p.1 ≡ Some e → HasCommand line (Apply e)
-    of_word p m None n x = absurd (cc)
-    of_word p m (Some k) n x = of_fields p m k n (two_fields p.1) refl x
-
-    of_first : (o : Option (List ℕ × List ℕ)) → first_field rest ≡ o → edit_after_all o ≡ Some e → HasCommand line (Apply e)
-    of_first None m x = absurd (cc)
-    of_first (Some p) m x = of_word p m (named value_words p.0) refl x
-
-pub addressed-written : (line first rest : List ℕ) (e : Edit) → BeginsWithField line first rest → addressed_edit first rest ≡ Some e → HasCommand line (Apply e)
-addressed-written line first rest e begins h = of_nth (bytes_eq first (codes "nth")) refl h
-  where
-    of_all : (c : Bool) → bytes_eq first (codes "all") ≡ c → cond c (edit_after_all (first_field rest)) (edit None first rest) ≡ Some e → HasCommand line (Apply e)
-    of_all true k m = all-written line first rest e begins ((bytes_eq-Decides first (codes "all")).0 k) m
-    of_all false k m =
-        let w = edit-written None first rest e m in
-        (first ∷ w.args, (rest, begins, w.args_are), w.is_command (first ∷ w.args) refl)
-
-    of_nth : (c : Bool) → bytes_eq first (codes "nth") ≡ c
-        → cond c (edit_after_nth (first_field rest)) (cond (bytes_eq first (codes "all")) (edit_after_all (first_field rest)) (edit None first rest)) ≡ Some e → HasCommand line (Apply e)
-    of_nth true k m = numbered-written line first rest e begins ((bytes_eq-Decides first (codes "nth")).0 k) m
-    of_nth false k m = of_all (bytes_eq first (codes "all")) refl m
-
-pub command-written : (line : List ℕ) (c : Command Edit) → command line ≡ Some c → HasCommand line c
-command-written line c h = go (first_field line) refl h
-  where
-    of_call : (p : List ℕ × List ℕ) → first_field line ≡ Some p → (d : Command Edit) → named calls p.0 ≡ Some d → (b : Bool) → is_blank p.1 ≡ b
-        → cond b (Some d) None ≡ Some c → HasCommand line c
-    of_call p k d m true n x =
-        let same : d ≡ c = cc in
-        (p.0 ∷ [], (p.1, read-begins line p.0 p.1 k, blank-is p.1 n), subst (λ z. IsCommand (p.0 ∷ []) z) same (named-call p.0 d m))
-    of_call p k d m false n x = absurd (cc)
-
-    of_edit : (p : List ℕ × List ℕ) → first_field line ≡ Some p → (o : Option Edit) → addressed_edit p.0 p.1 ≡ o → option_map Apply o ≡ Some c → HasCommand line c
-    of_edit p k None m n = absurd (cc)
-    of_edit p k (Some e) m n =
-        let same : Apply e ≡ c = cc in
-        subst (λ z. HasCommand line z) same (addressed-written line p.0 p.1 e (read-begins line p.0 p.1 k) m)
-
-    of_first : (p : List ℕ × List ℕ) → first_field line ≡ Some p → (o : Option (Command Edit)) → named calls p.0 ≡ o → call_or_edit o p.0 p.1 ≡ Some c → HasCommand line c
-    of_first p k (Some d) m n = of_call p k d m (is_blank p.1) refl n
-    of_first p k None m n = of_edit p k (addressed_edit p.0 p.1) refl n
-
-    go : (o : Option (List ℕ × List ℕ)) → first_field line ≡ o → command_after o ≡ Some c → HasCommand line c
-    go None k m = absurd (cc)
-    go (Some p) k m = of_first p k (named calls p.0) refl m
+pub command-written : (w : Word) (fs : Texts) (c : Command Edit) → command_after w fs ≡ Some c → IsCommand (text_of w ∷ fs) c
+command-written word.Undo fs c h = call-written word.Undo Undo c fs h (refl, tt)
+command-written word.Redo fs c h = call-written word.Redo Redo c fs h (refl, tt)
+command-written word.Begin fs c h = call-written word.Begin Begin c fs h (refl, tt)
+command-written word.End fs c h = call-written word.End End c fs h (refl, tt)
+command-written word.Cancel fs c h = call-written word.Cancel Cancel c fs h (refl, tt)
+command-written w fs c h =
+    let m = mapped Apply (edit_after w fs) c h in
+    subst (λ z. IsCommand (text_of w ∷ fs) z) m.2 (after-written w fs m.0 m.1)

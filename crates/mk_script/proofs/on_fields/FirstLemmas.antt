@@ -1,12 +1,12 @@
 -- The first field of a line is the field that is written there.
-use Rattle.std.proofs.Common.{◌≡◌, ℕ, Bool, true, false, List, [], ◌∷◌, ◌++◌, refl, sym, ap, ◌∙◌, cond, take, drop, inl, inr, append_assoc, eqb-true, subst}
-use Rattle.std.specs.Prelude.{not, ◌==◌, Option, Some, None, option_map}
-use Rattle.std.proofs.lemmas.List.{take-append-drop}
+use Rattle.std.proofs.Common.{◌≡◌, ℕ, zero, suc, ◌≤◌, length, arith, Bool, true, false, List, [], ◌∷◌, ◌++◌, refl, sym, ap, ◌∙◌, cond, take, drop, inl, inr, append_assoc, eqb-true, subst}
+use Rattle.std.specs.Prelude.{not, ◌==◌, Option, Some, None, option_map, option_and_then}
+use Rattle.std.proofs.lemmas.List.{take-append-drop, append-nil}
 use Rattle.std.proofs.lemmas.Option.{some_pair_parts}
 use Rattle.mk_lines.specs.Lists.{Each}
 use Rattle.mk_lines.specs.Bytes.{is_blank_byte}
 use Rattle.mk_script.specs.Fields.{escaped, quoted, IsBare, IsWritten, EndsField, BeginsWithField, HasFields}
-use Rattle.mk_script.specs.FieldReading.{after_blanks, blanks_before, bare_len, is_blank, ends_field, unescaped, until_quote, quoted_field, field_at_front, first_field, last_field, one_field, with_one, two_fields, with_two, three_fields}
+use Rattle.mk_script.specs.FieldReading.{after_blanks, blanks_before, bare_len, is_blank, ends_field, unescaped, until_quote, quoted_field, field_at_front, first_field, is_empty, fields_within}
 use Rattle.mk_script.proofs.on_fields.EscapeLemmas.{unescaped-escaped, until_quote-escaped, until_quote-is}
 use Rattle.mk_script.proofs.on_fields.BlankLemmas.{one_more, Stops, prefix-taken, prefix-dropped, prefix-passes, prefix-stops, stops-none, over-blanks, after_blanks-none, blanks-whole, blank-is, is-blank, ends-is, is-end, end-stops, stops-end}
 
@@ -107,7 +107,7 @@ front-is (b ∷ text) field rest stops h = go (b == 34) refl h
     go true e k = subst (λ (x : ℕ). IsFront (x ∷ text) field rest) (sym (eqb-true b 34 e)) (quoted-front text field rest k)
     go false e k = bare-front b text field rest e stops k
 
-pub read-begins : (line field rest : List ℕ) → first_field line ≡ Some (field, rest) → BeginsWithField line field rest
+read-begins : (line field rest : List ℕ) → first_field line ≡ Some (field, rest) → BeginsWithField line field rest
 read-begins line field rest h =
     let front = front-is (after_blanks line) field rest (prefix-stops is_blank_byte line) h in
     record {
@@ -119,65 +119,74 @@ read-begins line field rest h =
       line_is = blanks-whole line ∙ ap (λ t. take (blanks_before line) line ++ t) front.text_is;
     }
 
--- ---- lines of one, two and three fields
+-- ---- the fields of a line
 
-pub one-read : (line f : List ℕ) → HasFields line (f ∷ []) → one_field line ≡ Some f
-one-read line f h = rw (begins-read line f h.0 h.1) (rw (is-blank h.0 h.2) refl)
+-- the fields of a line that is not blank, from its first one and what follows that
+abbrev fields_from : (n : ℕ) → Option (List ℕ × List ℕ) → Option (List (List ℕ))
+fields_from n o = option_and_then (λ (p : List ℕ × List ℕ). option_map (λ (fs : List (List ℕ)). p.0 ∷ fs) (fields_within n p.1)) o
 
-pub two-read : (line f g : List ℕ) → HasFields line (f ∷ g ∷ []) → two_fields line ≡ Some (f, g)
-two-read line f g h = rw (begins-read line f h.0 h.1) (ap (λ o. option_map {U = List ℕ × List ℕ} (λ x. (f, x)) o) (one-read h.0 g h.2))
-
-pub three-read : (line f g k : List ℕ) → HasFields line (f ∷ g ∷ k ∷ []) → three_fields line ≡ Some (f, g, k)
-three-read line f g k h = rw (begins-read line f h.0 h.1) (ap (λ o. option_map {U = List ℕ × List ℕ × List ℕ} (λ (x : List ℕ × List ℕ). (f, x.0, x.1)) o) (two-read h.0 g k h.2))
-
-pub one-is : (line f : List ℕ) → one_field line ≡ Some f → HasFields line (f ∷ [])
-one-is line f h = go (first_field line) refl h
+not_blank : (line f rest : List ℕ) → first_field line ≡ Some (f, rest) → is_blank line ≡ false
+not_blank line f rest h = go (after_blanks line) h
   where
-    ended : (p : List ℕ × List ℕ) → first_field line ≡ Some p → (c : Bool) → is_blank p.1 ≡ c → cond c (Some p.0) None ≡ Some f → HasFields line (f ∷ [])
-    ended p e true b k =
-        let same : p.0 ≡ f = cc in
-        (p.1, subst (λ x. BeginsWithField line x p.1) same (read-begins line p.0 p.1 e), blank-is p.1 b)
-    ended p e false b k = absurd (cc)
+    go : (t : List ℕ) → field_at_front t ≡ Some (f, rest) → is_empty t ≡ false
+    go [] k = absurd (cc)
+    go (b ∷ t) k = refl
 
-    go : (o : Option (List ℕ × List ℕ)) → first_field line ≡ o → last_field o ≡ Some f → HasFields line (f ∷ [])
-    go None e k = absurd (cc)
-    go (Some p) e k = ended p e (is_blank p.1) refl k
+pub has-fields : (n : ℕ) (line : List ℕ) (fields : List (List ℕ)) → HasFields line fields → length fields ≤ n → fields_within n line ≡ Some fields
+has-fields zero line [] h few = rw (is-blank line h) refl
+has-fields zero line (f ∷ fs) h few = absurd (omega (arith, few))
+has-fields (suc n) line [] h few = rw (is-blank line h) refl
+has-fields (suc n) line (f ∷ fs) h few =
+    let read = begins-read line f h.0 h.1 in
+    let others = has-fields n h.0 fs h.2 (omega (arith, few)) in
+    ap (λ (b : Bool). cond b (Some []) (fields_from n (first_field line))) (not_blank line f h.0 read)
+    ∙ (ap (λ o. fields_from n o) read ∙ ap (λ o. option_map (λ (gs : List (List ℕ)). f ∷ gs) o) others)
 
-pub two-is : (line f g : List ℕ) → two_fields line ≡ Some (f, g) → HasFields line (f ∷ g ∷ [])
-two-is line f g h = go (first_field line) refl h
+pub fields-has : (n : ℕ) (line : List ℕ) (fields : List (List ℕ)) → fields_within n line ≡ Some fields → HasFields line fields
+fields-has zero line fields h = go (is_blank line) refl h
   where
-    others : (p : List ℕ × List ℕ) → first_field line ≡ Some p → (o : Option (List ℕ)) → one_field p.1 ≡ o → option_map {U = List ℕ × List ℕ} (λ x. (p.0, x)) o ≡ Some (f, g)
-        → HasFields line (f ∷ g ∷ [])
-    others p e None k m = absurd (cc)
-    others p e (Some x) k m =
-        let parts = some_pair_parts p.0 f x g m in
-        (p.1, subst (λ z. BeginsWithField line z p.1) parts.0 (read-begins line p.0 p.1 e), one-is p.1 g (k ∙ ap (λ z. Some z) parts.1))
-
-    go : (o : Option (List ℕ × List ℕ)) → first_field line ≡ o → with_one o ≡ Some (f, g) → HasFields line (f ∷ g ∷ [])
-    go None e k = absurd (cc)
-    go (Some p) e k = others p e (one_field p.1) refl k
-
--- three texts that are those
-record SameThree (a b c x y z : List ℕ) : Type 0 where
-  first : a ≡ x
-  second : b ≡ y
-  third : c ≡ z
-
-same_three : (a b c x y z : List ℕ) → ◌≡◌ {A = Option (List ℕ × List ℕ × List ℕ)} (Some (a, b, c)) (Some (x, y, z)) → SameThree a b c x y z
-same_three a b c x y z h =
-    let same : ◌≡◌ {A = List ℕ × List ℕ × List ℕ} (a, b, c) (x, y, z) = cc in
-    record { first = ap (λ p. p.0) same; second = ap (λ p. p.1) same; third = ap (λ p. p.2) same }
-
-pub three-is : (line f g k : List ℕ) → three_fields line ≡ Some (f, g, k) → HasFields line (f ∷ g ∷ k ∷ [])
-three-is line f g k h = go (first_field line) refl h
+    go : (c : Bool) → is_blank line ≡ c → cond {A = Option (List (List ℕ))} c (Some []) None ≡ Some fields → HasFields line fields
+    go true e k = let none : [] ≡ fields = cc in subst (λ fs. HasFields line fs) none (blank-is line e)
+    go false e k = absurd (cc)
+fields-has (suc n) line fields h = go (is_blank line) refl h (λ rest fs. fields-has n rest fs)
   where
-    others : (p : List ℕ × List ℕ) → first_field line ≡ Some p → (o : Option (List ℕ × List ℕ)) → two_fields p.1 ≡ o
-        → option_map {U = List ℕ × List ℕ × List ℕ} (λ (x : List ℕ × List ℕ). (p.0, x.0, x.1)) o ≡ Some (f, g, k) → HasFields line (f ∷ g ∷ k ∷ [])
-    others p e None m n = absurd (cc)
-    others p e (Some q) m n =
-        let parts = same_three p.0 q.0 q.1 f g k n in
-        (p.1, subst (λ z. BeginsWithField line z p.1) parts.first (read-begins line p.0 p.1 e), two-is p.1 g k (m ∙ (ap (λ z. Some (z, q.1)) parts.second ∙ ap (λ z. Some (g, z)) parts.third)))
+    behind : (p : List ℕ × List ℕ) → first_field line ≡ Some p → (o : Option (List (List ℕ))) → fields_within n p.1 ≡ o
+        → option_map (λ (fs : List (List ℕ)). p.0 ∷ fs) o ≡ Some fields → ((rest : List ℕ) (fs : List (List ℕ)) → fields_within n rest ≡ Some fs → HasFields rest fs) → HasFields line fields
+    behind p e None k m ih = absurd (cc)
+    behind p e (Some fs) k m ih =
+        let same : p.0 ∷ fs ≡ fields = cc in
+        subst (λ z. HasFields line z) same (p.1, read-begins line p.0 p.1 e, ih p.1 fs k)
 
-    go : (o : Option (List ℕ × List ℕ)) → first_field line ≡ o → with_two o ≡ Some (f, g, k) → HasFields line (f ∷ g ∷ k ∷ [])
-    go None e m = absurd (cc)
-    go (Some p) e m = others p e (two_fields p.1) refl m
+    front : (o : Option (List ℕ × List ℕ)) → first_field line ≡ o → fields_from n o ≡ Some fields
+        → ((rest : List ℕ) (fs : List (List ℕ)) → fields_within n rest ≡ Some fs → HasFields rest fs) → HasFields line fields
+    front None e k ih = absurd (cc)
+    front (Some p) e k ih = behind p e (fields_within n p.1) refl k ih
+
+    go : (c : Bool) → is_blank line ≡ c → cond c (Some []) (fields_from n (first_field line)) ≡ Some fields
+        → ((rest : List ℕ) (fs : List (List ℕ)) → fields_within n rest ≡ Some fs → HasFields rest fs) → HasFields line fields
+    go true e k ih = let none : [] ≡ fields = cc in subst (λ fs. HasFields line fs) none (blank-is line e)
+    go false e k ih = front (first_field line) refl k ih
+
+-- ---- fields that are read one after the other
+
+-- some fields before others
+abbrev pub with_fields : (front : List (List ℕ)) → Option (List (List ℕ)) → Option (List (List ℕ))
+with_fields front None = None
+with_fields front (Some fields) = Some (front ++ fields)
+
+with-one : (front : List (List ℕ)) (f : List ℕ) (o : Option (List (List ℕ))) → with_fields front (option_map (λ (fs : List (List ℕ)). f ∷ fs) o) ≡ with_fields (front ++ f ∷ []) o
+with-one front f None = refl
+with-one front f (Some fs) = ap (λ zs. Some zs) (sym (append_assoc front (f ∷ []) fs))
+
+-- one field more
+pub fields-more : (n m : ℕ) (line f rest : List ℕ) (front : List (List ℕ)) → n ≡ suc m → is_blank line ≡ false → first_field line ≡ Some (f, rest)
+    → with_fields front (fields_within n line) ≡ with_fields (front ++ f ∷ []) (fields_within m rest)
+fields-more n m line f rest front is some read =
+    ap (λ k. with_fields front (fields_within k line)) is
+    ∙ (ap (λ (b : Bool). with_fields front (cond b (Some []) (fields_from m (first_field line)))) some
+    ∙ (ap (λ o. with_fields front (fields_from m o)) read ∙ with-one front f (fields_within m rest)))
+
+-- no field more
+pub fields-end : (n : ℕ) (line : List ℕ) (front : List (List ℕ)) → is_blank line ≡ true → with_fields front (fields_within n line) ≡ Some front
+fields-end zero line front h = rw h (ap (λ zs. Some zs) (append-nil front))
+fields-end (suc n) line front h = rw h (ap (λ zs. Some zs) (append-nil front))

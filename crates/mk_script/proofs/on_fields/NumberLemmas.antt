@@ -1,18 +1,17 @@
 -- Decimal digits.
-use Rattle.std.proofs.Common.{◌≡◌, ℕ, ◌+◌, ◌*◌, ◌<◌, ◌≤◌, ◌^◌, Bool, true, false, List, [], ◌∷◌, refl, sym, ap, ◌∙◌, cond, length, take, arith, eqb-true, leb-true, le-leb, ltb-true, ltb-false, le-ltb, lt-ltb, get_or, ◌-◌, inl, inr}
+use Rattle.std.proofs.Common.{◌≡◌, ℕ, ◌+◌, ◌*◌, ◌<◌, ◌≤◌, ◌^◌, Bool, true, false, List, [], ◌∷◌, refl, sym, ap, ◌∙◌, cond, length, take, arith, eqb-true, leb-true, le-leb, ltb-true, ltb-false, le-ltb, lt-ltb, get_or, ◌-◌, inl, inr, decimal}
 use Rattle.std.specs.Prelude.{◌==◌, ◌||◌, ◌&&◌, not, nat_lt, nat_le, Some, None}
 use Rattle.std.specs.List.{list_any, list_all}
 use Rattle.std.specs.Char.{is_ascii_digit, digit_value}
-use Rattle.std.specs.Str.Parse.{AllDigits, digits_value}
+use Rattle.std.specs.Str.Parse.{AllDigits, IsNumeral, digits_value}
 use Rattle.std.proofs.lemmas.Int.Digits.{digits_value-lt, digits_value_more}
 use Rattle.std.proofs.Math.Nat.{pow-le-pow_right}
 use Rattle.std.proofs.lemmas.List.{length-take-le}
 use Rattle.std.proofs.lemmas.List.Folds.{list_all_more}
-use Rattle.std.proofs.lemmas.Option.{cond_some}
+use Rattle.std.proofs.lemmas.Fmt.{decimal_is_IsNumeral, length-decimal-le}
 use Rattle.std.proofs.lemmas.Bool.{and_parts}
 use Rattle.mk_script.specs.Fields.{is_special}
-use Rattle.mk_script.specs.Numbers.{IsNumber}
-use Rattle.mk_script.specs.NumberReading.{number, is_number}
+use Rattle.mk_script.specs.Numbers.{number, is_number}
 use Rattle.mk_script.specs.SeenFields.{IsWrittenPlain}
 
 -- a quote or a backslash is no digit
@@ -101,30 +100,16 @@ all-from : (text : List ℕ) → AllDigits 10 text → list_all is_ascii_digit t
 all-from [] h = refl
 all-from (b ∷ text) h = rw (digit-from b h.0, all-from text h.1) refl
 
-pub number-is : (digits : List ℕ) (n : ℕ) → number digits ≡ Some n → IsNumber digits n
-number-is digits n h =
-    let tests = cond_some (is_number digits) (digits_value 10 digits) n h in
-    let last = and_parts (not (nat_lt 10 (length digits)) && nat_lt 0 (length digits) && list_all is_ascii_digit digits) (nat_lt (digits_value 10 digits) 4294967296) tests.0 in
-    let all = and_parts (not (nat_lt 10 (length digits)) && nat_lt 0 (length digits)) (list_all is_ascii_digit digits) last.0 in
-    let lengths = and_parts (not (nat_lt 10 (length digits))) (nat_lt 0 (length digits)) all.0 in
-    let few : length digits ≤ 10 = ltb-false 10 (length digits) (not-true (nat_lt 10 (length digits)) lengths.0) in
-    let some : 0 < length digits = ltb-true 0 (length digits) lengths.1 in
-    let small : digits_value 10 digits < 4294967296 = ltb-true (digits_value 10 digits) 4294967296 last.1 in
-    record {
-      numeral = (some, digits-are digits all.1);
-      short = few;
-      value = tests.1;
-      small = omega (arith, small, tests.1);
-    }
-  where
-    not-true : (p : Bool) → not p ≡ true → p ≡ false
-    not-true true k = absurd (cc)
-    not-true false k = refl
+is-number : (digits : List ℕ) (n : ℕ) → IsNumeral 10 digits → length digits ≤ 10 → digits_value 10 digits ≡ n → n ≤ 4294967295 → number digits ≡ Some n
+is-number digits n numeral short value most =
+    let few : nat_lt 10 (length digits) ≡ false = le-ltb 10 (length digits) short in
+    let some : nat_lt 0 (length digits) ≡ true = lt-ltb 0 (length digits) numeral.0 in
+    let small : nat_lt (digits_value 10 digits) 4294967296 ≡ true = lt-ltb (digits_value 10 digits) 4294967296 (omega (arith, most, value)) in
+    let passes : is_number digits ≡ true = rw (few, some, all-from digits numeral.1, small) refl in
+    ap (λ (c : Bool). cond c (Some (digits_value 10 digits)) None) passes ∙ ap (λ v. Some v) value
 
-pub is-number : (digits : List ℕ) (n : ℕ) → IsNumber digits n → number digits ≡ Some n
-is-number digits n h =
-    let few : nat_lt 10 (length digits) ≡ false = le-ltb 10 (length digits) h.short in
-    let some : nat_lt 0 (length digits) ≡ true = lt-ltb 0 (length digits) h.numeral.0 in
-    let small : nat_lt (digits_value 10 digits) 4294967296 ≡ true = lt-ltb (digits_value 10 digits) 4294967296 (omega (arith, h.small, h.value)) in
-    let passes : is_number digits ≡ true = rw (few, some, all-from digits h.numeral.1, small) refl in
-    ap (λ (c : Bool). cond c (Some (digits_value 10 digits)) None) passes ∙ ap (λ v. Some v) h.value
+-- the digits of a number are this number
+pub decimal-number : (n : ℕ) → n ≤ 4294967295 → number (decimal n) ≡ Some n
+decimal-number n h =
+    let is = decimal_is_IsNumeral n (omega (arith, h)) in
+    is-number (decimal n) n is.0 (length-decimal-le 10 n (omega arith) (omega (arith, h)) (omega (arith, h))) is.1 h

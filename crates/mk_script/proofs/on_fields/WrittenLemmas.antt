@@ -2,10 +2,6 @@
 use Rattle.std.proofs.Common.{◌≡◌, ℕ, Bool, true, false, List, [], ◌∷◌, refl, sym, ap, ◌∙◌, inl, inr}
 use Rattle.std.specs.Prelude.{◌||◌}
 use Rattle.std.specs.List.{list_any}
-use Rattle.std.specs.Str.{bytes_eq}
-use Rattle.std.specs.Bool.{Decides}
-use Rattle.std.proofs.lemmas.Slice.Eq.{bytes_eq-Decides}
-use Rattle.std.proofs.lemmas.Bool.Decides.{same_from_decides}
 use Rattle.mk_script.specs.Fields.{is_special, escaped}
 use Rattle.mk_script.specs.FieldReading.{unescaped, IsEscaped}
 use Rattle.mk_script.specs.SeenFields.{IsWrittenPlain}
@@ -30,15 +26,6 @@ plain-escaped [] h = refl
 plain-escaped (b ∷ text) h =
     let parts = none-parts b text h in
     rw (parts.0, plain-escaped text parts.1) refl
-
--- a field is this word, which has no quotes and no backslashes, if the word stands in the line as it is
-pub is_word : (text word : List ℕ) → IsEscaped text → list_any is_special word ≡ false → bytes_eq text word ≡ bytes_eq (unescaped false text) word
-is_word text word h none =
-    let whole = bytes_eq-Decides text word in
-    let inner = bytes_eq-Decides (unescaped false text) word in
-    let moved : Decides (bytes_eq (unescaped false text) word) (text ≡ word) =
-    (λ e. sym h ∙ (ap (λ t. escaped t) (inner.0 e) ∙ plain-escaped word none), λ e. inner.1 (ap (λ t. unescaped false t) e ∙ plain-unescaped word none)) in
-    same_from_decides _ _ whole moved
 
 pub written_plain : (text : List ℕ) → IsEscaped text → IsWrittenPlain (unescaped false text) text
 written_plain text h = go (list_any is_special text) refl (list_any is_special (unescaped false text)) refl

@@ -1,14 +1,14 @@
 -- A line is added to steps, or is not.
-use Rattle.std.proofs.Common.{◌≡◌, ℕ, ◌-◌, Bool, true, false, List, [], ◌∷◌, ◌++◌, refl, sym, ap, ◌∙◌, subst, cond, map, take, append_assoc, codes}
-use Rattle.std.specs.Prelude.{Option, Some, None, option_map, is_some, Result, Ok, Err}
+use Rattle.std.proofs.Common.{◌≡◌, ℕ, ◌-◌, false, List, [], ◌∷◌, ◌++◌, refl, sym, ap, ◌∙◌, subst, map, take, append_assoc}
+use Rattle.std.specs.Prelude.{Option, Some, None, option_map, option_and_then, is_some, Result, Ok, Err}
 use Rattle.std.specs.Result.{IsErrAnd}
-use Rattle.std.specs.Str.{bytes_eq}
 use Rattle.std.proofs.lemmas.List.{map-append}
 use Rattle.mk_edit_language.specs.Edits.{Edit}
 use Rattle.mk_script.specs.Lines.{Saying, Plain, Try, Or}
-use Rattle.mk_script.specs.FieldReading.{first_field}
-use Rattle.mk_script.specs.WordReading.{named, calls}
-use Rattle.mk_script.specs.CommandReading.{call_or_edit, edit_line, saying_after, saying}
+use Rattle.mk_script.specs.FieldReading.{fields_within}
+use Rattle.mk_script.specs.CommandReading.{Texts, worded, command_after, saying_after, saying_in, saying}
+use Rattle.mk_script.specs.declared.table.Word.{Word}
+use Rattle.mk_script.specs.declared.table.Word.TheVariants as word
 use Rattle.mk_script.specs.Scripts.{EditAt, Step, SayingAt, or_at, sayings_of, sayings, chain_of}
 use Rattle.mk_script.specs.ReaderAnswers.{is_short, takes_alternative, SayMore, Adds, Pushes}
 use Rattle.mk_script.specs.declared.fault.LineFault.{LineFault}
@@ -94,21 +94,12 @@ pub handed-on : (base : List Step) (n : ℕ) (stands : Option Saying) (new : Lis
 handed-on base n stands new (Ok u) fault h adds = absurd h
 handed-on base n stands new (Err e) fault h adds = subst (λ f. Adds base n stands new (Err f)) (sym h) adds
 
--- ---- what a line says, by its first field
+-- ---- what a line says, by its first word
 
-pub said-try : (line first rest : List ℕ) → first_field line ≡ Some (first, rest) → bytes_eq first (codes "try") ≡ true → saying line ≡ option_map Try (edit_line rest)
-said-try line first rest h is = ap (λ o. saying_after o) h ∙ ap (λ (b : Bool). cond b (option_map Try (edit_line rest)) (cond (bytes_eq first (codes "or")) (option_map Or (edit_line rest)) (option_map Plain (call_or_edit (named calls first) first rest)))) is
+pub said-by : (line : List ℕ) (fields others : Texts) (w : Word) → fields_within 9 line ≡ Some fields → worded fields ≡ Some (w, others) → saying line ≡ saying_after w others
+said-by line fields others w h k = ap (λ o. option_and_then saying_in o) h ∙ ap (λ o. option_and_then (λ (p : Word × Texts). saying_after p.0 p.1) o) k
 
-pub said-or : (line first rest : List ℕ) → first_field line ≡ Some (first, rest) → bytes_eq first (codes "try") ≡ false → bytes_eq first (codes "or") ≡ true
-    → saying line ≡ option_map Or (edit_line rest)
-said-or line first rest h no_try is =
-    ap (λ o. saying_after o) h
-    ∙ (ap (λ (b : Bool). cond b (option_map Try (edit_line rest)) (cond (bytes_eq first (codes "or")) (option_map Or (edit_line rest)) (option_map Plain (call_or_edit (named calls first) first rest)))) no_try
-    ∙ ap (λ (b : Bool). cond b (option_map Or (edit_line rest)) (option_map Plain (call_or_edit (named calls first) first rest))) is)
-
-pub said-plain : (line first rest : List ℕ) → first_field line ≡ Some (first, rest) → bytes_eq first (codes "try") ≡ false → bytes_eq first (codes "or") ≡ false
-    → saying line ≡ option_map Plain (call_or_edit (named calls first) first rest)
-said-plain line first rest h no_try no_or =
-    ap (λ o. saying_after o) h
-    ∙ (ap (λ (b : Bool). cond b (option_map Try (edit_line rest)) (cond (bytes_eq first (codes "or")) (option_map Or (edit_line rest)) (option_map Plain (call_or_edit (named calls first) first rest)))) no_try
-    ∙ ap (λ (b : Bool). cond b (option_map Or (edit_line rest)) (option_map Plain (call_or_edit (named calls first) first rest))) no_or)
+pub said-plain : (w : Word) (others : Texts) → (w ≡ word.Try → ⊥) → (w ≡ word.Or → ⊥) → saying_after w others ≡ option_map Plain (command_after w others)
+said-plain word.Try others no_try no_or = absurd (no_try refl)
+said-plain word.Or others no_try no_or = absurd (no_or refl)
+said-plain w others no_try no_or = refl

@@ -1,9 +1,9 @@
 -- What a line is, as the code reads it: it is skipped, says something, or neither.
 use Rattle.std.proofs.Common.{◌≡◌, ℕ, Bool, true, false, List, [], ◌∷◌, refl, ap, ◌∙◌, inl, inr, take, drop, eqb-true}
-use Rattle.std.specs.Prelude.{◌⊎◌, ◌==◌, ◌||◌, Option, Some, None}
+use Rattle.std.specs.Prelude.{◌⊎◌, ◌==◌, ◌||◌, Option, Some, None, option_map, option_and_then}
 use Rattle.mk_script.specs.Lines.{IsComment, IsSkipped, Saying, Says}
-use Rattle.mk_script.specs.FieldReading.{after_blanks, bare_len, is_blank, is_empty, field_at_front}
-use Rattle.mk_script.specs.CommandReading.{saying_after, saying}
+use Rattle.mk_script.specs.FieldReading.{bare_len, is_blank, fields_within}
+use Rattle.mk_script.specs.CommandReading.{Texts, saying_in, saying}
 use Rattle.mk_script.specs.ReaderAnswers.{begins_comment, is_skipped}
 use Rattle.mk_script.proofs.on_fields.BlankLemmas.{one_more, blank-is, is-blank}
 use Rattle.mk_script.proofs.on_commands.SayingLemmas.{has-saying, saying-written}
@@ -30,15 +30,22 @@ is-skipped (b ∷ line) (inr h) = go (b == 35)
 
 -- ---- a line that is skipped says nothing
 
+-- the fields after the first of nine
+abbrev fields_after : (field rest : List ℕ) → Option Texts
+fields_after field rest = option_map (λ (fs : Texts). field ∷ fs) (fields_within 8 rest)
+
+-- no word of the table begins with `#`
 comment-none : (line : List ℕ) → saying (35 ∷ line) ≡ None
-comment-none line = ap (λ n. saying_after (Some (take n (35 ∷ line), drop n (35 ∷ line)))) (one_more (bare_len line))
+comment-none line =
+    ap (λ n. option_and_then saying_in (fields_after (take n (35 ∷ line)) (drop n (35 ∷ line)))) (one_more (bare_len line))
+    ∙ go (fields_within 8 (drop (bare_len line) line))
+  where
+    go : (o : Option Texts) → option_and_then saying_in (option_map (λ (fs : Texts). (35 ∷ take (bare_len line) line) ∷ fs) o) ≡ None
+    go None = refl
+    go (Some fs) = refl
 
 blank-none : (line : List ℕ) → is_blank line ≡ true → saying line ≡ None
-blank-none line h = go (after_blanks line) refl h
-  where
-    go : (t : List ℕ) → after_blanks line ≡ t → is_empty t ≡ true → saying line ≡ None
-    go [] e k = ap (λ t. saying_after (field_at_front t)) e
-    go (b ∷ t) e k = absurd (cc)
+blank-none line h = rw h refl
 
 skipped-none : (line : List ℕ) → IsSkipped line → saying line ≡ None
 skipped-none [] h = refl

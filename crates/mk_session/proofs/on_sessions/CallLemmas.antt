@@ -5,12 +5,14 @@ use Rattle.std.proofs.lemmas.List.{append-nil}
 use Rattle.std.proofs.lemmas.List.Sums.{fold-append}
 use Rattle.mk_lines.specs.Pieces.{Replacement}
 use Rattle.mk_lines.specs.Lists.{concat}
+use Rattle.mk_class.specs.ClassedLines.{classed_lines}
 use Rattle.mk_edit_language.specs.Edits.{Edit}
 use Rattle.mk_edit_language.specs.Refusals.{spans, text_after}
 use Rattle.mk_edit_language.specs.declared.refusal.Refusal.{Refusal}
 use Rattle.mk_tree.specs.Readings.{reading}
 use Rattle.mk_edit_language.specs.RisingSpans.{IsReplacedAt}
 use Rattle.mk_edit_language.proofs.on_edits.EditLemmas.{edits-read}
+use Rattle.mk_edit_language.proofs.on_edits.MadeEdits.{one_place-made}
 use Rattle.mk_edit_language.proofs.on_edits.SpansRise.{only_spans-replaced}
 use Rattle.mk_history.specs.Machine as machine
 use Rattle.mk_history.specs.Machine.{Command, Apply, Undo, Redo, Begin, End, Cancel, NothingToUndo, opened, next, accepted, text, replay}
@@ -22,7 +24,8 @@ use Rattle.mk_history.proofs.on_histories.ShownLemmas.{is-seen, follows}
 use Rattle.mk_session.specs.Sessions.{Seen, answer, edited, seen_opened, text_with}
 use Rattle.mk_session.specs.Calls.{Reply, Call, IsCall, AreCalls, EditMachine, after_call, after_calls, edits_of_group, standing, cost_on, costs_of}
 use Rattle.mk_session.proofs.on_sessions.StepLemmas.{edited-ok}
-use Rattle.mk_session.specs.SessionLaws.{ReplaysWhatStands, UndoingAllGivesTheFirstText, IsMade, GrantedEditsAreMade, OtherCallsChangeNothing}
+use Rattle.mk_session.specs.CallerLaws.{EditsReplaceTheirSpans, EditsKeepTheirOtherLines}
+use Rattle.mk_session.specs.SessionLaws.{ReplaysWhatStands, UndoingAllGivesTheFirstText, GrantedEditsAreMade, OtherCallsChangeNothing}
 
 -- ---- the first text stays
 
@@ -173,28 +176,42 @@ edited-text : (new : List ℕ) (depth : ℕ) (t : List ℕ) (back forward : List
 edited-text new depth t back forward None pending = refl
 edited-text new depth t back forward (Some b) pending = refl
 
-pub granted-made : GrantedEditsAreMade
-granted-made e x y call = go (spans x.shown.text e) refl
+pub edits-replace : EditsReplaceTheirSpans
+edits-replace e s t applied = go (spans s.text e) refl
   where
-    made : (rs : List Replacement) → spans x.shown.text e ≡ Ok rs → y.shown.text ≡ text_after x.shown.text e
-    made rs h =
-        let into : edited e x.shown.text ≡ Ok (text_after x.shown.text e) = edited-ok e x.shown.text rs h in
-        let given : answer (Apply e) x.shown ≡ Ok (shown_edited (text_after x.shown.text e) x.shown) = rw (into, shown_answer) refl in
-        let same : y.shown ≡ shown_edited (text_after x.shown.text e) x.shown = granted-is y.shown (shown_edited (text_after x.shown.text e) x.shown) (answer (Apply e) x.shown) call.step given in
-        ap (λ (s : Shown (List ℕ)). s.text) same ∙ edited-text (text_after x.shown.text e) x.shown.depth x.shown.text x.shown.back x.shown.forward x.shown.begun x.shown.pending
-
-    go : (r : Result (List Replacement) Refusal) → spans x.shown.text e ≡ r → IsMade e x.shown.text y.shown.text
-    go (Ok rs) h = record {
-      replacements = rs;
-      spans_are = h;
-      only_spans = subst (λ (t : List ℕ). IsReplacedAt x.shown.text t rs) (sym (made rs h)) (only_spans-replaced x.shown.text e rs h);
-      reads = ap reading (made rs h) ∙ edits-read e x.shown.text rs h;
-    }
+    go : (r : Result (List Replacement) Refusal) → spans s.text e ≡ r → (rs : List Replacement) × ((spans s.text e ≡ Ok rs) × (t.text ≡ text_after s.text e))
+    go (Ok rs) h =
+        let into : edited e s.text ≡ Ok (text_after s.text e) = edited-ok e s.text rs h in
+        let given : answer (Apply e) s ≡ Ok (shown_edited (text_after s.text e) s) = rw (into, shown_answer) refl in
+        let same : t ≡ shown_edited (text_after s.text e) s = granted-is t (shown_edited (text_after s.text e) s) (answer (Apply e) s) applied given in
+        (rs, (h, ap (λ (x : Shown (List ℕ)). x.text) same ∙ edited-text (text_after s.text e) s.depth s.text s.back s.forward s.begun s.pending))
     go (Err q) h =
-        let refused : edited e x.shown.text ≡ Err q = ap (text_with x.shown.text) h in
-        let given : answer (Apply e) x.shown ≡ Err (machine.EditRefused q) = rw (refused, shown_answer) refl in
-        let no = sym call.step ∙ given in
+        let refused : edited e s.text ≡ Err q = ap (text_with s.text) h in
+        let given : answer (Apply e) s ≡ Err (machine.EditRefused q) = rw (refused, shown_answer) refl in
+        let no = sym applied ∙ given in
         absurd (cc)
+
+pub edits-keep_others : EditsKeepTheirOtherLines
+edits-keep_others e s t one applied =
+    let made = edits-replace e s t applied in
+    let kept = (one_place-made e one s.text made.0 made.1.0).kept in
+    record {
+      touched = kept.touched;
+      new = kept.new;
+      place = kept.place;
+      lines_before = kept.before;
+      lines_after = ap classed_lines made.1.1 ∙ kept.after;
+    }
+
+pub granted-made : GrantedEditsAreMade
+granted-made e x y call =
+    let made = edits-replace e x.shown y.shown call.step in
+    record {
+      replacements = made.0;
+      spans_are = made.1.0;
+      only_spans = subst (λ (t : List ℕ). IsReplacedAt x.shown.text t made.0) (sym made.1.1) (only_spans-replaced x.shown.text e made.0 made.1.0);
+      reads = ap reading made.1.1 ∙ edits-read e x.shown.text made.0 made.1.0;
+    }
 
 pub others-kept : OtherCallsChangeNothing
 others-kept (c, Granted) x y call not = absurd (not refl)

@@ -1,4 +1,7 @@
 //! Whether several edits can be made as one.
+//!
+//! The edits are made and taken back: each is an edit of the text to which those before it lead, so
+//! there is no shorter way to know.
 ghost use Rattle.std.specs.Prelude.{◌≡◌, ◌≤◌, ◌+◌, ◌^◌, ◌<◌, true, IfErr, OnOk, is_ok, map};
 ghost use Rattle.mk_edit_language.specs.EditViews.{edit_of};
 ghost use Rattle.mk_session.specs.Groups.{IsGroupRefusal, costs_in_turn};

@@ -1,4 +1,7 @@
 //! Where the lines stand that edits take.
+//!
+//! What is known is asked as for an `unset` or an `unrule` that is not made, so the answer is that
+//! of the definitions of edits, and the index needs nothing new for it.
 ghost use Rattle.std.specs.Prelude.{◌≡◌, Some};
 ghost use Rattle.mk_tree.specs.Documents.{IsFaithful};
 ghost use Rattle.mk_edit_language.specs.Addresses.{Rule, Variable};

@@ -1,4 +1,7 @@
 //! Several edits as one: all of them, or none.
+//!
+//! The call does not stand on `begin` and `cancel`: the first edit of an open group drops what can
+//! be redone, and a cancel does not bring that back.
 ghost use Rattle.std.specs.Prelude.{◌≡◌, ◌≤◌, ◌+◌, ◌^◌, ◌<◌, Ok, IfOk, IfErr, OnOk, OnErr, length, map};
 ghost use Rattle.mk_tree.specs.Counting.{AreCounted};
 ghost use Rattle.mk_tree.specs.Documents.{IsFaithful};

@@ -8,4 +8,4 @@ use Rattle.mk_queries.proofs.query.recipes.put_recipes.Given as goal
 
 abbrev pub invariant-lines : goal.invariant-lines
 invariant-lines g l =
-    PutSoFar g.W.ByteSink.contents g.W.ByteSink.failed g.W.ByteSink.flushes l.initial.out l.out l.initial.gathered.items l.gathered.items (flat_map (recipe_text l.rule.rule.targets) l.line-iterator) (rule_recipes (rule_spot l.rule))
+    PutSoFar g.W.ByteSink.contents g.W.ByteSink.failed g.W.ByteSink.flushes l.initial.out l.out l.initial.gathered.items l.gathered.items (flat_map (recipe_text (rule_spot l.rule)) l.line-iterator) (rule_recipes (rule_spot l.rule))

@@ -1,0 +1,221 @@
+//! The edits of a session, in a call each.
+ghost use Rattle.std.specs.Prelude.{◌≡◌, IfOk, None, false, true};
+ghost use Rattle.mk_edit_language.specs.EditViews.{edit_of, place_of};
+ghost use Rattle.mk_edit_language.specs.Edits as edits;
+ghost use Rattle.mk_session.specs.Applied.{IsApplied};
+
+use super::Session;
+use mk_class::Flavor;
+use mk_edit::{Edit, Place, Refusal, RuleSeparator};
+use std::alloc::{AllocError, Allocator};
+
+/// Makes edits, in a call each. A call copies its texts, makes the edit that the call of the same name of
+/// [`Edit`] or [`Place`] makes, and hands it to [`Session::apply`]. An edit of a line by its number is a
+/// value for `apply`, since [`Edit::nth`] gives it the number.
+///
+/// Each call has the errors of [`Session::apply`], and [`Refusal::NoMemory`] if there is no memory for
+/// the copy of a text. No cause of a refusal is looked for then.
+impl<A: Allocator + Copy> Session<A> {
+    /// `set NAME VALUE`: makes the edit of [`Edit::set`].
+    pub fn set(&mut self, name: &[u8], value: &[u8]) -> Result<(), Refusal>
+        ensures { IsApplied (edits.ChangeValue (edits.One None) name.now (edits.Set value.now))
+            result self.old self.new }
+    {
+        self.apply_made(Edit::set(self.alloc, name, value))
+    }
+
+    /// `append NAME VALUE`: makes the edit of [`Edit::append`].
+    pub fn append(&mut self, name: &[u8], value: &[u8]) -> Result<(), Refusal>
+        ensures { IsApplied (edits.ChangeValue (edits.One None) name.now (edits.Append value.now))
+            result self.old self.new }
+    {
+        self.apply_made(Edit::append(self.alloc, name, value))
+    }
+
+    /// `add NAME WORD`: makes the edit of [`Edit::add_word`].
+    pub fn add_word(&mut self, name: &[u8], word: &[u8]) -> Result<(), Refusal>
+        ensures { IsApplied (edits.ChangeValue (edits.One None) name.now (edits.Add word.now))
+            result self.old self.new }
+    {
+        self.apply_made(Edit::add_word(self.alloc, name, word))
+    }
+
+    /// `drop NAME WORD`: makes the edit of [`Edit::drop_word`].
+    pub fn drop_word(&mut self, name: &[u8], word: &[u8]) -> Result<(), Refusal>
+        ensures { IsApplied (edits.ChangeValue (edits.One None) name.now (edits.Remove word.now))
+            result self.old self.new }
+    {
+        self.apply_made(Edit::drop_word(self.alloc, name, word))
+    }
+
+    /// `all set NAME VALUE`: makes the edit of [`Edit::all_set`].
+    pub fn all_set(&mut self, name: &[u8], value: &[u8]) -> Result<(), Refusal>
+        ensures { IsApplied (edits.ChangeValue edits.Every name.now (edits.Set value.now))
+            result self.old self.new }
+    {
+        self.apply_made(Edit::all_set(self.alloc, name, value))
+    }
+
+    /// `all append NAME VALUE`: makes the edit of [`Edit::all_append`].
+    pub fn all_append(&mut self, name: &[u8], value: &[u8]) -> Result<(), Refusal>
+        ensures { IsApplied (edits.ChangeValue edits.Every name.now (edits.Append value.now))
+            result self.old self.new }
+    {
+        self.apply_made(Edit::all_append(self.alloc, name, value))
+    }
+
+    /// `all add NAME WORD`: makes the edit of [`Edit::all_add_word`].
+    pub fn all_add_word(&mut self, name: &[u8], word: &[u8]) -> Result<(), Refusal>
+        ensures { IsApplied (edits.ChangeValue edits.Every name.now (edits.Add word.now))
+            result self.old self.new }
+    {
+        self.apply_made(Edit::all_add_word(self.alloc, name, word))
+    }
+
+    /// `all drop NAME WORD`: makes the edit of [`Edit::all_drop_word`].
+    pub fn all_drop_word(&mut self, name: &[u8], word: &[u8]) -> Result<(), Refusal>
+        ensures { IsApplied (edits.ChangeValue edits.Every name.now (edits.Remove word.now))
+            result self.old self.new }
+    {
+        self.apply_made(Edit::all_drop_word(self.alloc, name, word))
+    }
+
+    /// `unset NAME`: makes the edit of [`Edit::unset`].
+    pub fn unset(&mut self, name: &[u8]) -> Result<(), Refusal>
+        ensures { IsApplied (edits.RemoveLines (edits.OfAssign None name.now))
+            result self.old self.new }
+    {
+        self.apply_made(Edit::unset(self.alloc, name))
+    }
+
+    /// `assign PLACE NAME OP VALUE`: makes the edit of [`Place::assign`].
+    pub fn assign(
+        &mut self,
+        place: Place<A>,
+        name: &[u8],
+        flavor: Flavor,
+        value: &[u8],
+    ) -> Result<(), Refusal>
+        ensures { IsApplied
+            (edits.AddLine (place_of place) (edits.NewAssign name.now flavor value.now))
+            result self.old self.new }
+    {
+        self.apply_made(place.assign(self.alloc, name, flavor, value))
+    }
+
+    /// `rule PLACE TARGETS SEP PREREQS`: makes the edit of [`Place::rule`].
+    pub fn rule(
+        &mut self,
+        place: Place<A>,
+        targets: &[u8],
+        separator: RuleSeparator,
+        prereqs: &[u8],
+    ) -> Result<(), Refusal>
+        ensures { IsApplied
+            (edits.AddLine (place_of place) (edits.NewRule targets.now separator prereqs.now))
+            result self.old self.new }
+    {
+        self.apply_made(place.rule(self.alloc, targets, separator, prereqs))
+    }
+
+    /// `unrule TARGET`: makes the edit of [`Edit::unrule`].
+    pub fn unrule(&mut self, target: &[u8]) -> Result<(), Refusal>
+        ensures { IsApplied (edits.RemoveLines (edits.OfRule None target.now))
+            result self.old self.new }
+    {
+        self.apply_made(Edit::unrule(self.alloc, target))
+    }
+
+    /// `depend TARGET WORD`: makes the edit of [`Edit::depend`].
+    pub fn depend(&mut self, target: &[u8], word: &[u8]) -> Result<(), Refusal>
+        ensures { IsApplied (edits.ChangePrereqs None target.now (edits.AddPrereq false word.now))
+            result self.old self.new }
+    {
+        self.apply_made(Edit::depend(self.alloc, target, word))
+    }
+
+    /// `depend-order TARGET WORD`: makes the edit of [`Edit::depend_order`].
+    pub fn depend_order(&mut self, target: &[u8], word: &[u8]) -> Result<(), Refusal>
+        ensures { IsApplied (edits.ChangePrereqs None target.now (edits.AddPrereq true word.now))
+            result self.old self.new }
+    {
+        self.apply_made(Edit::depend_order(self.alloc, target, word))
+    }
+
+    /// `undepend TARGET WORD`: makes the edit of [`Edit::undepend`].
+    pub fn undepend(&mut self, target: &[u8], word: &[u8]) -> Result<(), Refusal>
+        ensures { IsApplied (edits.ChangePrereqs None target.now (edits.RemovePrereq word.now))
+            result self.old self.new }
+    {
+        self.apply_made(Edit::undepend(self.alloc, target, word))
+    }
+
+    /// `recipe TARGET LINE`: makes the edit of [`Edit::recipe`].
+    pub fn recipe(&mut self, target: &[u8], line: &[u8]) -> Result<(), Refusal>
+        ensures { IsApplied (edits.AddRecipe None target.now edits.Last line.now)
+            result self.old self.new }
+    {
+        self.apply_made(Edit::recipe(self.alloc, target, line))
+    }
+
+    /// `recipe-insert TARGET K LINE`: makes the edit of [`Edit::recipe_insert`].
+    pub fn recipe_insert(&mut self, target: &[u8], number: u32, line: &[u8]) -> Result<(), Refusal>
+        ensures { IsApplied (edits.AddRecipe None target.now (edits.At number) line.now)
+            result self.old self.new }
+    {
+        self.apply_made(Edit::recipe_insert(self.alloc, target, number, line))
+    }
+
+    /// `recipe-set TARGET K LINE`: makes the edit of [`Edit::recipe_set`].
+    pub fn recipe_set(&mut self, target: &[u8], number: u32, line: &[u8]) -> Result<(), Refusal>
+        ensures { IsApplied (edits.SetRecipe None target.now (edits.ByNumber number) line.now)
+            result self.old self.new }
+    {
+        self.apply_made(Edit::recipe_set(self.alloc, target, number, line))
+    }
+
+    /// `recipe-del TARGET K`: makes the edit of [`Edit::recipe_del`].
+    pub fn recipe_del(&mut self, target: &[u8], number: u32) -> Result<(), Refusal>
+        ensures { IsApplied
+            (edits.RemoveLines (edits.OfRecipe None target.now (edits.ByNumber number)))
+            result self.old self.new }
+    {
+        self.apply_made(Edit::recipe_del(self.alloc, target, number))
+    }
+
+    /// `recipe-replace TARGET OLD LINE`: makes the edit of [`Edit::recipe_replace`].
+    pub fn recipe_replace(&mut self, target: &[u8], old: &[u8], line: &[u8]) -> Result<(), Refusal>
+        ensures { IsApplied (edits.SetRecipe None target.now (edits.ByText old.now) line.now)
+            result self.old self.new }
+    {
+        self.apply_made(Edit::recipe_replace(self.alloc, target, old, line))
+    }
+
+    /// `recipe-remove TARGET OLD`: makes the edit of [`Edit::recipe_remove`].
+    pub fn recipe_remove(&mut self, target: &[u8], old: &[u8]) -> Result<(), Refusal>
+        ensures { IsApplied
+            (edits.RemoveLines (edits.OfRecipe None target.now (edits.ByText old.now)))
+            result self.old self.new }
+    {
+        self.apply_made(Edit::recipe_remove(self.alloc, target, old))
+    }
+
+    /// `rename OLD NEW`: makes the edit of [`Edit::rename`].
+    pub fn rename(&mut self, old: &[u8], new: &[u8]) -> Result<(), Refusal>
+        ensures { IsApplied (edits.RenameTarget old.now new.now)
+            result self.old self.new }
+    {
+        self.apply_made(Edit::rename(self.alloc, old, new))
+    }
+
+    // Makes an edit, if there was memory to make it of its texts.
+    fn apply_made(&mut self, edit: Result<Edit<A>, AllocError>) -> Result<(), Refusal>
+        ensures { (e : edits.Edit) → IfOk edit (λ made. edit_of made ≡ e)
+            → IsApplied e result self.old self.new }
+    {
+        match edit {
+            Ok(edit) => self.apply(&edit),
+            Err(_) => Err(Refusal::NoMemory),
+        }
+    }
+}

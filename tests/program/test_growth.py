@@ -1,0 +1,113 @@
+"""What queries take over makefiles that double: answer, time and memory have to double at most, but for a little.
+
+In each shape something that is told once could be told again with each line: the targets of a rule, the
+conditionals round a line, their texts.
+"""
+
+from typing import NamedTuple
+
+from tests.hostile.large_shapes import Site
+from tests.lib.rooms import ANSWERS, RoomCase
+
+# A makefile has so many bytes at first, and doubles three times.
+SIZES = [32_000 << it for it in range(4)]
+# How many times as much an answer may have, and its time and memory be, where the makefile has twice as much; and
+# what is too little to be judged: bytes, seconds and bytes. The memory is also that of this process.
+GREATEST, LEAST = 2.5, (10_000, 0.02, 64_000_000)
+# So many runs may show that a time was the machine's other work.
+ROUNDS = 8
+# The options of a query, and over how many makefiles it is asked: the answer on one of several is in memory first.
+FORMS = {"text": ((), 1), "text of several": ((), 2), "JSON": (("--json",), 1)}
+# Lines of which each query tells some; recipe lines, some of them in branches.
+TOLD = b"X = 1\na b: c\n\td\n$(x)\n\tY = 1\n"
+RECIPE = b"\tx\nifdef A\n\ty\nelse\n\tz\nendif\n"
+MOST_OPEN = 256
+
+
+def times(unit, size):
+    """A text over and over, with about so many bytes in all."""
+    return unit * (size // len(unit))
+
+
+def targets(size):
+    return b" ".join(b"t%d" % it for it in range(size // 7))
+
+
+def targets_and_recipe_lines(size):
+    return targets(size // 2) + b": a\n" + times(b"\tx\n", size // 2)
+
+
+def targets_and_branches(size):
+    return targets(size // 2) + b": a\n" + times(RECIPE, size // 2)
+
+
+def nested_conditionals(size):
+    return b"ifdef A\n" * MOST_OPEN + times(TOLD, size) + b"endif\n" * MOST_OPEN
+
+
+def a_long_condition(size):
+    return b"ifdef " + b"A" * (size // 2) + b"\n" + times(TOLD, size // 2) + b"endif\n"
+
+
+def nested_long_conditions(size):
+    return times(b"ifdef " + b"A" * (size // 80) + b"\n", size // 2) + times(TOLD, size // 2)
+
+
+def branches_of_a_long_condition(size):
+    return b"ifdef " + b"A" * (size // 2) + b"\n" + times(b"else ifdef B\n" + TOLD, size // 2) + b"endif\n"
+
+
+SHAPES = (
+    targets_and_recipe_lines,
+    targets_and_branches,
+    nested_conditionals,
+    a_long_condition,
+    nested_long_conditions,
+    branches_of_a_long_condition,
+)
+
+
+class Taken(NamedTuple):
+    """How many bytes an answer has, and the seconds and the bytes of memory that it takes."""
+
+    length: int
+    seconds: float
+    peak: int
+
+    def most(self):
+        """What an answer over twice the makefile may take."""
+        return Taken(*(GREATEST * max(it, least) for it, least in zip(self, LEAST)))
+
+
+class Growth(RoomCase):
+    def taken(self, words, most):
+        """What a query takes: the least time of some runs, where it seems to be too long."""
+        site, out = Site(self.program.path, self.room.folder), self.room.folder / "out"
+        seconds = most.seconds + 1
+        for _ in range(ROUNDS):
+            ran = site.run([str(self.program.path), *words], out)
+            self.assertEqual(ran.status, 0, words)
+            seconds = min(seconds, ran.seconds)
+            if seconds <= most.seconds:
+                break
+        return Taken(out.stat().st_size, seconds, ran.peak)
+
+    def assert_linear(self, shape, query, form):
+        """Each doubling of the makefile doubles at most what a query takes."""
+        options, count = FORMS[form]
+        most = Taken(*[float("inf")] * 3)
+        for size in SIZES:
+            name = str(self.room.folder / f"{shape.__name__}-{size}")
+            found = self.taken((query, *options, *[name] * count), most)
+            for it, limit, of in zip(found, most, Taken._fields):
+                self.assertLessEqual(it, limit, f"{of} of {query} over {size} bytes")
+            most = found.most()
+
+    def test_each_query_is_linear(self):
+        for shape in SHAPES:
+            for size in SIZES:
+                self.room.write(f"{shape.__name__}-{size}", shape(size))
+            for query in ANSWERS:
+                for form in FORMS:
+                    with self.subTest(f"{query}, {form}, {shape.__name__}"):
+                        self.assert_linear(shape, query, form)
