@@ -149,7 +149,7 @@ class LargeEdits(RoomCase):
         self.assertLess(among, 3 * max(alone, 0.01), "a rename takes longer where there is an index")
 
     def test_notes_on_edits_of_names_with_one_line_take_few_walks(self):
-        names = range(2_000)
+        names = range(40_000)
         self.room.write("large", b"".join(b"V%d = a\n" % it for it in names))
         self.room.write("edit", b"".join(b"set V%d b\n" % it for it in names))
         seconds = []
@@ -158,7 +158,7 @@ class LargeEdits(RoomCase):
             got = self.room.run("edit", *words, "edit", "large")
             seconds.append(processor_time() - before)
             self.assertEqual((got.stderr, got.status), (b"", 0))
-        self.assertLess(seconds[1], 10 * max(seconds[0], 0.02), "notes take longer than the edits")
+        self.assertLess(seconds[1], 3 * max(seconds[0], 0.02), "notes take longer than the edits")
 
     def test_notes_of_very_many_edits_end(self):
         self.room.write("large", b"A = 1\nA = 2\n" + b"#\n" * (MANY // 5))

@@ -1,5 +1,5 @@
 -- Which parts fit a header: parts that are read again from their units, when these stand in a line.
--- Told in docs/PROOFS.md, "Classes and contexts (mk_class)".
+-- Told in docs/PROOFS.md, "Reading a makefile".
 use Rattle.std.specs.Prelude.{◌≡◌, ℕ, ◌&&◌, true, false, map, List, [], ◌∷◌, ◌++◌}
 use Rattle.mk_lines.specs.Lists.{Each, FirstFails}
 use Rattle.mk_class.specs.ListTests.{first_passes, last_passes}

@@ -1,5 +1,5 @@
 -- Functions on lists that the definitions of assignments, rules and classes share.
--- Told in docs/DEVELOPING.md, "How to read an .antt file".
+-- Told in CONTRIBUTING.md, "How definitions are written".
 use Rattle.std.specs.Prelude.{if◌then◌else◌, Bool, true, false, List, [], ◌∷◌}
 
 -- whether a list has no element

@@ -1,5 +1,4 @@
 -- The offsets of an assignment, if there is one.
--- Told in docs/DECISIONS.md, "mk_class".
 use Rattle.std.specs.Prelude.{ℕ, Option, Some, None}
 use Rattle.mk_class.specs.Assignments.{Assignment}
 use Rattle.mk_class.specs.LocatedClasses.{located_assignment}

@@ -1,6 +1,5 @@
 -- The class of a line as the code has it: with offsets in the joined text, where the definition has
 -- lists of units.
--- Told in docs/DECISIONS.md, "mk_class".
 use Rattle.std.specs.Prelude.{ℕ, ◌+◌, Bool, true, false, not, List, length, Option, Some, None}
 use Rattle.mk_lines.specs.Lists.{concat}
 use Rattle.mk_class.specs.ListTests.{is_empty}

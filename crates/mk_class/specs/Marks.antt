@@ -1,5 +1,4 @@
 -- Which of the bytes that tell lines apart a text has, as marks.
--- Told in docs/DECISIONS.md, "mk_class".
 use Rattle.std.specs.Prelude.{◌≡◌, ℕ, ◌==◌, if◌then◌else◌, Bool, false, List, [], ◌∷◌, All}
 use Rattle.std.specs.List.{list_any}
 use Rattle.std.specs.Int.{bit_at}

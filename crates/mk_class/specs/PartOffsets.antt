@@ -1,7 +1,6 @@
 -- Where a part of a line stands: the code's class has offsets into the joined text, and the
 -- definition's class has the units of the part. The range between the offsets has the text, the
 -- units and the words of the part; the raw range has its raw bytes.
--- Told in docs/DECISIONS.md, "mk_class".
 use Rattle.std.specs.Prelude.{◌≡◌, ℕ, ◌+◌, ◌≤◌, List, map, length}
 use Rattle.mk_lines.specs.Lists.{concat}
 use Rattle.mk_lines.specs.Cells.{Cell, joined_byte, joined_text, raw_text}

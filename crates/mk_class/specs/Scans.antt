@@ -1,6 +1,5 @@
 -- Units found by their bytes: the first unit that is a given byte, an operator or a separator at
 -- the front, and the first separator.
--- Told in docs/DECISIONS.md, "mk_class".
 use Rattle.std.specs.Prelude.{◌≡◌, ℕ, ◌==◌, Bool, false, not, List, [], ◌∷◌, map, drop, Some}
 use Rattle.std.specs.List.{list_any}
 use Rattle.mk_lines.specs.Lists.{leading, after_leading}

@@ -1,5 +1,4 @@
 -- The last places of lines, as a map has them.
--- Told in docs/DECISIONS.md, "mk_diff".
 use Rattle.std.specs.Prelude.{ℕ, ◌<◌, ◌≤◌, Bool, false, nat_le, List, Option, Some, None, IsSomeAnd}
 use Rattle.std.specs.Borrow.{Bor}
 use Rattle.std.specs.BTreeMap.{BTreeMap, get_by}

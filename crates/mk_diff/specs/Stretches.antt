@@ -1,5 +1,4 @@
 -- Stretches of two texts, as the code finds them.
--- Told in docs/DECISIONS.md, "mk_diff".
 use Rattle.std.specs.Prelude.{◌≡◌, ℕ, suc, ◌+◌, ◌-◌, ◌<◌, ◌≤◌, ◌⊎◌, List, [], ◌∷◌, ◌++◌, map, take, drop, get_or, length}
 use Rattle.std.specs.Borrow.{Bor}
 use Rattle.mk_diff.specs.Hunks.{Change, Hunk, IsHunk}

@@ -1,6 +1,5 @@
 -- The moves of a change of all values of a name: each line that is changed is exchanged for the line
 -- after the change, in two turns.
--- Told in docs/DECISIONS.md, "mk_edit_parts and mk_edit".
 use Rattle.std.specs.Prelude.{◌≡◌, ◌<◌, not, Bool, List, [], ◌∷◌, ◌++◌}
 use Rattle.mk_lines.specs.Limits.{max_text}
 use Rattle.mk_lines.specs.LogicalLines.{logical_lines}

@@ -1,6 +1,5 @@
 -- The moves of a rename: each line that holds the word is exchanged for the line after the rename,
 -- in two turns.
--- Told in docs/DECISIONS.md, "mk_edit_parts and mk_edit".
 use Rattle.std.specs.Prelude.{◌≡◌, ◌&&◌, not, nat_lt, if◌then◌else◌, ℕ, ◌+◌, ◌*◌, ◌^◌, ◌<◌, ◌≤◌, Bool, true, false, List, [], ◌∷◌, ◌++◌, length, drop, filter}
 use Rattle.mk_lines.specs.Limits.{max_text}
 use Rattle.mk_lines.specs.LogicalLines.{logical_lines}

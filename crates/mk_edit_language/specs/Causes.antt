@@ -1,5 +1,4 @@
 -- A cause of a refusal: the refusal if the cause holds, and None if it does not.
--- Told in docs/DECISIONS.md, "mk_edit_language".
 use Rattle.std.specs.Prelude.{Bool, true, false, Option, Some, None}
 use Rattle.mk_edit_language.specs.declared.refusal.Refusal.{Refusal}
 

@@ -1,5 +1,5 @@
 -- How many lines an edit reads again, and how many lines it replaces or takes out.
--- Told in docs/DEVELOPING.md, "Adding a row".
+-- Told in CONTRIBUTING.md, "How rows and tests are written".
 use Rattle.std.specs.Prelude.{ℕ, Bool, List, length, filter, Option, Some, None}
 use Rattle.std.specs.List.{list_any}
 use Rattle.mk_class.specs.ClassedLines.{ClassedLine, classed_lines}

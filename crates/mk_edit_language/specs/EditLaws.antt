@@ -1,5 +1,5 @@
 -- Laws of edits, each the contract of a public function.
--- Told in docs/PROOFS.md, "Edits, as definitions (mk_edit_language)".
+-- Told in docs/PROOFS.md, "An edit".
 use Rattle.std.specs.Prelude.{◌≡◌, ℕ, List, ◌∷◌, ◌++◌, Some, Ok, Err, ◌+◌, length}
 use Rattle.mk_lines.specs.Pieces.{Replacement}
 use Rattle.mk_lines.specs.Cells.{Cell}

@@ -1,6 +1,6 @@
 -- What an edit of one place leaves: the lines that stand in the place of those that it touches, and
 -- the lines above and below, with their classes.
--- Told in docs/PROOFS.md, "An edit" and "Edits, as definitions (mk_edit_language)".
+-- Told in docs/PROOFS.md, "An edit".
 use Rattle.std.specs.Prelude.{ℕ, List, [], ◌∷◌, ◌++◌, length, ◌+◌, ◌≤◌, ◌≡◌, Option, Some, None}
 use Rattle.mk_lines.specs.Pieces.{Replacement, replaced}
 use Rattle.mk_class.specs.ClassedLines.{ClassedLine, classed, classed_lines}

@@ -1,6 +1,6 @@
 -- What the removal of a rule takes out: its line and its recipe, and nothing else. The lines and
 -- the reading say so here, without the stretch that the definition of the edit takes out.
--- Told in docs/PROOFS.md, "Edits, as definitions (mk_edit_language)".
+-- Told in docs/PROOFS.md, "An edit".
 use Rattle.std.specs.Prelude.{◌≡◌, ℕ, Bool, true, false, not, ◌&&◌, ◌||◌, List, [], ◌∷◌, ◌++◌, map, filter, drop, Option, Some, Ok}
 use Rattle.mk_lines.specs.PhysicalLines.{without_line_end}
 use Rattle.mk_lines.specs.Cells.{Cell, joined_byte}

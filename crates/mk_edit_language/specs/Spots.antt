@@ -1,6 +1,5 @@
 -- Spots: the lines of a text that pass a test, each with the lines above and below it
 -- (`StandingLine`), which tell where it stands without a number.
--- Told in docs/DECISIONS.md, "mk_edit_language".
 use Rattle.std.specs.Prelude.{ℕ, suc, zero, Bool, true, false, List, [], ◌∷◌, map, Option, Some, None}
 use Rattle.mk_class.specs.ClassedLines.{ClassedLine}
 use Rattle.mk_tree.specs.LineTexts.{StandingLine}

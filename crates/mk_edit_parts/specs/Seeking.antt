@@ -1,5 +1,4 @@
 -- A walk over the lines of a document for the line that an address means.
--- Told in docs/DECISIONS.md, "mk_edit_parts and mk_edit".
 use Rattle.std.specs.Prelude.{◌≡◌, ◌||◌, ◌&&◌, ◌==◌, if◌then◌else◌, ℕ, ◌+◌, Bool, false, List, [], ◌∷◌, length, Option, Some, None, option_map, ⊤}
 use Rattle.std.specs.List.{list_any}
 use Rattle.mk_class.specs.Contexts.{start, context_after_located}

@@ -1,5 +1,4 @@
 -- Calls in turn, each of which may find no memory.
--- Told in docs/DECISIONS.md, "mk_history".
 use Rattle.std.specs.Prelude.{◌≡◌, List, [], ◌∷◌, Result, Ok, Err}
 
 -- what a call gave back: it was done, it was refused, or it found no memory

@@ -1,5 +1,5 @@
 -- What is promised of the session machine, of what is seen of it, and of a history as it is seen.
--- Told in docs/PROOFS.md, "Undo and redo (mk_history)".
+-- Told in docs/PROOFS.md, "Sessions and undo".
 use Rattle.std.specs.Prelude.{◌≡◌, ◌↔◌, ◌⊎◌, ℕ, ◌+◌, ◌≤◌, ◌<◌, List, [], ◌∷◌, ◌++◌, length, map, take, reverse, replicate, Option, Some, None, Result, Ok, Err, OnOk, OnErr, IfErr}
 use Rattle.mk_lines.specs.Lists.{concat}
 use Rattle.mk_history.specs.declared.history.HistoryError.{HistoryError}

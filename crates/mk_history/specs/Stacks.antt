@@ -1,5 +1,4 @@
 -- What is seen of a history and of a sequence.
--- Told in docs/DECISIONS.md, "mk_history".
 use Rattle.std.specs.Prelude.{◌⊎◌, ℕ, ◌<◌, List}
 use Rattle.mk_history.specs.Chain.{IsChain, after_all}
 

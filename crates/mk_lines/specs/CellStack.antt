@@ -1,5 +1,4 @@
 -- Cells as a stack: those of the text from an offset on, the first cell on top.
--- Told in docs/DECISIONS.md, "mk_lines".
 use Rattle.std.specs.Prelude.{ℕ, Bool, List, [], ◌∷◌}
 use Rattle.mk_lines.specs.Cells.{Cell, Byte, Fold, LfEnd, CrLfEnd, joined_text}
 use Rattle.mk_lines.specs.CellFaults.{has_bad_fold}

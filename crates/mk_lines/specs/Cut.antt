@@ -1,7 +1,6 @@
 -- A list cut into pieces by a machine: in each state, an element begins a new piece or continues
 -- the piece before it. Logical lines and units are both cut in this way, and share the laws of such
 -- a cut.
--- Told in docs/DECISIONS.md, "mk_lines".
 use Rattle.std.specs.Prelude.{Bool, if◌then◌else◌, List, [], ◌∷◌}
 
 -- the state after a list

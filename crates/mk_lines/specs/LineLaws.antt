@@ -1,5 +1,5 @@
 -- Laws of lines, cells, units and words, each the contract of a public function.
--- Told in docs/PROOFS.md, "Devices, lines, cells, units and words (mk_lines)".
+-- Told in docs/PROOFS.md, "Reading a makefile".
 use Rattle.std.specs.Prelude.{◌≡◌, ℕ, List, [], ◌∷◌, ◌++◌, map, true, not, take, drop}
 use Rattle.mk_lines.specs.Lists.{concat}
 use Rattle.mk_lines.specs.PhysicalLines.{line_end, line_end_bytes, without_line_end, file_line_end}

@@ -1,6 +1,6 @@
 -- Functions on lists that the definitions of lines, cells and units share. They are clauses, so
 -- that they compute.
--- Told in docs/DEVELOPING.md, "How to read an .antt file".
+-- Told in CONTRIBUTING.md, "How definitions are written".
 use Rattle.std.specs.Prelude.{if◌then◌else◌, Bool, true, false, List, [], ◌∷◌, ◌++◌, ◌≡◌}
 
 -- the elements at the front that pass the test

@@ -1,6 +1,6 @@
 -- A text with some parts replaced, and the pieces of a line: cells that stay, and cells that a text
 -- replaces.
--- Told in docs/DEVELOPING.md, "Words".
+-- Told in docs/ARCHITECTURE.md, "Where things are".
 use Rattle.std.specs.Prelude.{ℕ, ◌+◌, ◌-◌, List, [], ◌∷◌, ◌++◌, map, length, take, drop}
 use Rattle.mk_lines.specs.Cells.{Cell, Byte, raw_text}
 

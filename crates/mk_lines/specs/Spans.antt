@@ -1,5 +1,5 @@
 -- Spans that follow one another.
--- Told in docs/PROOFS.md, "Call by call: what is proved, what is tested, what is neither".
+-- Told in docs/PROOFS.md, "Reading a makefile".
 use Rattle.std.specs.Prelude.{◌≡◌, ℕ, ◌<◌, List, [], ◌∷◌}
 use Rattle.mk_lines.specs.declared.split.Span.{Span}
 

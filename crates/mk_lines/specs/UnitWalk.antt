@@ -1,6 +1,5 @@
 -- Units and words one after the other: what follows the first one of a text, and the ranges of the
 -- others.
--- Told in docs/DECISIONS.md, "mk_lines".
 use Rattle.std.specs.Prelude.{ℕ, ◌+◌, ◌-◌, ◌==◌, if◌then◌else◌, not, Option, Some, None, List, [], ◌∷◌, length}
 use Rattle.mk_lines.specs.Lists.{concat, after_leading}
 use Rattle.mk_lines.specs.Units.{units}

@@ -53,7 +53,7 @@ impl<B: Allocator + Copy> RunNotes<'_, B> {
             Some(tally) => tally,
             None => Tally::of(self.alloc, doc)?,
         };
-        tally.follow(edit);
+        tally.follow(edit)?;
         let put = notes.made(&tally, &mut self.made, edit);
         self.tally = Some(tally);
         put?;
@@ -61,7 +61,7 @@ impl<B: Allocator + Copy> RunNotes<'_, B> {
     }
 }
 
-impl<'a, A: Allocator, B: Allocator> Notes<'a, A, B> {
+impl<'a, A: Allocator, B: Allocator + Copy> Notes<'a, A, B> {
     // Puts the notes on an edit that was made.
     fn made<C: Allocator>(
         &mut self,

@@ -2,15 +2,10 @@
 
 use mk_class::Flavor;
 use mk_edit_language::Edit;
-use mk_index::bucket::{bucket_of, hash_of};
+use mk_index::bucket::hash_of;
 use mk_tree::{Doc, WordTexts};
 use std::alloc::{AllocError, Allocator};
-
-/// How many counters there are for each use of a word.
-const WORDS: usize = 65_536;
-
-/// How many uses there are.
-const USES: usize = 3;
+use std::collections::BTreeMap;
 
 /// What a line is to a word.
 #[derive(Clone, Copy)]
@@ -23,33 +18,34 @@ enum Use {
     Target,
 }
 
-/// How many lines use each word, or more: words of one hash share a counter, and a line that was taken
-/// out is counted still. So a word that is counted once stands in one line at most.
+/// How many lines use each word, or more: words of one hash of 32 bits are counted together, and a line
+/// that was taken out is counted still. So a word that is counted once stands in one line at most.
 #[derive(Drop)]
 pub(crate) struct Tally<A: Allocator> {
-    counters: Vec<u8, A>,
+    /// The counts, by use and hash.
+    counts: BTreeMap<u64, u8, A>,
 }
 
-impl<A: Allocator> Tally<A> {
-    /// The tally of a document. It takes time linear in its text.
+impl<A: Allocator + Copy> Tally<A> {
+    /// The tally of a document.
     ///
     /// # Errors
     ///
     /// [`AllocError`] if the growth was refused.
     pub(crate) fn of<B: Allocator>(alloc: A, doc: &Doc<B>) -> Result<Tally<A>, AllocError> {
         let mut tally = Tally {
-            counters: Vec::from_elem(alloc, 0, WORDS * USES)?,
+            counts: BTreeMap::new(alloc),
         };
         for line in doc.iter() {
             if let Some(name) = line.define() {
-                tally.add(Use::Variable, name, 1);
+                tally.add(Use::Variable, name, 1)?;
             }
             if let Some(assignment) = line.assignment() {
-                tally.assign(assignment.name(), assignment.flavor());
+                tally.assign(assignment.name(), assignment.flavor())?;
             }
             if let Some(rule) = line.rule() {
                 for target in rule.targets() {
-                    tally.add(Use::Target, target, 1);
+                    tally.add(Use::Target, target, 1)?;
                 }
             }
         }
@@ -58,22 +54,27 @@ impl<A: Allocator> Tally<A> {
 
     /// Counts the lines of an edit that was made: those that it has put in, and those that it has taken
     /// out, which `undo` puts back.
-    pub(crate) fn follow<B: Allocator>(&mut self, edit: &Edit<B>) {
+    ///
+    /// # Errors
+    ///
+    /// [`AllocError`] if the growth was refused.
+    pub(crate) fn follow<B: Allocator>(&mut self, edit: &Edit<B>) -> Result<(), AllocError> {
         match edit {
             Edit::AddAssign { name, flavor, .. } => self.assign(name, *flavor),
             Edit::RemoveAssign { name, .. } => self.assign(name, Flavor::Conditional),
             Edit::AddRule { targets, .. } => {
                 for target in WordTexts::new(targets) {
-                    self.add(Use::Target, target, 1);
+                    self.add(Use::Target, target, 1)?;
                 }
+                Ok(())
             }
             Edit::RemoveRule { target, .. } => self.add(Use::Target, target, 1),
             Edit::RenameTarget { from, to } => {
                 let (old, new) = (self.count(Use::Target, from), self.count(Use::Target, to));
-                self.add(Use::Target, from, new);
-                self.add(Use::Target, to, old);
+                self.add(Use::Target, from, new)?;
+                self.add(Use::Target, to, old)
             }
-            _ => {}
+            _ => Ok(()),
         }
     }
 
@@ -90,33 +91,31 @@ impl<A: Allocator> Tally<A> {
 
     // How many lines use a word so, or more; 255 stands for any greater number.
     fn count(&self, what: Use, word: &[u8]) -> u8 {
-        self.counters
-            .get(counter_of(what, word))
-            .map_or(0, |it| *it)
+        self.counts.get(&key_of(what, word)).copied().unwrap_or(0)
     }
 
     // Counts the line of an assignment.
-    fn assign(&mut self, name: &[u8], flavor: Flavor) {
-        self.add(Use::Variable, name, 1);
+    fn assign(&mut self, name: &[u8], flavor: Flavor) -> Result<(), AllocError> {
         if matches!(flavor, Flavor::Conditional) {
-            self.add(Use::Default, name, 1);
+            self.add(Use::Default, name, 1)?;
         }
+        self.add(Use::Variable, name, 1)
     }
 
     // Counts some more lines that use a word so.
-    fn add(&mut self, what: Use, word: &[u8], count: u8) {
-        if let Some(counter) = self.counters.get_mut(counter_of(what, word)) {
-            *counter = counter.saturating_add(count);
-        }
+    fn add(&mut self, what: Use, word: &[u8], more: u8) -> Result<(), AllocError> {
+        let count = self.count(what, word).saturating_add(more);
+        self.counts.insert(key_of(what, word), count)?;
+        Ok(())
     }
 }
 
-// The index of the counter of a word that is used so.
-fn counter_of(what: Use, word: &[u8]) -> usize {
+// The key of the count of a word that is used so.
+fn key_of(what: Use, word: &[u8]) -> u64 {
     let kind = match what {
         Use::Variable => 0,
         Use::Default => 1,
         Use::Target => 2,
     };
-    bucket_of(hash_of(word), WORDS) * USES + kind
+    u64::from(hash_of(word)) * 4 + kind
 }

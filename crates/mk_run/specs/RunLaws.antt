@@ -1,5 +1,5 @@
 -- Laws of runs. Each law is the contract of a public function.
--- Told in docs/PROOFS.md, "Runs (mk_run)".
+-- Told in docs/PROOFS.md, "A run".
 use Rattle.std.specs.Prelude.{◌≡◌, ◌↔◌, ℕ, Bool, true, false, if◌then◌else◌, List, [], ◌∷◌, ◌++◌, length, Some, None, Ok, Err, IfSome}
 use Rattle.mk_edit_language.specs.Edits.{Edit}
 use Rattle.mk_history.specs.Machine.{Command, Apply, Undo, opened, replay}

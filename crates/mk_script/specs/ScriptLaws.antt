@@ -1,5 +1,5 @@
 -- Laws of lines and of scripts. Each law is the contract of a public function.
--- Told in docs/PROOFS.md, "Scripts (mk_script)".
+-- Told in docs/PROOFS.md, "Scripts".
 use Rattle.std.specs.Prelude.{◌≡◌, ◌⊎◌, ◌↔◌, ℕ, ◌≤◌, List, [], ◌∷◌, ◌++◌, map, codes}
 use Rattle.mk_edit_language.specs.Edits.{Every, Edit, ChangeValue}
 use Rattle.mk_history.specs.Machine.{Command, Apply}

@@ -1,5 +1,5 @@
 -- Laws of sessions over any calls. Each law is the contract of a public function.
--- Told in docs/PROOFS.md, "Sessions (mk_session)".
+-- Told in docs/PROOFS.md, "Sessions and undo".
 use Rattle.std.specs.Prelude.{◌≡◌, ℕ, ◌≤◌, List, length, map, replicate, None, Ok}
 use Rattle.mk_lines.specs.Pieces.{Replacement}
 use Rattle.mk_tree.specs.Readings.{reading}

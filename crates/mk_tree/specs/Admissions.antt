@@ -1,5 +1,4 @@
 -- Whether each of some lines may stand in the context that the lines before it leave.
--- Told in docs/DECISIONS.md, "mk_tree".
 use Rattle.std.specs.Prelude.{List, [], ◌∷◌}
 use Rattle.mk_class.specs.Contexts.{Context}
 use Rattle.mk_class.specs.Contexts.{context_after_located, Admits}

@@ -1,5 +1,5 @@
 -- Laws of texts that change, each the contract of a public function.
--- Told in docs/PROOFS.md, "Documents (mk_tree)".
+-- Told in docs/PROOFS.md, "Reading a makefile".
 use Rattle.std.specs.Prelude.{◌≡◌, ℕ, ◌+◌, true, false, not, ◌&&◌, List, [], ◌∷◌, ◌++◌, length}
 use Rattle.std.specs.List.{list_any}
 use Rattle.mk_lines.specs.PhysicalLines.{line_end_bytes, file_line_end}

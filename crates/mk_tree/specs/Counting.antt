@@ -1,5 +1,5 @@
 -- The lines that a meter counts.
--- Told in docs/PROOFS.md, "Classes and contexts (mk_class)".
+-- Told in docs/PROOFS.md, "Reading a makefile".
 use Rattle.std.specs.Prelude.{◌≡◌, ℕ, ◌+◌, ◌-◌, ◌^◌, min}
 
 -- `lines` lines more are counted, up to the greatest number that a meter tells

@@ -1,5 +1,5 @@
 -- Laws of the lines of a text and of a rule, each the contract of a public function.
--- Told in docs/PROOFS.md, "Call by call: what is proved, what is tested, what is neither".
+-- Told in docs/PROOFS.md, "Reading a makefile".
 use Rattle.std.specs.Prelude.{◌≡◌, ℕ, not, List}
 use Rattle.mk_class.specs.ClassedLines.{ClassedLine, classed_lines}
 use Rattle.mk_lines.specs.Lists.{leading}

@@ -1,7 +1,6 @@
 -- What a document is: a list of lines, each with its bytes and its class. A document is faithful to
 -- a text if its lines are those of the text, each with its class in the context of the lines before
 -- it.
--- Told in docs/DECISIONS.md, "mk_tree".
 use Rattle.std.specs.Prelude.{◌≡◌, ℕ, ◌<◌, max, not, List, [], ◌∷◌}
 use Rattle.mk_lines.specs.Lists.{Each}
 use Rattle.mk_class.specs.Classes.{is_conditional}

@@ -1,5 +1,5 @@
 -- What some lines need to stand in the place of as many other lines of a text.
--- Told in docs/PROOFS.md, "Documents (mk_tree)".
+-- Told in docs/PROOFS.md, "Reading a makefile".
 use Rattle.std.specs.Prelude.{◌≡◌, List, [], ◌∷◌, ◌++◌}
 use Rattle.mk_lines.specs.LogicalLines.{logical_lines, EndsWhereFollowed}
 use Rattle.mk_class.specs.Contexts.{Context, context_after}

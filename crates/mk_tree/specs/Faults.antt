@@ -1,5 +1,5 @@
 -- The faults that reading lines can answer.
--- Told in docs/PROOFS.md, "Documents (mk_tree)".
+-- Told in docs/PROOFS.md, "Reading a makefile".
 use Rattle.mk_lines.specs.declared.fault.Fault.{Fault}
 use Rattle.mk_lines.specs.declared.fault.Fault.TheVariants.{NoMemory, TooLong, TooDeep, BadDepth, Read, Write}
 

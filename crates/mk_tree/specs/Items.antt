@@ -1,5 +1,5 @@
 -- What lines read as: the items of a makefile. An edit changes its own items and keeps the others.
--- Told in docs/DEVELOPING.md, "Words".
+-- Told in docs/ARCHITECTURE.md, "Where things are".
 use Rattle.std.specs.Prelude.{ℕ, List, [], ◌∷◌, ◌++◌, drop, Option, Some, None}
 use Rattle.mk_lines.specs.Lists.{concat}
 use Rattle.mk_lines.specs.PhysicalLines.{without_line_end}

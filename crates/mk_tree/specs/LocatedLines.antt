@@ -1,6 +1,5 @@
 -- A line as a document shows it: its bytes, and its class with the offsets of its parts in the
 -- joined text.
--- Told in docs/DECISIONS.md, "mk_tree".
 use Rattle.std.specs.Prelude.{ℕ, ◌+◌, Bool, true, false, List, [], ◌∷◌, ◌++◌, length, map, Option, Some, None}
 use Rattle.mk_lines.specs.Cells.{joined_byte, joined_text, line_cells}
 use Rattle.mk_class.specs.Contexts.{Context}

@@ -1,5 +1,5 @@
 -- A text that goes out, except its end, which is held back.
--- Told in docs/PROOFS.md, "Call by call: what is proved, what is tested, what is neither".
+-- Told in docs/PROOFS.md, "Reading a makefile".
 use Rattle.std.specs.Prelude.{◌≡◌, ℕ, Bool, true, false, List, ◌++◌, Option, Result, OnOk, IfErr}
 use Rattle.std.specs.Io.KnownBytes.{Appends}
 use Rattle.mk_lines.specs.declared.fault.Fault.{Fault}

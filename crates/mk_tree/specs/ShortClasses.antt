@@ -1,5 +1,4 @@
 -- The class that a short class stands for, and which classes are not short.
--- Told in docs/DECISIONS.md, "mk_tree".
 use Rattle.std.specs.Prelude.{◌≡◌, ◌⊎◌, ℕ, ◌^◌, ◌≤◌, max, true, false, None, Some, ⊤}
 use Rattle.mk_class.specs.declared.assignment.Assignment as assignment
 use Rattle.mk_class.specs.declared.assignment.Flavor as flavor
