@@ -22,7 +22,7 @@
 #   make hostile    tries the program, as rt links it, with hostile texts of 16 MB, with memory that
 #                   ends and under valgrind, and measures it there; some minutes long
 #   make texts      makes the texts anew that several files share, after their source has changed:
-#                   what is said of refusals, the makefile of the manual pages, and what one has to
+#                   what is said of refusals and commands, the manual pages, and what one has to
 #                   believe (tools/texts)
 #   make dist       packs a release, mkedit-VERSION-x86_64-linux.tar.gz with its SHA-256 beside it, into
 #                   the folder $(DIST): the program, the manual pages, the completions, and what a user

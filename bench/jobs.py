@@ -5,6 +5,7 @@ import subprocess
 from pathlib import Path
 from typing import NamedTuple, Union
 
+from make_many import OF_COUNTED
 from shared import BENCH, DATA, cost, is_made, text_of
 
 OUT_OF_MKEDIT, OUT_BESIDE = DATA / "out-of-mkedit", DATA / "out-beside"
@@ -82,7 +83,7 @@ def many(kind, count, size):
     What it has to put out is what the plain program puts out, which has to be built.
     """
     commands = DATA / f"many-{kind.replace(' ', '-')}-{count}-{size}"
-    of_text = f"every-{count}" if kind.startswith("all ") else "pairs"
+    of_text = f"every-{count}" if kind.startswith("all ") else "counted" if kind in OF_COUNTED else "pairs"
     text, made_by = text_of(of_text, size), BENCH / "make_many.py"
     if not is_made(commands, text, made_by):
         subprocess.run([made_by, kind, str(count), text, commands], check=True)

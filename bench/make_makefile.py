@@ -9,6 +9,8 @@ settings  variables, comments and blank lines alone
 pairs     a variable, and a rule with a recipe, over and over: more than 10,000 of each in a megabyte.
           The object file that a rule makes is a target of this rule alone, and a prerequisite of some others
 every-N   `pairs` in which N variables, from all over it, have the name ALL and the flag -X first
+counted   10,000 variables ONE, a rule with 10,000 recipe lines, one with as many empty lines below it,
+          and then `pairs`
 blank     one variable and then empty lines
 line      one variable with one long value
 
@@ -51,7 +53,7 @@ REPEATED = {
 }
 # How many variables of a text have one name.
 EVERY = {f"every-{it}": it for it in (100, 1_000, 10_000)}
-KINDS = ("makefile", "settings", "pairs", *EVERY, "blank", "line", *REPEATED)
+KINDS = ("makefile", "settings", "pairs", *EVERY, "counted", "blank", "line", *REPEATED)
 COMMENT = "# How the {0} of {1} is built, and what {2} needs of it.\n"
 
 
@@ -154,6 +156,12 @@ class Writer:
         return self.pick([self.setting, self.setting, self.setting, self.comment, lambda: "\n"])()
 
 
+def counted_lines():
+    """Lines that an edit finds by their number, or that it goes over."""
+    variables, lines = (map(it.format, range(1, 10_001)) for it in ("ONE = -X{}\n", "\t@echo {}\n"))
+    return "".join([*variables, "long:\n", *lines, "gap:\n", "\n" * 10_000])
+
+
 def with_one_name(pieces, count):
     """A text of pairs in which so many variables have one name. Its last line, a comment, fills it up again."""
     text = b"".join(pieces)
@@ -179,15 +187,15 @@ def texts(kind, seed, size):
         yield unit * (size // len(unit))
         return
     writer = Writer(seed)
-    head = "CC = gcc\n"
+    head = "CC = gcc\n" + (counted_lines() if kind == "counted" else "")
     yield head.encode()
     left = size - len(head)
     if kind == "blank":
         yield b"\n" * left
         return
-    parts = {"makefile": writer.block, "settings": writer.settings, "pairs": writer.pair}
+    parts = {"makefile": writer.block, "settings": writer.settings}
     while True:
-        piece = parts[kind]().encode()
+        piece = parts.get(kind, writer.pair)().encode()
         if len(piece) >= left:
             break
         left -= len(piece)

@@ -7,7 +7,8 @@ KIND is the edit, with its place where it has one, or `mixture`. Each edit has a
 variable, or one rule, of each of so many equal parts of the makefile, in a random order. Each is
 accepted. With `all` before the edit the script is this one edit, which changes COUNT lines of a makefile of the
 kind `every-COUNT`. In the mixture eight of ten commands are edits of random kinds, and somewhere among them an
-`undo` and a `redo` follow each other. The same arguments give the same script.
+`undo` and a `redo` follow each other. The kinds of OF_COUNTED are for a makefile of the kind `counted`. The same
+arguments give the same script.
 """
 
 import random
@@ -41,6 +42,12 @@ OF_EVERY_LINE = {
     "all append": "all append ALL -DNEW",
     "all drop": "all drop ALL -X",
 }
+# Edits that count lines, each with a number from all over them.
+OF_COUNTED = {
+    "nth of one name": "nth {number} set ONE value",
+    "recipe-set of a high number": 'recipe-set long {number} "@echo value"',
+    "recipe over blank lines": 'recipe gap "@echo {number}"',
+}
 # How many edits stand in so many commands of a mixture.
 EDITS, TURN = 8, 10
 
@@ -71,6 +78,11 @@ class Script:
             command = self.pick([*COMMANDS.values()]) if kind == MIXTURE else COMMANDS[kind]
             yield command.format(**pair)
 
+    def counted(self, makefile, kind, count):
+        most = makefile.count("\nONE = ")
+        numbers = sorted(range(most // count, most + 1, most // count), key=lambda _: self.draw())
+        return [OF_COUNTED[kind].format(number=it) for it in numbers]
+
     def mixture(self, makefile, count):
         edits = [*self.edits(makefile, MIXTURE, count * EDITS // TURN)]
         for start in range(0, len(edits), EDITS):
@@ -84,9 +96,13 @@ def main():
     if kind in OF_EVERY_LINE:
         path.write_text(f"{OF_EVERY_LINE[kind]}\n", encoding="ascii")
         return
-    script = Script(count)
-    draw = script.mixture if kind == MIXTURE else lambda *given: script.edits(given[0], kind, given[1])
-    lines = draw(makefile.read_text(encoding="ascii"), count)
+    script, text = Script(count), makefile.read_text(encoding="ascii")
+    if kind in OF_COUNTED:
+        lines = script.counted(text, kind, count)
+    elif kind == MIXTURE:
+        lines = script.mixture(text, count)
+    else:
+        lines = script.edits(text, kind, count)
     path.write_text("".join(f"{it}\n" for it in lines), encoding="ascii")
 
 

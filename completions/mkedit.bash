@@ -5,7 +5,7 @@
 _mkedit_options() {
     case $1 in
         "") echo "-h --help -V --version" ;;
-        edit) echo "-k --keep-going -d --depth -o --output -i --in-place --backup --diff --color -e --expression --notes -h --help" ;;
+        edit) echo "-k --keep-going -d --depth -o --output -i --in-place --backup --diff --color --check --summary --force-text -e --expression --notes -h --help" ;;
         vars) echo "--name --json --notes -h --help" ;;
         rules | recipes) echo "--target --json --notes -h --help" ;;
         check | caveats) echo "--json --notes -h --help" ;;

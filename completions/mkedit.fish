@@ -43,6 +43,9 @@ complete -c mkedit -n '__fish_seen_subcommand_from edit' -s i -l in-place -d 'FI
 complete -c mkedit -n '__fish_seen_subcommand_from edit' -l backup -x -d 'With -i, keeps the old file under FILE with this suffix at its end'
 complete -c mkedit -n '__fish_seen_subcommand_from edit' -l diff -d 'Prints what would change, as a diff that patch takes, in place of the text'
 complete -c mkedit -n '__fish_seen_subcommand_from edit session; and not __fish_seen_subcommand_from help' -l color -x -a 'auto always never' -d 'Whether changes are shown in colours'
+complete -c mkedit -n '__fish_seen_subcommand_from edit' -l check -d 'Tries each command, reports each refusal, and writes no text; with --diff, a diff fails too'
+complete -c mkedit -n '__fish_seen_subcommand_from edit' -l summary -d 'Says at the end how many FILEs were changed'
+complete -c mkedit -n '__fish_seen_subcommand_from edit' -l force-text -d 'Edits several FILEs also where one of them is a script'
 complete -c mkedit -n '__fish_seen_subcommand_from edit' -s e -l expression -x -d 'A line of a script, in place of SCRIPT; several -e are its lines'
 
 complete -c mkedit -n '__fish_seen_subcommand_from session; and not __fish_seen_subcommand_from help' -l protocol -d 'Reply as to a program, also at a terminal'

@@ -58,11 +58,14 @@ _mkedit_edit() {
     _arguments -s \
         '(-k --keep-going)'{-k,--keep-going}'[go on after a refused command]' \
         '(-d --depth)'{-d+,--depth=}'[how many edits can be undone, from 1 to 10000]:depth: ' \
-        '(-o --output -i --in-place)'{-o+,--output=}'[where the text goes; it may be FILE, which is then named twice]:output:_files' \
-        '(-i --in-place -o --output --diff)'{-i,--in-place}'[the makefile gets the text]' \
+        '(-o --output -i --in-place --check)'{-o+,--output=}'[where the text goes; it may be FILE, which is then named twice]:output:_files' \
+        '(-i --in-place -o --output --diff --check)'{-i,--in-place}'[the makefile gets the text]' \
         '(-o --output)--backup=[with -i, keeps the old file under its name with this suffix at its end]:suffix: ' \
         '(-i --in-place)--diff[prints what would change, as a diff that patch takes, in place of the text]' \
         '--color=[whether changes are shown in colours]:when:(auto always never)' \
+        '(-i --in-place -o --output)--check[try each command, report each refusal, and write no text; with --diff, a diff fails too]' \
+        '(-o --output)--summary[say at the end how many makefiles were changed]' \
+        '--force-text[edit several files also where one of them is a script]' \
         '*'{-e+,--expression=}'[a line of a script, in place of the script]:command: ' \
         '--notes[say below a message or a refusal what its cause is]' \
         '(-h --help)'{-h,--help}'[print help]' \

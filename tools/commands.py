@@ -10,7 +10,7 @@ from pathlib import Path
 from typing import NamedTuple
 
 import mdoc
-from refusals import CONSTANT, ESCAPE, ESCAPED, cell, on_one_line, outdented
+from refusals import cell, on_one_line, outdented, texts_in
 
 TOP = Path(__file__).resolve().parent.parent
 TABLE = "crates/mk_script/src/table.rt"
@@ -66,8 +66,7 @@ def commands(top=TOP):
     """All commands, in the order of the table. A ValueError says what the sources have in another form."""
     forms = FORM.findall((top / TABLE).read_text(encoding="utf-8"))
     source = (top / TEXTS).read_text(encoding="utf-8")
-    texts = {name: ESCAPE.sub(lambda it: ESCAPED[it[1]], text) for name, text in CONSTANT.findall(source)}
-    rows = dict(ROW.findall(source))
+    texts, rows = texts_in(source), dict(ROW.findall(source))
     if sorted(texts) != sorted(rows.values()) or [*rows] != [it.split()[0] for it in forms]:
         raise ValueError(f"{TEXTS} has not one text for each command of {TABLE}")
     return [command_of(form, texts[rows[form.split()[0]]]) for form in forms]
@@ -91,10 +90,8 @@ def full_table(found):
 
 
 def items(found):
-    """The list of the manual page on scripts."""
-    yield ".Bl -tag -width Ds"
+    """The items of the manual page on scripts, by the words of the commands."""
     for it in found:
-        word, *fields = it.form.split()
-        yield f".It Cm {word}" + (f" Ar {' '.join(fields)}" if fields else "")
-        yield from mdoc.paragraph(it.does)
-    yield ".El"
+        fields = it.form[len(it.word) :]
+        item = mdoc.item(f"Cm {it.word}" + (f" Ar{fields}" if fields else ""), it.does)
+        yield it.word, [*item, *mdoc.display(it.makefile, it.script, it.after)]

@@ -4,16 +4,13 @@ import re
 import textwrap
 
 WIDTH = 80
-SPAN = re.compile(r"`([^`]+)`")
-# What is marked up in plain words: PLACE and FILE, which a user replaces, and the K-th and the N-th.
-REPLACED = re.compile(r"\b(?:(?P<field>PLACE|FILE)|(?P<nth>[KN])-th)\b")
-# A sentence ends where a blank and a capital follow, or a word between backticks.
+OPTION = r"-(?:\w|-[a-z]+)\b"
+# A word for which a user writes another: FILE, or the K of the K-th line.
+FIELD = r"(?!ASCII|CR|JSON|MB|NUL|UTF)(?:[A-Z]{2,}|[KN]\b)"
+# What is marked up, and what follows it without a blank.
+MARKED = re.compile(rf"(?<!\S)(?:`(?P<span>[^`]+)`|(?P<word>{OPTION}|{FIELD}))(?P<rest>\S*)")
+# A sentence ends where a blank and a capital follow, or what is marked up.
 END = re.compile(r"\. (?=[A-Z]|$)")
-PUNCTUATION = ".,:;"
-COMMANDS = (
-    "nth all set append add drop unset assign rule unrule depend depend-order undepend recipe recipe-set recipe-del "
-    "recipe-insert recipe-replace recipe-remove rename undo redo begin end cancel"
-).split()
 
 
 def escaped(word):
@@ -23,64 +20,48 @@ def escaped(word):
     return f"\\&{word}" if special else word
 
 
-def macros(span):
-    """The macros of the words between two backticks."""
-    words = span.split(" ")
-    if words[0] == "mkedit" and len(words) == 2:
-        return [".Nm mkedit", f".Cm {words[1]}"]
-    if span in COMMANDS:
-        return [f".Cm {span}"]
-    if re.fullmatch(r"-\w", span):
-        return [f".Fl {span[1:]}"]
-    name = ".Ql" if len(words) > 1 else ".Li"
-    return [" ".join([name, *map(escaped, words)])]
+def marked(found):
+    """The macro of what is marked up, with what follows it."""
+    word, rest = found["span"] or found["word"], found["rest"]
+    if re.fullmatch(OPTION, word):
+        line = f".Fl {word[1:]}"
+    elif re.fullmatch(FIELD, word):
+        line = f".Ar {word}"
+    elif re.fullmatch(r"[a-z]+(?:-[a-z]+)*", word):
+        line = f".Cm {word}"
+    else:
+        line = " ".join([".Ql", *map(escaped, word.split(" "))])
+    # (a macro puts a blank before what follows, but not before punctuation)
+    return " ".join([line, *(rest if not rest.strip(".,:;") else ["Ns", rest])])
 
 
 def plain(text):
     """The lines of plain words, without the blanks around them."""
-    lines = []
-    for sentence in text.strip().splitlines():
+    for sentence in END.sub(".\n", text.replace("\\", "\\e")).strip().splitlines():
         for line in textwrap.wrap(sentence.strip(), WIDTH, break_on_hyphens=False, break_long_words=False):
-            lines.append(f"\\&{line}" if line[0] in ".'" else line)
-    return lines
-
-
-def pieces(text):
-    """The parts of a text in their order: plain words as they are, and macros as lists of lines."""
-    for number, part in enumerate(SPAN.split(text)):
-        if number % 2:
-            yield macros(part)
-            continue
-        at = 0
-        part = END.sub(".\n", part)
-        for it in REPLACED.finditer(part):
-            yield part[at : it.start()]
-            yield [f".Ar {it['field']}" if it["field"] else f".Ar {it['nth']} Ns -th"]
-            at = it.end()
-        yield part[at:]
+            yield f"\\&{line}" if line[0] in ".'" else line
 
 
 def paragraph(text):
     """The lines of a text. A ValueError says that it has a form that is not known here."""
-    lines, is_macro = [], False
-    for piece in pieces(text):
-        if isinstance(piece, list):
-            lines += piece
-            is_macro = True
-            continue
-        if is_macro and piece and piece[0] in PUNCTUATION:
-            # (a macro puts what follows it behind a blank, unless it has it as a word of its own)
-            lines[-1] += f" {piece[0]}"
-            piece = piece[1:]
-        if is_macro and piece and not piece[0].isspace():
-            raise ValueError(f"no blank stands before {piece!r}")
-        lines += plain(piece)
-        is_macro = is_macro and not piece.strip()
+    lines, at = [], 0
+    for it in MARKED.finditer(text):
+        lines += [*plain(text[at : it.start()]), marked(it)]
+        at = it.end()
+    lines += plain(text[at:])
+    if "`" in "".join(lines):
+        raise ValueError(f"a backtick without a blank before it: {text}")
     return lines
 
 
-def display(text):
-    """A literal display."""
-    shown = text.replace("\\", "\\e").rstrip("\n").split("\n")
+def item(head, *texts):
+    """An item of a list, with a paragraph for each text."""
+    lines = [it for text in texts for it in (".Pp", *paragraph(text))]
+    return [f".It {head}", *lines[1:]]
+
+
+def display(*texts):
+    """A literal display of those texts that are not empty, with an empty line between them."""
+    shown = "\n".join(filter(None, texts)).replace("\\", "\\e").rstrip("\n").split("\n")
     lines = [f"\\&{it}" if it.startswith((".", "'")) else it for it in shown]
     return [".Bd -literal -offset indent", *lines, ".Ed"]

@@ -61,6 +61,11 @@ def outdented(block):
     return re.sub(r"^ {4}", "", block, flags=re.M) + "\n" if block else ""
 
 
+def texts_in(source):
+    """The text of each constant of a source, by its name."""
+    return {name: ESCAPE.sub(lambda it: ESCAPED[it[1]], text) for name, text in CONSTANT.findall(source)}
+
+
 def refusal_of(number, name, detail, text):
     """The refusal that a text is about. A ValueError says that the text has another form."""
     parts = PARTS.fullmatch(text)
@@ -78,8 +83,7 @@ def refusal_of(number, name, detail, text):
 def refusals(top=TOP):
     """All refusals, by their numbers. A ValueError says what the sources have in another form."""
     source, numbers = ((top / it).read_text(encoding="utf-8") for it in (TEXTS, NUMBERS))
-    texts = {name: ESCAPE.sub(lambda it: ESCAPED[it[1]], text) for name, text in CONSTANT.findall(source)}
-    chosen, details = dict(CHOICE.findall(source)), dict(DETAIL.findall(numbers))
+    texts, chosen, details = texts_in(source), dict(CHOICE.findall(source)), dict(DETAIL.findall(numbers))
     numbered = {name: int(number) for name, number in NUMBER.findall(numbers)}
     if {*numbered} != {*chosen} or sorted(texts) != sorted(chosen.values()):
         raise ValueError(f"{TEXTS} and {NUMBERS} have not the same refusals")
@@ -111,12 +115,10 @@ def items(found):
     """The list of the manual page on scripts."""
     yield ".Bl -tag -width Ds"
     for it in found:
-        yield f".It {it.number} {it.name}" + (f" Ar {it.detail}" if it.detail else "")
-        yield from mdoc.paragraph(it.cause)
+        yield from mdoc.item(f"{it.number} {it.name}" + (f" Ar {it.detail}" if it.detail else ""), it.cause)
         if it.words:
             yield from mdoc.paragraph(f"For example, {it.words}")
         else:
-            yield from mdoc.display("\n".join(part for part in (it.makefile, it.script, it.report) if part))
-            yield ".Pp"
+            yield from (*mdoc.display(it.makefile, it.script, it.report), ".Pp")
         yield from mdoc.paragraph(it.advice)
     yield ".El"

@@ -23,6 +23,11 @@ pub fn obey(document: &mut Document, command: &Command<'_>) -> Option<()> {
             }
             lines.first()?;
         }
+        [b"nth", number, kind, name, text] => {
+            // (the table has the last line first)
+            let lines: Vec<u32> = variables(document, name).collect();
+            change(document, *lines.iter().rev().nth(index_of(number)?)?, kind, text)?;
+        }
         [b"unset", name] => document.take_out(variable(document, name)?),
         [b"assign", ref place @ .., name, operator, value] => {
             let gap: &[u8] = if value.is_empty() { b"" } else { b" " };
@@ -170,19 +175,23 @@ fn recipe(document: &Document, header: u32) -> impl Iterator<Item = u32> {
     })
 }
 
+/// The index of what a number counts from 1.
+fn index_of(number: &[u8]) -> Option<usize> {
+    str::from_utf8(number).ok()?.parse::<usize>().ok()?.checked_sub(1)
+}
+
 fn recipe_line(document: &Document, target: &[u8], number: &[u8]) -> Option<u32> {
-    let number: usize = str::from_utf8(number).ok()?.parse().ok()?;
-    recipe(document, rule(document, target)?).nth(number.checked_sub(1)?)
+    recipe(document, rule(document, target)?).nth(index_of(number)?)
 }
 
 /// The line of a rule below which a new recipe line gets a number.
 fn place_in_recipe(document: &Document, target: &[u8], number: &[u8]) -> Option<u32> {
-    let number: usize = str::from_utf8(number).ok()?.parse().ok()?;
+    let index = index_of(number)?;
     let header = rule(document, target)?;
     let lines: Vec<u32> = recipe(document, header).collect();
-    match lines.get(number.checked_sub(1)?) {
+    match lines.get(index) {
         Some(line) => Some(document.before(*line)),
-        None if number == lines.len() + 1 => Some(*lines.last().unwrap_or(&header)),
+        None if index == lines.len() => Some(*lines.last().unwrap_or(&header)),
         None => None,
     }
 }

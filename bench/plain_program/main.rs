@@ -4,7 +4,7 @@
 //!
 //! It cuts the text into a linked list of lines and notes in tables under which names they stand; then
 //! each edit looks its lines up there. It does the twelve edits, `undo` and `redo` as mkedit does over
-//! the texts of bench/many, promises nothing, and leaves this out:
+//! the texts of bench/many, and `nth` before edits of a value; it promises nothing, and leaves this out:
 //!
 //!     most causes of refusal    it ends where a line is not there, or is there twice, and tests no field
 //!     contexts                  a line that begins with a tab is a recipe line, and each other line
@@ -13,7 +13,7 @@
 //!     assignments for targets, static patterns, inline recipes, rough lines
 //!                               it reads such a line as a rule with other words
 //!     a CR or a NUL, a last line without line end, an empty value in `set`
-//!     `nth`, groups, and a depth: it can undo every edit
+//!     `nth` before other edits, groups, and a depth: it can undo every edit
 
 #[allow(dead_code, reason = "numbers are not written here")]
 mod bytes;

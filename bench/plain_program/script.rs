@@ -17,7 +17,7 @@ pub fn wanted(commands: &[(usize, Command<'_>)]) -> Wanted {
     let mut wanted = Wanted::default();
     for (_, command) in commands {
         match &command[0][..] {
-            b"set" | b"append" | b"drop" | b"all" | b"unset" => wanted.variables = true,
+            b"set" | b"append" | b"drop" | b"all" | b"nth" | b"unset" => wanted.variables = true,
             b"assign" | b"rule" if command[1].ends_with(b"-var") => wanted.variables = true,
             b"assign" | b"rule" if &command[1][..] == b"bottom" => {}
             b"rename" => wanted.words = true,

@@ -59,11 +59,6 @@ class Declaration(NamedTuple):
     lines: set
 
 
-def lines_of(tokens):
-    """The numbers of the lines that have these words."""
-    return {token.line for token in tokens}
-
-
 def tokens_of(text):
     """The words of a text, without blanks and comments."""
     found, line, start, spaced = [], 1, 0, True
@@ -174,7 +169,7 @@ class File:
 
     def add(self, own, kind, marks, item, parameters, statement, body):
         """Adds a declaration."""
-        line, lines = item[len(marks)].line, lines_of(item)
+        line, lines = item[len(marks)].line, {token.line for token in item}
         self.declarations.append(Declaration(own, kind, "pub" in marks, line, parameters, statement, body, lines))
 
     def add_type(self, head, marks, item, rest, parameters):
@@ -197,7 +192,7 @@ class File:
         else:
             self.declarations[-1].body.append("\n")
             self.declarations[-1].body.extend(words_of(item))
-            self.declarations[-1].lines.update(lines_of(item))
+            self.declarations[-1].lines.update(token.line for token in item)
 
 
 def is_rows_name(name):

@@ -48,15 +48,10 @@ class Names:
         return None if found is None or isinstance(found, str) else (found, fields)
 
 
-def is_field(before, after):
-    """Whether a word between two others names a field: of a record that is declared, or of one that is made."""
-    return (before == "pub" and after == ":") or (before in ("{", ";") and after == "=")
-
-
 def cited_words(words):
-    """The words that may name a declaration: all but the names of fields."""
+    """The words that may name a declaration: all but the names of fields, of a record that is declared or made."""
     for before, word, after in zip(["", *words], words, [*words[1:], ""]):
-        if not is_field(before, after):
+        if not (before == "pub" and after == ":" or before in ("{", ";") and after == "="):
             yield word
 
 

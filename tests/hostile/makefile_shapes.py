@@ -4,6 +4,7 @@ from .scenes import BLOCK_LINES, Shape, scene_of
 
 # Where 16,000,000 bytes have 200,000 targets, each with the blank after it has so many bytes.
 TARGET = 80
+RECIPE_LINE = b"\techo 123456789\n"
 OPAQUE, ROUGH = b"opaque", b"rough"
 
 
@@ -145,6 +146,20 @@ def nested_words(size):
     return Shape("nested words", [*longer, (b": b\n", 1), *word, (b": c\n", 1)], said, edits)
 
 
+def one_name(size):
+    """Assignments of one name, which has a number for each."""
+    count = size // 6
+
+    def assignment(at):
+        return b"%d:0: A = 1\n" % (at + 1)
+
+    edits = (
+        ("set the last", b"nth %d set A 2" % count, [(b"A = 1\n", count - 1), (b"A = 2\n", 1)]),
+        ("set all", b"all set A 2", [(b"A = 2\n", count)]),
+    )
+    return Shape("one name in every line", [(b"A = 1\n", count)], {"vars": [(assignment, count)]}, edits)
+
+
 def renamed_lines(size):
     """Lines that each have a word to be renamed."""
     count = size // 5
@@ -168,23 +183,48 @@ def rules(size):
     return Shape("rules", [(b"a:\n", count)], {"rules": [(rule, count)]}, edits)
 
 
+def blank_tail(size):
+    """A rule with blank lines below it, over which its recipe could go on."""
+    tail = [(b"\n", size)]
+    longer = [(b"many:\n\tnew\n", 1), *tail]
+    edits = (
+        ("recipe", b"recipe many new", longer),
+        ("recipe-insert", b"recipe-insert many 1 new", longer),
+        ("rename", b"rename many new", [(b"new:\n", 1), *tail]),
+        ("unrule", b"unrule many", tail),
+    )
+    return Shape("empty lines below a rule", [(b"many:\n", 1), *tail], {"rules": [(b"1:0: many: [0]\n", 1)]}, edits)
+
+
+def recipe(at):
+    """What `recipes` says of a recipe line of the first rule."""
+    return b"%d:0: [%d] echo 123456789\n" % (at + 2, at + 1)
+
+
+def targets_of_recipe_lines(size):
+    """One rule with many targets and many recipe lines."""
+    count = size // 2 // len(RECIPE_LINE)
+    head = [(target, size // 2 // TARGET), (b"many:", 1)]
+    said = {
+        "rules": [(b"1:0: ", 1), *head, (b" [%d]\n" % count, 1)],
+        "recipes": [(b"1:0: ", 1), *head, (b"\n", 1), (recipe, count)],
+    }
+    return Shape("targets of recipe lines", [*head, (b"\n", 1), (RECIPE_LINE, count)], said)
+
+
 def recipe_lines(size):
     """One rule whose recipe has 1,000,000 lines where the size is 16,000,000."""
-    line = b"\techo 123456789\n"
-    count = size // len(line)
+    line, count = RECIPE_LINE, size // len(RECIPE_LINE)
     part = [(b"many:\n", 1), (line, count)]
     without = [(b"many:\n", 1), (line, count - 1)]
     edits = (
         ("recipe", b"recipe many new", [*part, (b"\tnew\n", 1)]),
         ("recipe-set", b"recipe-set many %d new" % count, [*without, (b"\tnew\n", 1)]),
         ("recipe-del", b"recipe-del many %d" % count, without),
+        ("recipe-insert", b"recipe-insert many 1 new", [(b"many:\n\tnew\n", 1), (line, count)]),
         ("unrule", b"unrule many", []),
         ("rename", b"rename many new", [(b"new:\n", 1), (line, count)]),
     )
-
-    def recipe(at):
-        return b"%d:0: [%d] echo 123456789\n" % (at + 2, at + 1)
-
     said = {"rules": [(b"1:0: many: [%d]\n" % count, 1)], "recipes": [(b"1:0: many:\n", 1), (recipe, count)]}
     return Shape("recipe lines", part, said, edits)
 
@@ -281,8 +321,11 @@ SHAPES = (
     prerequisites,
     one_word,
     nested_words,
+    one_name,
     renamed_lines,
     rules,
+    blank_tail,
+    targets_of_recipe_lines,
     recipe_lines,
     one_recipe_line,
     inline_recipe,

@@ -1,6 +1,6 @@
 """The lines of JSON of a makefile, by the reading of it in Python and by Python's `json`.
 
-Told in docs/LIBRARY.md, "Lines of JSON". It shares no line with the program.
+Told in docs/EDITS.md, "Lines of JSON". It shares no line with the program.
 """
 
 import base64

@@ -8,6 +8,7 @@ import unittest
 from pathlib import Path
 
 from tests.lib.checks import Outcome, Program, brief, differences, program_at, usual_path
+from tests.lib.notes import reported
 
 TEXT = b"CC = gcc # c\n"
 # A makefile with a line for each query, and what they print.
@@ -133,10 +134,15 @@ class RoomCase(unittest.TestCase):
         """Every name in the room's folder."""
         return sorted(os.listdir(self.room.folder))
 
-    def assert_run(self, wanted, *words, **how):
-        """Runs the program, whose outcome has to be the wanted one."""
-        found = differences(self.room.run(*words, **how), wanted)
-        self.assert_well(f"of {words} {it}" for it in found)
+    def assert_run(self, wanted, *words, noted=None, **how):
+        """Runs the program, whose outcome has to be the wanted one.
+
+        noted: the name of the script, where a run has notes and a report's lines are wanted for its sentences.
+        """
+        got = self.room.run(*words, **how)
+        if noted:
+            got = got._replace(stderr=reported(got.stderr, noted))
+        self.assert_well(f"of {words} {it}" for it in differences(got, wanted))
 
     def assert_bad_command_line(self, *words):
         """Runs the program with words that it has to refuse: a message, and nothing more."""

@@ -3,6 +3,7 @@
 import os
 import signal
 import subprocess
+from collections import Counter
 
 from tests.lib.checks import SECONDS, Outcome
 from tests.lib.rooms import EDITED, READ_FAULT, REFUSED, TEXT, WRITE_FAULT, RoomCase, cannot_open, silent
@@ -23,12 +24,13 @@ class Backups(RoomCase):
         ran = subprocess.run(words, cwd=self.room.folder, capture_output=True, timeout=SECONDS)
         return Outcome(ran.stdout, ran.stderr, ran.returncode)
 
-    def calls(self):
-        """How often the edit makes each of its calls."""
-        self.traced("-o", "calls")
+    def calls(self, *options):
+        """The calls of the edit, which has to be done."""
+        self.assertEqual(self.traced("-o", "calls", *options), silent(0))
         lines = (self.room.folder / "calls").read_text().splitlines()
-        found = [line.split("(")[0].split()[-1] for line in lines if "(" in line][1:]
-        return {name: found.count(name) for name in found}
+        (self.room.folder / "calls").unlink()
+        # strace makes the first call, which starts the program
+        return [line.split("(")[0].split()[-1] for line in lines if "(" in line][1:]
 
     def test_the_old_file_is_kept_beside_the_new_one(self):
         there = self.names()
@@ -123,19 +125,17 @@ class Backups(RoomCase):
 
     def test_where_a_file_gets_no_second_name_a_copy_is_kept(self):
         there = self.names()
-        self.assertIn("link", self.calls())
-        (self.room.folder / "calls").unlink()
-        (self.room.folder / "Makefile~").unlink()
         self.room.write("Makefile", TEXT + b"# more\n" * 10_000, mode=0o640)
-        got = self.traced("-o", "/dev/null", "-e", "inject=link:error=EPERM")
-        self.assertEqual(got, silent(0))
+        options = ("-e", "trace=execve,link,fsync,rename", "-e", "inject=link:error=EPERM")
+        # the copy is on the disk before it has its name, and last of all the folder
+        self.assertEqual(self.calls(*options), ["fsync", "link", "fsync", "rename", "rename", "fsync"])
         self.assert_holds("Makefile", EDITED.stdout + b"# more\n" * 10_000)
         self.assert_holds("Makefile~", TEXT + b"# more\n" * 10_000)
         self.assertEqual(oct(self.stat("Makefile~").st_mode & 0o7777), oct(0o640))
         self.assertEqual(self.names(), sorted([*there, "Makefile~"]))
 
     def test_a_process_that_ends_before_any_of_its_calls_leaves_the_file_whole(self):
-        for name, many in self.calls().items():
+        for name, many in Counter(self.calls()).items():
             for count in range(1, many + 1):
                 # (the two may be names of one file)
                 for it in ("Makefile", "Makefile~"):

@@ -1,6 +1,7 @@
 """Tests of what the command line does, its help, and the example that `make demo` runs.
 
-test_options.py has what each word asks for, or how it is refused.
+test_options.py has what each word asks for, or how it is refused. tests/cases/help.txt has what help prints, as a
+shell session.
 """
 
 import os
@@ -11,32 +12,25 @@ from tests import TOP
 from tests.lib.checks import SECONDS, Outcome, differences
 from tests.lib.rooms import ANSWERS, EDITED, REFUSED, TEXT, WRITE_FAULT, RoomCase, silent
 from tests.lib.tables import OPTIONS
+from tests.lib.transcripts import STEP, Shell
 
-COMMANDS = ("edit", *ANSWERS, "explain")
+HELP = (TOP / "tests/cases/help.txt").read_text(encoding="utf-8")
+COMMANDS = re.findall(r"^\$ mkedit help (\w+)$", HELP, re.M)
 
 
 class CommandLine(RoomCase):
-    def assert_help(self, *words, shows=()):
-        """Runs what has to give help: on standard output alone, with an example, and status 0."""
-        got = self.room.run(*words)
-        shown = got.stdout.decode(errors="replace")
-        for it in ("Usage", "Example", "mkedit", *shows):
-            self.assertIn(it, shown)
-        self.assert_well(differences(got._replace(stdout=b""), silent(0)))
+    def test_help_is_what_is_stored(self):
+        with Shell(self.program, self.room.folder) as shell:
+            for command, wanted in STEP.findall(HELP):
+                self.assertEqual(shell.run(command).decode().split("\n"), wanted.split("\n"), command)
+        self.assertEqual(re.findall(r"^  (\w+) {2}", HELP, re.M), [*COMMANDS, "help"])
 
-    def test_help_has_an_example(self):
-        self.assert_help("--help", shows=[f"\n  {it} " for it in COMMANDS])
-
-    def test_help_of_each_command_has_an_example(self):
-        for command in COMMANDS:
-            for words in ([command, "--help"], [command, "-h"], ["help", command]):
-                self.assert_help(*words, shows=[f"mkedit {command} "])
-
-    def test_help_of_edit_names_its_options(self):
-        options = ("-k, --keep-going", "-d, --depth <DEPTH>", "-o, --output <OUT>")
-        options += ("-e, --expression <COMMAND>", "mkedit edit [OPTIONS] -e COMMAND [-e COMMAND ...] [FILE]")
-        options += ("-i, --in-place", "--diff", "--color <WHEN>", "mkedit explain 4")
-        self.assert_help("edit", "--help", shows=options)
+    def test_help_may_be_asked_for_by_other_words(self):
+        for command in ([], *([it] for it in COMMANDS)):
+            wanted = self.room.run("help", *command)
+            self.assertEqual((wanted.stderr, wanted.status), (b"", 0), command)
+            for word in ("--help", "-h"):
+                self.assert_run(wanted, *command, word)
 
     def test_the_version_is_the_one_of_the_list_of_changes(self):
         changes = (TOP / "CHANGELOG.md").read_text(encoding="utf-8")
@@ -55,7 +49,7 @@ class CommandLine(RoomCase):
                 self.assert_run(WRITE_FAULT, *words, stdout=full)
 
     def test_help_comes_before_what_is_missing(self):
-        self.assert_help("edit", "--help", "absent")
+        self.assert_run(self.room.run("help", "edit"), "edit", "--help", "absent")
 
     def test_an_option_beside_a_query_that_does_not_take_it_is_told_with_the_query(self):
         for query in ANSWERS:

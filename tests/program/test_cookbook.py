@@ -1,11 +1,13 @@
 """The tasks of docs/COOKBOOK.md, run as they stand there.
 
-A task is a title of the second level with fenced blocks below it. A block ```make NAME,
-```mkedit NAME or ```python NAME is a file, and ```console a shell session. The blocks of a task are done in their order
-in a folder of its own. Each refusal that a task names has to be one of docs/EDITS.md.
+A task is a title of the second level with fenced blocks below it. A block ```KIND NAME is a file of one of KINDS, and
+```console a shell session. The blocks of a task are done in their order in a folder of its own. Each refusal that a
+task names has to be one of docs/EDITS.md. The list at the top of the page leads to each task.
 """
 
+import os
 import re
+from unittest import mock
 
 from tests.lib.checks import differences
 from tests.lib.documents import DOCS, told_refusals
@@ -15,16 +17,18 @@ from tests.lib.transcripts import Shell
 TASK = re.compile(r"^## (.*)\n((?:(?!## ).*\n)*)", re.M)
 BLOCK = re.compile(r"^```(.*)\n((?:(?!```).*\n)*)```\n", re.M)
 REFUSAL = re.compile(r"`(\d+) (\w+)[^`]*`")
-TASKS = 20
+LINK = re.compile(r"\[([^]]+)\]\(#([^)]+)\)")
+KINDS = ("make", "mkedit", "python", "sh", "diff")
 # The tasks whose script changes nothing when it is run over its own result.
 TWICE = (
-    "Add a flag unless it is there",
-    "Take a flag out of a value",
-    "Change the recipe line that says a command",
-    "Set or add",
-    "A script that can be run twice",
-    "A rule that is put in, or whose recipe is emptied",
-    "Change a variable in every branch",
+    "Add hardening flags",
+    "Remove -Werror",
+    "Set a variable or add it",
+    "Change a variable that several lines assign",
+    "Make install honour DESTDIR",
+    "Remove a prerequisite",
+    "Replace a whole rule",
+    "Write a script that can be run twice",
 )
 
 
@@ -45,7 +49,7 @@ def check_task(program, text):
             if kind == "console":
                 sessions += 1
                 yield from shell.differs(content)
-            elif kind in ("make", "mkedit", "python") and name:
+            elif kind in KINDS and name:
                 write_file(room, name, content)
             else:
                 yield f"a block is neither a file nor a session: {head}"
@@ -79,17 +83,26 @@ def unknown_refusals(text):
 
 
 class Cookbook(RoomCase):
+    def setUp(self):
+        super().setUp()
+        self.page = (DOCS / "COOKBOOK.md").read_text(encoding="utf-8")
+        self.tasks = dict(TASK.findall(self.page))
+
     def test_scripts_that_can_be_run_twice(self):
-        tasks = dict(TASK.findall((DOCS / "COOKBOOK.md").read_text(encoding="utf-8")))
         for title in TWICE:
             with self.subTest(f"docs/COOKBOOK.md: {title}, twice"):
-                self.assert_well(check_twice(self.program, tasks[title]))
+                self.assert_well(check_twice(self.program, self.tasks[title]))
 
     def test_each_task_is_done_as_it_stands_there(self):
-        tasks = TASK.findall((DOCS / "COOKBOOK.md").read_text(encoding="utf-8"))
-        for title, text in tasks:
-            with self.subTest(f"docs/COOKBOOK.md: {title}"):
+        # (test_guide imports this module)
+        from tests.program.test_guide import PYTHON
+
+        for title, text in self.tasks.items():
+            with self.subTest(f"docs/COOKBOOK.md: {title}"), mock.patch.dict(os.environ, PYTHON):
                 self.assert_well(check_task(self.program, text))
                 self.assert_well(unknown_refusals(text))
-        with self.subTest("docs/COOKBOOK.md: tasks"):
-            self.assertGreaterEqual(len(tasks), TASKS)
+
+    def test_the_list_at_the_top_leads_to_each_task(self):
+        links = [(" ".join(title.split()), anchor) for title, anchor in LINK.findall(self.page.partition("\n## ")[0])]
+        titles = [*self.tasks]
+        self.assertEqual(links, [(it, re.sub(r"[^\w -]", "", it.lower()).replace(" ", "-")) for it in titles])

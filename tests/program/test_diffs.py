@@ -43,6 +43,13 @@ class Diffs(RoomCase):
         self.assert_run(silent(0), "edit", "--diff", "empty", "Makefile")
         self.assert_run(silent(0), "edit", "--diff", "-e", "set CC clang", "-e", "undo", "Makefile")
 
+    def test_lines_that_another_line_passes_stay(self):
+        stays = [b"B = 1\n", b"C = 1\n", b"D = 1\n"]
+        self.room.write("moved", b"".join([b"A = 1\n", b"X = 1\n", *stays]))
+        lines = [b"-A = 1\n", b"-X = 1\n", b"+X = 2\n", *(b" " + it for it in stays), b"+A = 1\n"]
+        got = self.room.run("edit", "--diff", "-e", "unset A\nset X 2\nassign bottom A = 1", "moved")
+        self.assertEqual(got.stdout.splitlines(True)[3:], lines)
+
     def test_a_refused_command_is_reported_and_there_is_no_diff(self):
         self.assert_run(REFUSED, "edit", "--diff", "undo", "Makefile")
         self.room.write("both", b"set CC clang\nunset X\n")
@@ -55,6 +62,8 @@ class Diffs(RoomCase):
         self.assert_holds("out", DIFF)
         self.room.write("kept", b"kept")
         self.assert_run(REFUSED, "edit", "--diff", "-o", "kept", "undo", "Makefile")
+        self.assertEqual(self.shown_at_a_terminal(("-o", "out"), {}), b"")
+        self.assert_holds("out", DIFF)
 
     def shown_at_a_terminal(self, words, variables):
         """What a run with `--diff` writes whose output is a terminal, with these variables in its environment."""
@@ -117,28 +126,31 @@ class Diffs(RoomCase):
         self.assertEqual(got.stdout, DIFF.replace(b"a/Makefile", b"a/-").replace(b"b/Makefile", b"b/-"))
 
     def test_names_are_as_patch_and_git_read_them(self):
-        for name in ("a b", "a\tb", 'a"b', "a\\b", "a'b", "ä", "a  b c"):
+        for name in ("a b", "a\tb", "a\nb", "a\x1b[2J", "a\x7f", 'a"b', "a\\b", "a'b", "ä", "a  b c"):
             self.room.write(name, TEXT)
             got = self.room.run("edit", "--diff", "script", name)
             with self.subTest(name):
                 self.assertEqual((got.stderr, got.status), (b"", 0))
+                self.assertNotRegex(got.stdout, rb"[\x00-\x08\x0b-\x1f\x7f]")
                 self.assert_well(wrong_ways(got.stdout, TEXT, EDITED.stdout, name))
 
-    def test_a_name_has_no_path_to_the_top(self):
-        (self.room.folder / "below").mkdir()
-        self.room.write("below/Makefile", TEXT)
-        wanted = DIFF.replace(b"Makefile", b"below/Makefile")
-        self.assert_run(Outcome(wanted, b"", 0), "edit", "--diff", "script", "./below/Makefile")
-        got = self.room.run("edit", "--diff", "script", str(self.room.folder / "below/Makefile"))
-        self.assertTrue(got.stdout.startswith(b"--- a" + bytes(self.room.folder) + b"/below/Makefile\n"))
-
-    def test_a_name_that_goes_up_leads_down_from_where_it_went(self):
-        (self.room.folder / "lib/deep").mkdir(parents=True)
-        for name in ("lib/../Makefile", "lib/deep/../../Makefile", "./lib/.././Makefile"):
+    def test_a_name_leads_down_from_the_top_or_from_where_it_last_went_up(self):
+        top = self.room.folder
+        (top / "lib/deep").mkdir(parents=True)
+        self.room.write("lib/Makefile", TEXT)
+        for name, told in (
+            ("./lib/Makefile", "lib/Makefile"),
+            ("lib/../Makefile", "Makefile"),
+            ("lib/deep/../../Makefile", "Makefile"),
+            ("./lib/.././Makefile", "Makefile"),
+            (f"../{top.name}/Makefile", f"{top.name}/Makefile"),
+            (f"{top}/Makefile", f"{top}/Makefile"[1:]),
+            (f"{top}/lib/../Makefile", "Makefile"),
+        ):
             got = self.room.run("edit", "--diff", "script", name)
             with self.subTest(name):
-                self.assertEqual(got.stdout, DIFF)
-                self.assert_well(wrong_ways(got.stdout, TEXT, EDITED.stdout))
+                self.assertEqual(got, Outcome(DIFF.replace(b"Makefile", told.encode()), b"", 0))
+                self.assert_well(wrong_ways(got.stdout, TEXT, EDITED.stdout, told))
 
     def test_the_examples(self):
         for folder in sorted(it for it in EXAMPLES.iterdir() if it.is_dir()):

@@ -21,9 +21,9 @@ all:
 \tCC = x
 """
 # What is said of the lines below it.
-AGAIN = "-e:1: note: {} is assigned again below, and make may take that value"
-OTHERWISE = "-e:1: note: {} is assigned in another branch too, and make may take that value"
-DEFAULT = "-e:1: note: make takes this value only where {} has none"
+AGAIN = "-e 1: note: {} is assigned again below, and make may take that value"
+OTHERWISE = "-e 1: note: {} is assigned in another branch too, and make may take that value"
+DEFAULT = "-e 1: note: make takes this value only where {} has none"
 # A command, and the lines of notes on it.
 CASES = (
     # a variable that is assigned again below
@@ -188,7 +188,7 @@ last &: i
 \tj
 """
 # What is said of the lines of rules below it.
-ELSEWHERE = "-e:1: note: {} has a recipe in another rule"
+ELSEWHERE = "-e 1: note: {} has a recipe in another rule"
 # A command on a rule, and the lines of notes on it.
 RULE_CASES = (
     # a new rule; a rule has a recipe in its own line too, and in each branch of a conditional
@@ -322,7 +322,7 @@ class EditNotes(RoomCase):
             self.room.write("config.mk", makefile)
             line = 1 + command.count("\n")
             notes = said(
-                f"-e:{line}: note: A is assigned again below, and make may take that value",
+                f"-e {line}: note: A is assigned again below, and make may take that value",
                 "config.mk:2: note: A = 2",
             )
             words = ("edit", "--notes", "-e", command, "config.mk")
@@ -332,29 +332,30 @@ class EditNotes(RoomCase):
     def test_a_refused_edit_has_its_own_notes_alone(self):
         self.room.write("config.mk", b"A ?= 1\n")
         notes = said("1: refused 6 Absent", "config.mk:1: note: A ?= 1")
-        self.assert_run(Outcome(b"", notes, 1), "edit", "--notes", "-e", "drop A x", "config.mk")
+        words = ("edit", "--notes", "-e", "drop A x", "config.mk")
+        self.assert_run(Outcome(b"", notes, 1), *words, noted="-e")
 
     def test_notes_of_several_makefiles(self):
         self.room.write("one", b"A = 1\nA = 2\n")
         self.room.write("two", b"A ?= 1\n")
         notes = said(
-            "-e:1: note: A is assigned again below, and make may take that value",
+            "-e 1: note: A is assigned again below, and make may take that value",
             "one:2: note: A = 2",
-            "one:2: refused 5 Ambiguous 2",
+            "2: refused 5 Ambiguous 2",
             "one:1: note: A = 3",
             "one:2: note: A = 2",
-            "-e:2: note: `nth 1`, `nth 2` or `all` before the command says which",
-            "-e:3: note: A is assigned again below, and make may take that value",
+            "-e 2: note: `nth 1`, `nth 2` or `all` before the command says which",
+            "-e 3: note: A is assigned again below, and make may take that value",
             "one:2: note: A = 2",
-            "-e:1: note: make takes this value only where A has none",
+            "-e 1: note: make takes this value only where A has none",
             "two:1: note: A ?= 3",
-            "-e:2: note: make takes this value only where A has none",
+            "-e 2: note: make takes this value only where A has none",
             "two:1: note: A ?= 4",
-            "-e:3: note: make takes this value only where A has none",
+            "-e 3: note: make takes this value only where A has none",
             "two:1: note: A ?= 5",
         )
         edits = ("-e", "nth 1 set A 3", "-e", "set A 4", "-e", "nth 1 set A 5")
         words = ("edit", "-k", "-i", "--notes", *edits, "one", "two")
-        self.assert_run(Outcome(b"", notes, 1), *words)
+        self.assert_run(Outcome(b"", notes, 1), *words, noted="-e")
         self.assert_holds("one", b"A = 5\nA = 2\n")
         self.assert_holds("two", b"A ?= 5\n")

@@ -4,6 +4,7 @@ import os
 import random
 import re
 import signal
+import struct
 import subprocess
 import time
 
@@ -14,6 +15,10 @@ WORDS = ("edit", "-i", "script", "Makefile")
 CALL = re.compile(r"^(?:\d+ +)?(\w+)\(", re.M)
 # A group that nobody else is in.
 GROUP = 54_321
+# An access list, as Linux keeps it: the owner and the user nobody may write, and nobody else may read.
+LIST = "system.posix_acl_access"
+ENTRIES = ((1, 6, -1), (2, 6, NOBODY), (4, 0, -1), (16, 6, -1), (32, 0, -1))
+ACCESS = struct.pack("<I", 2) + b"".join(struct.pack("<HHi", *it) for it in ENTRIES)
 
 
 def traced(room, *options):
@@ -106,6 +111,20 @@ class InPlace(RoomCase):
             self.assert_run(silent(0), *WORDS)
             found = (self.room.folder / "Makefile").stat().st_mode & 0o7777
             self.assertEqual(oct(found), oct(mode))
+            self.assert_holds("Makefile", EDITED.stdout)
+
+    def test_an_access_list_stays_in_an_output_and_goes_in_place(self):
+        makefile = self.room.folder / "Makefile"
+        for options, wanted in ((("-o", "Makefile"), [LIST]), (("-i",), [])):
+            self.room.write("Makefile", TEXT, mode=0o600)
+            try:
+                os.setxattr(makefile, LIST, ACCESS)
+            except OSError:
+                self.skipTest("this file system has no access lists")
+            self.assert_run(silent(0), "edit", *options, "script", "Makefile")
+            self.assertEqual([it for it in os.listxattr(makefile) if it == LIST], wanted)
+            # (its group now has what the list gave to the user nobody)
+            self.assertEqual(oct(makefile.stat().st_mode & 0o7777), oct(0o660))
             self.assert_holds("Makefile", EDITED.stdout)
 
     def test_the_owner_stays_where_that_is_allowed(self):

@@ -65,6 +65,12 @@ class NewFiles(RoomCase):
             self.assertEqual(met, {None, text})
             new.unlink()
 
+    def test_the_text_and_the_folder_are_on_the_disk_before_the_reply(self):
+        for words, given, _ in SESSIONS:
+            steps = [name for name, _ in self.calls(words, given) if name in ("fsync", "link", "write")]
+            self.assertEqual(steps[-4:], ["fsync", "link", "fsync", "write"])
+            (self.room.folder / "new").unlink()
+
     def test_a_file_that_another_process_makes_meanwhile_stays(self):
         new = self.room.folder / "new"
 

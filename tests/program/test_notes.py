@@ -121,7 +121,7 @@ class Notes(RoomCase):
             (("edit", "undo", "Makefile"), REFUSED),
             (("vars", "Makefile"), Outcome(b"1:0: CC = gcc\n", b"", 0)),
         ):
-            self.assert_run(outcome, *words, "--notes")
+            self.assert_run(outcome, *words, "--notes", noted="undo")
 
     def test_a_line_that_is_no_command(self):
         for words, place, given in (
@@ -129,20 +129,20 @@ class Notes(RoomCase):
             (("edit", "-i", "st", "Makefile"), "st:1:1", b""),
             (("edit", "--diff", "st", "Makefile"), "st:1:1", b""),
             (("edit", "-i", "st", "Makefile", "Makefile"), "st:1:1", b""),
-            (("edit", "-e", "st CC clang", "Makefile"), "-e:1:1", b""),
-            (("edit", "-i", "-e", "st CC clang", "Makefile", "Makefile"), "-e:1:1", b""),
+            (("edit", "-e", "st CC clang", "Makefile"), "-e 1:1", b""),
+            (("edit", "-i", "-e", "st CC clang", "Makefile", "Makefile"), "-e 1:1", b""),
             (("edit", "-", "Makefile"), "standard input:1:1", b"st CC clang\n"),
         ):
             self.room.write("st", b"st CC clang\n")
-            note = f"{place}: note: there is no such command; the nearest is `set`"
+            note = f"{place}: note: there is no such command; did you mean `set`?"
             with self.subTest(words):
                 self.assert_noted(NO_COMMAND, note, *words, given=given)
 
     def test_exchanged_files_are_told(self):
         self.room.write("config.mk", b"CC := gcc\nall:\n\tcc\n")
         self.room.write("use-clang", b"# a comment\n\nset CC clang\n")
-        told = "config.mk:1:1: note: there is no such command\n"
-        told += "config.mk: note: this is no script, and use-clang is one: they may be exchanged"
+        told = "config.mk:1:1: note: there is no such command; did you mean `set`?\n"
+        told += "config.mk: note: this is not a script, but use-clang is: did you swap SCRIPT and FILE?"
         for words in (
             ("edit", "config.mk", "use-clang"),
             ("edit", "-i", "config.mk", "use-clang"),
@@ -162,14 +162,14 @@ class Notes(RoomCase):
         self.room.write("half", b"set CC clang\nCC = gcc\n")
         self.room.write("long", b"undo\n" + b"\n" * 16_777_212)
         os.mkfifo(self.room.folder / "pipe")
-        note = "config.mk:1:1: note: there is no such command"
+        note = "config.mk:1:1: note: there is no such command; did you mean `set`?"
         for name in ("Makefile", "empty", "comments", "half", "long", "."):
             with self.subTest(name):
                 self.assert_noted(NO_COMMAND, note, "edit", "config.mk", name)
         self.assert_noted(NO_COMMAND, note, "edit", "-i", "config.mk", "Makefile", "script")
         self.assert_noted(NO_COMMAND, note, "edit", "-i", "config.mk", "pipe", "script")
         self.assert_noted(NO_COMMAND, note, "edit", "config.mk", given=b"set CC clang\n")
-        self.assert_noted(NO_COMMAND, note.replace("config.mk", "-e"), "edit", "-e", "CC := gcc", "script")
+        self.assert_noted(NO_COMMAND, note.replace("config.mk:", "-e "), "edit", "-e", "CC := gcc", "script")
         self.assert_run(EDITED, "edit", "--notes", "script", "Makefile")
 
     def test_notes_stand_beside_files_that_are_read_alone(self):

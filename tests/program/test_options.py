@@ -139,12 +139,17 @@ REFUSED = {
             edit --diff -i script Makefile | edit -i -e undo --diff Makefile queried""",
         "with '--in-place' FILE has to be the name of a file, and neither '-' nor left out": """
             edit -i script | edit -i script - | edit -i script Makefile - | edit -i -e undo | edit --backup a -i -e undo -""",
-        "several FILEs may stand beside '--in-place', or beside '--diff' without '--output'": """
+        "several FILEs may stand beside '--in-place' or '--check', or beside '--diff' without '--output'": """
             edit script Makefile queried | edit script Makefile - | edit -e undo script Makefile | edit script -e undo -
             edit -o out script Makefile queried | edit --diff -o out script Makefile queried | edit -e undo - -""",
         "'--backup <SUFFIX>' may stand beside '--in-place' alone": """
             edit --backup '~' script | edit --diff --backup=a script Makefile | edit -o out --backup a script""",
         "FILE has to be the name of a file, and not '-'": "session - | session --new - | session -- -",
+        # Words that mean something else.
+        "'set' is a command of a script: 'mkedit edit -e \"set ...\" FILE' runs it": "set CC clang Makefile | set -i CC clang",
+        "'unset' is a command of a script: 'mkedit help unset' explains it": "explain unset",
+        "'NoSuch' is a refusal: 'mkedit explain NoSuch' explains it": "help NoSuch",
+        "'-i' takes no suffix: '-i --backup .bak' keeps the old file": "edit -i.bak script Makefile | edit -k script Makefile -i.bak",
     },
 }
 
@@ -189,3 +194,12 @@ class Options(RoomCase):
 
     def test_where_a_text_goes(self):
         self.assert_rows((lines, 0, (None, None), (name, text)) for name, text, lines in WRITTEN)
+
+    def test_the_usage_below_an_error_is_that_of_the_command(self):
+        for line, usage in (
+            ("edit --diff", "mkedit edit [OPTIONS] SCRIPT [FILE]"),
+            ("get --nth x CC", "mkedit get [OPTIONS]"),
+            ("session -", "mkedit session [OPTIONS]"),
+            ("explain 0", "mkedit explain <REFUSAL>"),
+        ):
+            self.assertIn(f"\n\nUsage: {usage}", self.room.run(*line.split()).stderr.decode())

@@ -7,6 +7,7 @@ import time
 from tests.lib.checks import Outcome
 from tests.lib.rooms import TEXT, RoomCase, silent
 from tests.lib.terminals import all_shown, terminal
+from tests.program.test_several_diffs import diff_of
 
 # How long a makefile lets the program wait, in seconds.
 WAIT = 1.3
@@ -46,22 +47,26 @@ class Progress(RoomCase):
     def test_it_is_shown_beside_diffs_and_edits_in_place(self):
         got, shown = self.shown("edit", "--diff", "script", "slow", "Makefile", "copy")
         self.assertEqual((got.stdout.count(b"\n+CC = clang # c\n"), got.status), (3, 0))
-        self.assertRegex(shown, rb"\A\r1 of 3 files(\r2 of 3 files)?%b\Z" % WIPED)
+        last = b"3 files: 3 changed, 0 unchanged, 0 refused\n"
+        self.assertRegex(shown, rb"\A\r1 of 3 files(\r2 of 3 files)?%b%b\Z" % (WIPED, last))
         self.room.written.pop("Makefile")
         got, shown = self.shown("edit", "-i", "script", "slow", "Makefile")
         self.assertEqual(got, Outcome(b"", b"", 3))
         told = rb"slow:mkedit: write fault\nslow: note: is no regular file\n"
-        self.assertRegex(shown, rb"\A%b\r1 of 2 files%b\Z" % (told, WIPED))
+        last = b"2 files: 1 changed, 0 unchanged, 0 refused, 1 failed\n"
+        self.assertRegex(shown, rb"\A%b\r1 of 2 files%b%b\Z" % (told, WIPED, last))
 
     def test_it_is_wiped_before_another_line(self):
         told = rb"mkedit: cannot open absent\nabsent: note: no such file\n"
-        for words in (("vars",), ("edit", "--diff", "script")):
+        last = b"4 files: 3 changed, 0 unchanged, 0 refused, 1 failed\n"
+        for words, last in ((("vars",), b""), (("edit", "--diff", "script"), last)):
             got, shown = self.shown(*words, "Makefile", "slow", "absent", "copy")
             self.assertEqual(got.status, 3)
             after = rb"(\r3 of 4 files%b)?" % WIPED
-            self.assertRegex(shown, rb"\A\r2 of 4 files%b%b%b\Z" % (WIPED, told, after))
+            self.assertRegex(shown, rb"\A\r2 of 4 files%b%b%b%b\Z" % (WIPED, told, after, last))
         _, shown = self.shown("edit", "--diff", "-e", "set CX clang", "slow", "Makefile")
-        self.assertRegex(shown, rb"\n\r1 of 2 files%bMakefile:1: refused 4 NoSuch\n" % WIPED)
+        error = rb"-e 1: error: set CX: Makefile assigns no CX \[4 NoSuch\]\n"
+        self.assertRegex(shown, rb"\n\r1 of 2 files%b%b" % (WIPED, error))
 
     def test_a_pipe_has_none_of_it(self):
         got = self.run_slowly("vars", "Makefile", "slow", "copy")
@@ -69,15 +74,25 @@ class Progress(RoomCase):
         got = self.run_slowly("edit", "--diff", "script", "slow", "copy")
         self.assertEqual((got.stderr, got.status), (b"", 0))
 
-    def test_where_the_lines_of_a_query_go_to_a_terminal_too_there_is_none(self):
-        answer = b"".join(it + b":" + LINE for it in (b"slow", b"copy"))
-        with terminal(lines=False) as (user, program):
-            got = self.run_slowly("vars", "slow", "copy", stdout=program, stderr=program)
-            self.assertEqual((got.status, all_shown(user, program)), (0, answer))
+    def test_where_answers_or_diffs_go_to_a_terminal_too_there_is_none(self):
+        for words, answer in (
+            (("vars",), b"slow:" + LINE + b"copy:" + LINE),
+            (
+                ("edit", "--diff", "--color=never", "script"),
+                diff_of("slow") + diff_of("copy") + b"2 files: 2 changed, 0 unchanged, 0 refused\n",
+            ),
+        ):
+            with terminal(lines=False) as (user, program):
+                got = self.run_slowly(*words, "slow", "copy", stdout=program, stderr=program)
+                self.assertEqual((got.status, all_shown(user, program)), (0, answer), words)
+
+    def test_one_line_stands_for_a_while_before_the_next(self):
+        _, shown = self.shown("vars", "slow", *["copy"] * 200)
+        self.assertIn(shown.count(b" of 201 files"), range(1, 100))
 
     def test_one_file_and_a_short_run_have_none(self):
         got, shown = self.shown("vars", "slow")
         self.assertEqual((got, shown), (Outcome(LINE, b"", 0), b""))
         with terminal(lines=False) as (user, program):
             self.assert_run(silent(0), "edit", "-i", "-e", "set CC gcc", "Makefile", "copy", stderr=program)
-            self.assertEqual(all_shown(user, program), b"")
+            self.assertEqual(all_shown(user, program), b"2 files: 0 changed, 2 unchanged, 0 refused\n")

@@ -1,4 +1,7 @@
-"""Tests of notes below refusals: with --notes, the lines of the makefile that are the cause stand there."""
+"""Tests of notes below refusals: with --notes, the lines of the makefile that are the cause stand there.
+
+A refusal stands here as a report has it; its sentence is tested in test_sentences.
+"""
 
 from tests.lib.checks import Outcome
 from tests.lib.rooms import RoomCase
@@ -32,59 +35,59 @@ CASES = (
     ("set CFLAGS x", "5 Ambiguous 2", (
         "config.mk:1: note: CFLAGS = -O2",
         "config.mk:2: note: CFLAGS += -g",
-        "-e:1: note: `nth 1`, `nth 2` or `all` before the command says which",
+        "-e 1: note: `nth 1`, `nth 2` or `all` before the command says which",
     )),
     ("append CFLAGS x", "5 Ambiguous 2", (
         "config.mk:1: note: CFLAGS = -O2",
         "config.mk:2: note: CFLAGS += -g",
-        "-e:1: note: `nth 1`, `nth 2` or `all` before the command says which",
+        "-e 1: note: `nth 1`, `nth 2` or `all` before the command says which",
     )),
     ("unset CFLAGS", "5 Ambiguous 2", (
         "config.mk:1: note: CFLAGS = -O2",
         "config.mk:2: note: CFLAGS += -g",
-        "-e:1: note: `nth 1` or `nth 2` before the command says which",
+        "-e 1: note: `nth 1` or `nth 2` before the command says which",
     )),
     ("assign after-var CFLAGS A = b", "5 Ambiguous 2", (
         "config.mk:1: note: CFLAGS = -O2",
         "config.mk:2: note: CFLAGS += -g",
-        "-e:1: note: `nth 1` or `nth 2` before the command says which",
+        "-e 1: note: `nth 1` or `nth 2` before the command says which",
     )),
     ("recipe-remove clean rm", "5 Ambiguous 2", ("config.mk:18: note: clean:",)),
     # NoSuch
     ("nth 3 set CFLAGS x", "4 NoSuch", (
         "config.mk:1: note: CFLAGS = -O2",
         "config.mk:2: note: CFLAGS += -g",
-        "-e:1: note: `nth` is at most 2",
+        "-e 1: note: `nth` is at most 2",
     )),
     ("set CFLAG x", "4 NoSuch", (
         "config.mk:1: note: CFLAGS = -O2",
         "config.mk:2: note: CFLAGS += -g",
-        "-e:1: note: these names are spelled alike",
+        "-e 1: note: did you mean one of these?",
     )),
     ("set prefix x", "4 NoSuch", (
         "config.mk:21: note: PREFIX ?= /usr",
-        "-e:1: note: these names are spelled alike",
+        "-e 1: note: did you mean one of these?",
     )),
     ("depend mian x", "4 NoSuch", (
         "config.mk:7: note: main: main.o | out",
-        "-e:1: note: these names are spelled alike",
+        "-e 1: note: did you mean one of these?",
     )),
     ("rename cleen x", "4 NoSuch", (
         "config.mk:18: note: clean:",
-        "-e:1: note: these names are spelled alike",
+        "-e 1: note: did you mean one of these?",
     )),
     ("all set PREFIXX x", "4 NoSuch", (
         "config.mk:21: note: PREFIX ?= /usr",
-        "-e:1: note: these names are spelled alike",
+        "-e 1: note: did you mean one of these?",
     )),
     ("set LDFLAGS x", "4 NoSuch", (
         "config.mk:3: note: define LDFLAGS   (a define)",
-        "-e:1: note: no edit looks at these lines",
+        "-e 1: note: no edit looks at these lines",
     )),
     ("set LIBS x", "4 NoSuch", (
         "config.mk:6: note: main: LIBS = -lc   (for a target)",
         "config.mk:9: note: LIBS = x   (in a recipe)",
-        "-e:1: note: no edit looks at these lines",
+        "-e 1: note: no edit looks at these lines",
     )),
     ("set NOTHING x", "4 NoSuch", ()),
     ("unrule nothing", "4 NoSuch", ()),
@@ -124,8 +127,8 @@ CASES = (
 )  # fmt: skip
 
 
-def report(file, rest, notes):
-    return Outcome(b"", "".join(f"{it}\n" for it in (f"{file}1: refused {rest}", *notes)).encode(), 1)
+def report(rest, notes):
+    return Outcome(b"", "".join(f"{it}\n" for it in (f"1: refused {rest}", *notes)).encode(), 1)
 
 
 class RefusalNotes(RoomCase):
@@ -133,8 +136,8 @@ class RefusalNotes(RoomCase):
         """With --notes the notes stand below the line on the refusal, and without it that line alone."""
         self.room.write("config.mk", makefile)
         words = ("edit", "-e", command, "config.mk")
-        self.assert_run(report("", rest, ()), *words)
-        self.assert_run(report("", rest, notes), *words, "--notes")
+        self.assert_run(report(rest, ()), *words)
+        self.assert_run(report(rest, notes), *words, "--notes", noted="-e")
 
     def test_each_refusal(self):
         for command, rest, notes in CASES:
@@ -149,14 +152,14 @@ class RefusalNotes(RoomCase):
             "config.mk:6: note: A = 3   (in `else ifeq (a,c)`, config.mk:5)",
             "config.mk:8: note: A = 4   (in `else`, config.mk:7)",
             "config.mk:10: note: A = 5   (in `ifdef X`, config.mk:2)",
-            "-e:1: note: `nth 1` to `nth 5` before the command says which",
+            "-e 1: note: `nth 1` to `nth 5` before the command says which",
         ))  # fmt: skip
 
     def test_of_many_lines_ten_are_told(self):
         for count, more in ((10, ()), (11, ("config.mk: note: and 1 more",))):
             lines = b"".join(b"A = %d\n" % it for it in range(count))
             notes = [f"config.mk:{it + 1}: note: A = {it}" for it in range(10)]
-            last = f"-e:1: note: `nth 1` to `nth {count}` before the command says which"
+            last = f"-e 1: note: `nth 1` to `nth {count}` before the command says which"
             self.assert_noted(lines, "unset A", f"5 Ambiguous {count}", (*notes, *more, last))
 
     def test_of_a_long_line_a_hundred_bytes_are_told(self):
@@ -165,14 +168,14 @@ class RefusalNotes(RoomCase):
             self.assert_noted(lines, "unset A", "5 Ambiguous 2", (
                 f"config.mk:1: note: A = {shown}",
                 "config.mk:2: note: A = y",
-                "-e:1: note: `nth 1` or `nth 2` before the command says which",
+                "-e 1: note: `nth 1` or `nth 2` before the command says which",
             ))  # fmt: skip
 
     def test_a_folded_line_is_told_on_one_line(self):
         self.assert_noted(b"# c\nA = a \\\n  b\nA = c\n", "unset A", "5 Ambiguous 2", (
             "config.mk:2: note: A = a b",
             "config.mk:4: note: A = c",
-            "-e:1: note: `nth 1` or `nth 2` before the command says which",
+            "-e 1: note: `nth 1` or `nth 2` before the command says which",
         ))  # fmt: skip
 
     def test_a_line_that_no_edit_looks_at(self):
@@ -186,9 +189,9 @@ class RefusalNotes(RoomCase):
         ):
             with self.subTest(lines):
                 self.room.write("config.mk", lines)
-                said = b"1: refused 4 NoSuch\n" + note + b"\n-e:1: note: no edit looks at these lines\n"
+                said = b"1: refused 4 NoSuch\n" + note + b"\n-e 1: note: no edit looks at these lines\n"
                 words = ("edit", "--notes", "-e", "set CC x", "config.mk")
-                self.assert_run(Outcome(b"", said, 1), *words)
+                self.assert_run(Outcome(b"", said, 1), *words, noted="-e")
 
     def test_a_use_of_a_name_is_no_line_of_it(self):
         lines = b"all:\n\t$(CC) -c x\n\tCC\n\tCCC = x\n\t@CC=x make\n"
@@ -198,7 +201,7 @@ class RefusalNotes(RoomCase):
         lines = b"a.o: %.o\nb : c : d : e\n"
         self.assert_noted(lines, "depend b x", "4 NoSuch", (
             "config.mk:2: note: b : c : d : e   (rough)",
-            "-e:1: note: no edit looks at these lines",
+            "-e 1: note: no edit looks at these lines",
         ))  # fmt: skip
 
     def test_a_new_line_below_an_open_one(self):
@@ -240,16 +243,23 @@ class RefusalNotes(RoomCase):
             "config.mk:3: note: define B   (a define)",
         ))  # fmt: skip
 
+    def test_a_refused_alternative_has_its_own_notes(self):
+        self.room.write("config.mk", b"A = 1\n")
+        said = b"-e 2: error: nth 2 set A: config.mk assigns A once, and `nth 2` is asked for [4 NoSuch]\n"
+        said += b"config.mk:1: note: A = 1\n-e 2: note: `nth` is at most 1\n"
+        words = ("edit", "--notes", "-e", "set B 2\nor nth 2 set A 2", "config.mk")
+        self.assert_run(Outcome(b"", said, 1), *words)
+
     def test_the_numbers_are_those_of_the_text_at_that_moment(self):
         self.room.write("config.mk", b"B = b\nA = 1\nA = 2\n")
         said = b"""\
 2: refused 5 Ambiguous 2
 config.mk:1: note: A = 1
 config.mk:2: note: A = 2
--e:2: note: `nth 1` or `nth 2` before the command says which
+-e 2: note: `nth 1` or `nth 2` before the command says which
 """
         words = ("edit", "-k", "--notes", "-e", "unset B", "-e", "unset A", "config.mk")
-        self.assert_run(Outcome(b"A = 1\nA = 2\n", said, 1), *words)
+        self.assert_run(Outcome(b"A = 1\nA = 2\n", said, 1), *words, noted="-e")
 
     def test_a_refusal_that_try_makes_none_has_no_note(self):
         self.room.write("config.mk", MAKEFILE)
@@ -261,41 +271,40 @@ config.mk:2: note: A = 2
         self.room.write("config.mk", makefile)
         self.room.write("commands", b"# c\nunset A\n")
         for words, given, file, script in (
-            (("commands", "config.mk"), b"", "config.mk", "commands:2"),
-            (("commands", "./config.mk"), b"", "./config.mk", "commands:2"),
-            (("-", "config.mk"), b"# c\nunset A\n", "config.mk", "standard input:2"),
-            (("commands", "-"), makefile, "standard input", "commands:2"),
-            (("commands",), makefile, "standard input", "commands:2"),
-            (("--diff", "commands", "config.mk"), b"", "config.mk", "commands:2"),
-            (("-i", "commands", "config.mk"), b"", "config.mk", "commands:2"),
+            (("commands", "config.mk"), b"", "config.mk", "commands"),
+            (("commands", "./config.mk"), b"", "./config.mk", "commands"),
+            (("-", "config.mk"), b"# c\nunset A\n", "config.mk", "standard input"),
+            (("commands", "-"), makefile, "standard input", "commands"),
+            (("commands",), makefile, "standard input", "commands"),
+            (("--diff", "commands", "config.mk"), b"", "config.mk", "commands"),
+            (("-i", "commands", "config.mk"), b"", "config.mk", "commands"),
         ):
             said = f"""\
 2: refused 5 Ambiguous 2
 {file}:1: note: A = 1
 {file}:2: note: A = 2
-{script}: note: `nth 1` or `nth 2` before the command says which
+{script}:2: note: `nth 1` or `nth 2` before the command says which
 """
             with self.subTest(words):
-                self.assert_run(
-                    Outcome(b"", said.encode(), 1), "edit", "--notes", *words, given=given
-                )
+                words = ("edit", "--notes", *words)
+                self.assert_run(Outcome(b"", said.encode(), 1), *words, given=given, noted=script)
 
     def test_notes_of_several_makefiles(self):
         self.room.write("one", b"A = 1\nA = 2\n")
         self.room.write("two", b"B = 1\n")
         said = b"""\
-one:1: refused 5 Ambiguous 2
+1: refused 5 Ambiguous 2
 one:1: note: A = 1
 one:2: note: A = 2
--e:1: note: `nth 1` or `nth 2` before the command says which
-one:2: refused 4 NoSuch
+-e 1: note: `nth 1` or `nth 2` before the command says which
+2: refused 4 NoSuch
 one:1: note: A = 1
 one:2: note: A = 2
--e:2: note: these names are spelled alike
-two:1: refused 4 NoSuch
+-e 2: note: did you mean one of these?
+1: refused 4 NoSuch
 two:1: note: B = 1
--e:1: note: these names are spelled alike
+-e 1: note: did you mean one of these?
 """
         words = ("edit", "-k", "-i", "-e", "unset A", "-e", "unset B", "one", "two")
-        self.assert_run(Outcome(b"", said, 1), *words[:3], "--notes", *words[3:])
+        self.assert_run(Outcome(b"", said, 1), *words[:3], "--notes", *words[3:], noted="-e")
         self.assert_holds("two", b"")

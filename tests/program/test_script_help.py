@@ -70,12 +70,6 @@ class ScriptHelp(RoomCase):
         for it in sources():
             self.assertLessEqual(told(it), names, it.word)
 
-    def test_each_command_of_the_program_has_its_help_as_before(self):
-        for word in ("edit", "vars", "get", "explain"):
-            got = self.room.run("help", word)
-            self.assertEqual(got, self.room.run(word, "--help"))
-            self.assertEqual((got.stderr, got.status), (b"", 0))
-
     def test_another_word_has_no_help(self):
         for words in (["sett"], ["SET"], [""], ["set "], ["NAME"], ["set", "unset"], ["--", "set"]):
             self.assert_bad_command_line("help", *words)

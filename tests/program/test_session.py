@@ -8,7 +8,7 @@ import re
 
 from tests import TOP
 from tests.lib.checks import SECONDS, Outcome
-from tests.lib.rooms import ANSWERS, TEXT, TOO_DEEP, WRITE_FAULT, RoomCase, cannot_open
+from tests.lib.rooms import ANSWERS, READ_FAULT, TEXT, TOO_DEEP, WRITE_FAULT, RoomCase, cannot_open
 from tests.lib.talks import GREETING, Talk
 
 PAGE = TOP / "docs/PROTOCOL.md"
@@ -96,11 +96,14 @@ class Session(RoomCase):
         self.assertEqual(talk.answer("vars"), b"2:1: CC = clang\n")
 
     def test_a_diff_is_that_of_the_program(self):
-        talk = self.talk("Makefile")
+        talk = self.talk("./Makefile")
         self.assertEqual(talk.answer("diff"), b"")
         self.assertEqual(talk.reply("set CC clang"), "ok")
-        wanted = self.room.run("edit", "--diff", "script", "Makefile").stdout
+        wanted = self.room.run("edit", "--diff", "script", "./Makefile").stdout
         self.assertTrue(wanted)
+        self.assertEqual(talk.answer("diff"), wanted)
+        self.assertEqual(talk.reply("write"), "ok")
+        self.assert_holds("Makefile", b"CC = clang # c\n")
         self.assertEqual(talk.answer("diff"), wanted)
         self.assertEqual(talk.reply("undo"), "ok")
         self.assertEqual(talk.answer("diff"), b"")
@@ -226,6 +229,12 @@ class Session(RoomCase):
         talk = self.talk("--new", "no/such.mk")
         self.assert_replies(talk, ("write", "fault cannot write no/such.mk"), ("quit", "ok"))
 
+    def test_a_makefile_that_is_there_is_opened_with_new_as_without(self):
+        talk = self.talk("--new", "Makefile")
+        self.assert_replies(talk, ("set CC clang", "ok"), ("write", "ok"), ("quit", "ok"))
+        self.assert_holds("Makefile", b"CC = clang # c\n")
+        self.assert_run(cannot_open("script/x"), "session", "--new", "script/x")
+
     def test_a_script_that_is_told_gives_the_text_of_a_run(self):
         script = b"set CC clang\nassign bottom X += 1\nbegin\nset X 2\ncancel\nundo\nredo\n"
         self.room.write("steps", script)
@@ -254,9 +263,9 @@ class Session(RoomCase):
             ("set CC b", "ok"),
             ("begin", "ok"),
             ("revert", "refused 18 GroupOpen"),
-            ("end", "ok"),
-            ("revert", "ok"),
         )
+        self.assertEqual(talk.answer("history"), b"open begin\nundo set CC b\nundo set CC a\n")
+        self.assert_replies(talk, ("end", "ok"), ("revert", "ok"))
         self.assertEqual(talk.answer("print"), TEXT)
         self.assert_replies(talk, ("redo", "ok"), ("redo", "ok"))
         self.assertEqual(talk.answer("print"), b"CC = b # c\n")
@@ -310,9 +319,14 @@ class Session(RoomCase):
     def test_quit_asks_once_where_changes_are_unwritten(self):
         talk = self.talk("Makefile")
         self.assert_replies(talk, ("set CC clang", "ok"), ("quit", UNWRITTEN))
-        self.assertEqual(talk.answer("print"), b"CC = clang # c\n")
-        self.assert_replies(talk, ("quit", UNWRITTEN), ("qiut", "fault not a command"), ("quit", UNWRITTEN))
-        self.assert_replies(talk, ("# no reply\nquit", "ok"))
+        for line, reply in (
+            ("print", "ok"),
+            ("qiut", "fault not a command"),
+            ("append CC -g", "ok"),
+            ("set Y 1", "refused 4 NoSuch"),
+        ):
+            self.assert_replies(talk, (line, reply), ("quit", UNWRITTEN))
+        self.assert_replies(talk, ("x" * 65_536, "fault line too long"), ("# no reply\nquit", "ok"))
         self.assertEqual(talk.end(), Outcome(b"", b"", 0))
 
     def test_quit_ends_where_nothing_is_unwritten(self):
@@ -338,6 +352,9 @@ class Session(RoomCase):
     def test_a_full_output_ends_the_session(self):
         with open("/dev/full", "wb") as full:
             self.assert_run(WRITE_FAULT, "session", "Makefile", given=b"write\n", stdout=full)
+
+    def test_an_input_that_cannot_be_read_ends_the_session(self):
+        self.assert_run(READ_FAULT._replace(stdout=GREETING), "session", "Makefile", closed=(0,))
 
     def test_a_makefile_that_cannot_be_opened_is_none(self):
         self.assert_run(cannot_open("missing"), "session", "missing")

@@ -104,14 +104,11 @@ class SeveralDiffs(RoomCase):
         self.assert_run(wanted, "edit", "--diff", "script", "edited", "copy")
 
     def test_notes_stand_below_the_lines_of_their_file(self):
-        told = b""
-        for name in ("Makefile", "other"):
-            alone = self.room.run("edit", "--notes", "--diff", "-e", "set CX clang", name)
-            line, notes = alone.stderr.split(b"\n", 1)
+        words = ("edit", "--notes", "--diff", "-e", "set CX clang")
+        told = [self.room.run(*words, name).stderr for name in ("Makefile", "other")]
+        for notes in told:
             self.assertIn(b": note: ", notes)
-            told += name.encode() + b":" + line + b"\n" + notes
-        words = ("edit", "--notes", "--diff", "-e", "set CX clang", "Makefile", "other")
-        self.assert_run(Outcome(b"", told, 1), *words)
+        self.assert_run(Outcome(b"", b"".join(told), 1), *words, "Makefile", "other")
 
     def test_each_diff_has_colours_as_that_of_one_file(self):
         for when in ("always", "never", "auto"):

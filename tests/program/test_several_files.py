@@ -172,9 +172,18 @@ class SeveralFiles(RoomCase):
             self.assert_bad_command_line(*words)
         for words in (("script",), ("--diff", "-o", "out", "script")):
             got = self.room.run("edit", *words, "Makefile", "copy")
-            told = b"several FILEs may stand beside '--in-place', or beside '--diff' without '--output'"
+            told = b"several FILEs may stand beside '--in-place' or '--check', or beside '--diff' without '--output'"
             self.assertIn(told, got.stderr)
         self.assert_holds("out", None)
+
+    def test_a_script_among_the_makefiles_is_not_edited(self):
+        self.room.write("more", b"# a comment\nset CFLAGS -g\n")
+        told = b"mkedit: more is a script: there is one SCRIPT alone, unless --force-text makes it a FILE\n"
+        for words in (("-i", "script", "more", "Makefile"), ("-i", "-e", "undo", "Makefile", "more"), ("--check", "script", "empty", "more")):
+            self.assert_run(Outcome(b"", told, 2), "edit", *words)
+        report = b"more:1: refused 4 NoSuch\n"
+        self.assert_run(Outcome(b"", report, 1), "edit", "-i", "--force-text", "script", "more", "Makefile")
+        self.assert_edited("Makefile")
 
     def test_standard_input_is_not_edited_in_place(self):
         self.assert_bad_command_line("edit", "-i", "script", "Makefile", "-")

@@ -1,6 +1,7 @@
 """The cases of the tables: runs and queries, with what has to come of each (tests/lib/tables.py)."""
 
 from tests.lib.checks import differences
+from tests.lib.notes import reported
 from tests.lib.rooms import Room, RoomCase
 from tests.lib.tables import cases
 
@@ -19,4 +20,7 @@ class Tables(RoomCase):
         with Room(self.program) as room:
             for name, content in case.files.items():
                 room.write(name, content)
-            self.assert_well(differences(room.run(*case.words), case.wanted) + room.changed())
+            got = room.run(*case.words)
+            if "--notes" in case.words:
+                got = got._replace(stderr=reported(got.stderr, "script"))
+            self.assert_well(differences(got, case.wanted) + room.changed())

@@ -15,7 +15,7 @@ import time
 from tests.lib.checks import SECONDS
 from tests.lib.rooms import TEXT, RoomCase
 from tests.lib.talks import GREETING
-from tests.lib.terminals import END, INTERRUPT, terminal
+from tests.lib.terminals import END, INTERRUPT, all_shown, terminal
 
 # The environment of a user who wants no colours.
 PLAIN = {"NO_COLOR": "1"}
@@ -92,8 +92,9 @@ class Terminal(RoomCase):
             (b"\n", b"Makefile*> "),
             (b"undo\n", b"-CC = clang # c\n+CC = gcc # c\nMakefile> "),
             (b"redo\n", b"-CC = gcc # c\n+CC = clang # c\nMakefile*> "),
+            (b"write other\n", b"other is written.\nMakefile*> "),
             (b"write\n", b"Makefile is written.\nMakefile> "),
-            (b"undo\n", b"-CC = clang # c\n+CC = gcc # c\nMakefile*> "),
+            (b"revert\n", b"-CC = clang # c\n+CC = gcc # c\nMakefile*> "),
         )
         self.assert_holds("Makefile", b"CC = clang # c\n")
 
@@ -149,7 +150,7 @@ class Terminal(RoomCase):
         self.assert_said(
             user,
             (b"frobnicate\n", NO_COMMAND + b"Makefile> "),
-            (b"ste CC gcc\n", NO_COMMAND + b"Column 1: there is no such command; the nearest is `set`\nMakefile> "),
+            (b"ste CC gcc\n", NO_COMMAND + b"Column 1: there is no such command; did you mean `set`?\nMakefile> "),
             (b" set CC\n", NO_COMMAND + b"Column 8: VALUE is missing\nMakefile> "),
             (b"help set it\n", NO_COMMAND + b"Makefile> "),
             (b"help frobnicate\n", b"No command of a script has this word.\nMakefile> "),
@@ -267,6 +268,33 @@ class Terminal(RoomCase):
         self.assertEqual(user.shown(b"\n"), GREETING)
         self.assertEqual(user.types(b"set CC clang\n", b"\n"), b"ok\n")
         self.assertNotIn(b"\x1b", user.types(b"diff\n", b"ok\n"))
+
+    def test_words_of_other_programs_write_and_end(self):
+        user = self.at_terminal("Makefile")
+        user.shown(b"> ")
+        user.types(b"set CC clang\n")
+        self.assertEqual(user.types(b"q\n"), UNWRITTEN + b"Makefile*> ")
+        self.assert_said(user, (b" w\n", b"Makefile is written.\nMakefile> "), (b"save\n", b"Makefile is written.\nMakefile> "))
+        self.assertEqual(user.types(b"q all\n"), NO_COMMAND + b"Makefile> ")
+        os.write(user.side, b"exit\n")
+        self.assertEqual(user.status(), 0)
+        self.assert_holds("Makefile", b"CC = clang # c\n")
+
+    def test_an_end_of_commands_from_a_pipe_says_at_a_terminal_what_is_not_written(self):
+        note = b"mkedit: note: the input has ended, and the changes are not written\n"
+        for given, said in (
+            (b"set CC clang\n", note),
+            (b"set CC clang\nfrobnicate", note),
+            (b"set CC clang\nquit\n", b""),
+            (b"set CC clang\nquit!\n", b""),
+            (b"set CC clang\nundo\n", b""),
+            (b"vars\n", b""),
+        ):
+            with terminal() as (side, program):
+                words = [self.room.program.path, "session", "Makefile"]
+                how = {"input": given, "stdout": subprocess.PIPE, "stderr": program, "cwd": self.room.folder}
+                self.assertEqual(subprocess.run(words, **how, check=False).returncode, 0)
+                self.assertEqual(all_shown(side, program), said, given)
 
     def test_the_protocol_can_be_asked_for_at_a_terminal(self):
         user = self.at_terminal("--protocol", "Makefile")

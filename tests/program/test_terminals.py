@@ -41,11 +41,17 @@ class Terminals(RoomCase):
             self.assertEqual(all_shown(user, program), EDITED.stdout)
 
     def test_a_terminal_is_told_notes_without_being_asked(self):
-        for words in (["edit", "-e", "set CX clang", "Makefile"], ["edit", "bad", "Makefile"], ["vars", "absent"]):
-            wanted = self.room.run(words[0], "--notes", *words[1:])
+        for command, *words in (
+            ["edit", "-e", "set CX clang", "Makefile"],
+            ["edit", "bad", "Makefile"],
+            ["vars", "absent"],
+            ["session", "absent"],
+        ):
+            # (a session takes no --notes)
+            wanted = self.room.run(command.replace("session", "vars"), "--notes", *words)
             self.assertIn(b": note: ", wanted.stderr)
             with terminal(lines=False) as (user, program):
-                got = self.room.run(*words, stderr=program)
+                got = self.room.run(command, *words, stderr=program)
                 self.assertEqual(got, wanted._replace(stderr=b""))
                 self.assertEqual(all_shown(user, program), wanted.stderr)
 

@@ -1,6 +1,6 @@
 """What is made of the lines of an answer, each of which is an object of JSON.
 
-An object that is not as docs/LIBRARY.md has it ("Lines of JSON") is a LookupError, a TypeError or a
+An object that is not as docs/EDITS.md has it ("Lines of JSON") is a LookupError, a TypeError or a
 ValueError here.
 """
 

@@ -1,6 +1,6 @@
 """Assignments, rules, recipe lines and history of a makefile, as objects.
 
-The fields have the names and the meaning of the members in docs/LIBRARY.md, "Lines of JSON"; but the conditions
+The fields have the names and the meaning of the members in docs/EDITS.md, "Lines of JSON"; but the conditions
 are objects in place of the number of a branch, and a recipe line has the targets of its rule.
 """
 

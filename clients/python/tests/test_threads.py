@@ -23,21 +23,19 @@ say(b"ok\\n")
 
 class Threads(ClientCase):
     def test_each_call_has_its_own_reply(self):
-        makefile, lines, wrong = self.open(), MAKEFILE.splitlines(True), []
+        makefile, lines, right = self.open(), MAKEFILE.splitlines(True), []
 
         def ask(first):
             for number in range(first, first + CALLS):
                 number = 1 + number % len(lines)
-                told = makefile.lines(number, number)
-                if told != lines[number - 1]:
-                    wrong.append((number, told))
+                right.append(makefile.lines(number, number) == lines[number - 1])
 
         threads = [threading.Thread(target=ask, args=(first,), daemon=True) for first in range(THREADS)]
         for thread in threads:
             thread.start()
         for thread in threads:
             thread.join(SECONDS)
-        self.assertEqual((wrong, [it for it in threads if it.is_alive()]), ([], []))
+        self.assertEqual(right, [True] * THREADS * CALLS)
 
     def test_a_session_is_closed_after_the_call_of_another_thread(self):
         program = self.talker("""note("asked", line); time.sleep(0.3); say(b"ok\\n"); note("told", line)""")

@@ -87,6 +87,24 @@ pub(crate) const COLOR: Argument = Argument {
     help: "Whether changes are shown in colours: auto (at a terminal), always or never [default: auto]",
 };
 
+pub(crate) const CHECK: Argument = Argument {
+    id: "check",
+    kind: Kind::Flag(None),
+    help: "Tries each command, reports each refusal, and writes no text; with --diff, a diff fails too",
+};
+
+pub(crate) const SUMMARY: Argument = Argument {
+    id: "summary",
+    kind: Kind::Flag(None),
+    help: "Says at the end how many FILEs were changed; at a terminal it does so for several FILEs",
+};
+
+pub(crate) const FORCE_TEXT: Argument = Argument {
+    id: "force-text",
+    kind: Kind::Flag(None),
+    help: "Edits several FILEs also where one of them is a script, and not a makefile",
+};
+
 pub(crate) const EXPRESSION: Argument = Argument {
     id: "expression",
     kind: Kind::Values(Some('e'), "COMMAND"),

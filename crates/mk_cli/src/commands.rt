@@ -1,8 +1,9 @@
 //! The commands with their arguments, and the program by which `clap` reads words.
 
 use crate::arguments::{
-    Argument, BACKUP, COLOR, DEPTH, DIFF, EXPRESSION, FILES, IN_PLACE, JSON, KEEP_GOING, Kind,
-    NAME, NEW, NOTES, NTH, OUTPUT, PROTOCOL, REFUSAL, SCRIPT, SESSION_FILE, TARGET, VARIABLE,
+    Argument, BACKUP, CHECK, COLOR, DEPTH, DIFF, EXPRESSION, FILES, FORCE_TEXT, IN_PLACE, JSON,
+    KEEP_GOING, Kind, NAME, NEW, NOTES, NTH, OUTPUT, PROTOCOL, REFUSAL, SCRIPT, SESSION_FILE,
+    SUMMARY, TARGET, VARIABLE,
 };
 use crate::help;
 use clap::builder::ValueParser;
@@ -30,8 +31,8 @@ static SUBCOMMANDS: [Subcommand; 9] = [
         word: "edit",
         about: "Runs a script of edits over a makefile, and prints the text",
         arguments: &[
-            KEEP_GOING, DEPTH, OUTPUT, IN_PLACE, BACKUP, DIFF, COLOR, EXPRESSION, NOTES, SCRIPT,
-            FILES,
+            KEEP_GOING, DEPTH, OUTPUT, IN_PLACE, BACKUP, DIFF, COLOR, CHECK, SUMMARY, FORCE_TEXT,
+            EXPRESSION, NOTES, SCRIPT, FILES,
         ],
     },
     Subcommand {
@@ -128,6 +129,21 @@ fn clap_command<'a>(alloc: Global, subcommand: &Subcommand) -> Result<Command<'a
 fn first_command(words: &[String]) -> Option<&'static Subcommand> {
     let word = words.get(1)?.as_str();
     SUBCOMMANDS.iter().find(|command| command.word == word)
+}
+
+/// The command that the first word names, by which an error of its words has its usage.
+///
+/// # Errors
+///
+/// Want of memory.
+pub(crate) fn command_for<'a>(alloc: Global, words: &[String]) -> Result<Command<'a>, AllocError> {
+    match first_command(words) {
+        Some(subcommand) => {
+            let name = format!(in alloc; "mkedit {}", subcommand.word)?;
+            clap_command(alloc, subcommand)?.bin_name(name.as_str())
+        }
+        None => program_for(alloc, words),
+    }
 }
 
 /// The program as `clap` has to read these words. Where the first word names a command, `clap` asks

@@ -14,8 +14,8 @@ Examples:
 
 const EDIT_USAGE: &str = "mkedit edit [OPTIONS] SCRIPT [FILE]
        mkedit edit [OPTIONS] -e COMMAND [-e COMMAND ...] [FILE]
-       mkedit edit [OPTIONS] (-i | --diff) SCRIPT FILE...
-       mkedit edit [OPTIONS] (-i | --diff) -e COMMAND [-e COMMAND ...] FILE...";
+       mkedit edit [OPTIONS] (-i | --diff | --check) SCRIPT FILE...
+       mkedit edit [OPTIONS] (-i | --diff | --check) -e COMMAND [-e COMMAND ...] FILE...";
 
 const EDIT: &str = "\
 A line of the script is a command, a comment that begins with #, or blank:
@@ -42,8 +42,9 @@ standard error says which one and why, and no text goes out, unless -k is given.
 or `mkedit explain NoSuch`, says more on the refusal 4 NoSuch, and what to do. --notes shows the lines
 that are the cause, and also what is wrong with a line of the script that is not a command.
 
-Several FILEs may stand with -i or --diff: each is edited by itself. One in which a command is refused
-stays as it was, the others go on, and each line on standard error begins with the name of its file.
+Several FILEs may stand with -i, --diff or --check: each is edited by itself. One in which a command is
+refused stays as it was, the others go on, and each line on standard error begins with the name of its
+file. With --summary the last line says how many were changed.
 
 Example: with `CC = gcc # c` in config.mk, and `set CC clang` in use-clang,
     mkedit edit use-clang config.mk

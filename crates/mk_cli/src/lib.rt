@@ -8,32 +8,36 @@
 //! - `request`: what the words can ask for.
 //! - `arguments`: the arguments of the commands.
 //! - `commands`: the commands with their arguments, as `clap` has to read them.
+//! - `color`: when a diff has colours.
 //! - `help`: the texts of help.
-//! - `reading`: from the words to the request.
+//! - `reading`: from the words to the request; `hints`: what words may mean that are not taken.
 //! - `explain`: why a command is refused; `explanations` has the texts.
 //! - `command_help`: what a command of a script does; `command_texts` has the commands and the texts.
-//! - `progress`: how many of several makefiles are done, at a terminal.
+//! - `progress`: how many of several makefiles are done, at a terminal; how many were changed, at the end.
 #![tactic(auto)]
 
 mod arguments;
+mod color;
 mod command_help;
 mod command_texts;
 mod commands;
 mod explain;
 mod explanations;
 mod help;
+mod hints;
 mod progress;
 mod reading;
 pub mod request;
 mod utf8;
 
+pub use color::has_color;
 pub use command_help::{CommandHelp, asked_command, command_called, put_help};
 pub use explain::{CalledRefusal, NoRefusal, put_explanation, refusal_of};
 pub use explanations::explanation;
-pub use progress::Progress;
+pub use progress::{Progress, Summary};
 pub use reading::read_request;
 pub use request::{
     Backup, Color, EditWords, Form, Input, MAX_DEPTH, Output, Query, QueryWords, Question, Request,
     Script, SessionWords,
 };
-pub use utf8::{bad_files, is_utf8, words};
+pub use utf8::{bad_files, tell_bad_words, words};

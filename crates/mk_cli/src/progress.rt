@@ -1,5 +1,5 @@
 //! A line on a terminal that says how many of several makefiles are done, where they take longer than a
-//! second.
+//! second; and the last line, which says what became of them.
 
 use std::io::IsTerminal;
 use std::time::{Duration, Instant};
@@ -66,5 +66,62 @@ impl<'a> Progress<'a> {
             let _ = eprint!(self.rt; "\r\x1b[K");
             self.is_shown = false;
         }
+    }
+}
+
+/// How many makefiles were changed, were not, had a command that was refused, and failed.
+#[derive(Clone, Copy)]
+pub struct Summary {
+    changed: usize,
+    unchanged: usize,
+    refused: usize,
+    failed: usize,
+}
+
+impl Summary {
+    /// No makefile yet.
+    pub fn new() -> Summary {
+        Summary {
+            changed: 0,
+            unchanged: 0,
+            refused: 0,
+            failed: 0,
+        }
+    }
+
+    /// Counts a makefile whose run ended with this status.
+    pub fn add(&mut self, status: u8, is_changed: bool) {
+        let count = match status {
+            0 if is_changed => &mut self.changed,
+            0 => &mut self.unchanged,
+            1 => &mut self.refused,
+            _ => &mut self.failed,
+        };
+        *count = count.saturating_add(1);
+    }
+
+    /// Says on standard error how many there are, as `3 files: 2 changed, 0 unchanged, 1 refused`; of
+    /// those that failed only where there are some. A fault of it is no fault of the run.
+    pub fn show(&self, rt: &HostRuntime) {
+        let Summary {
+            changed,
+            unchanged,
+            refused,
+            failed,
+        } = *self;
+        let count = changed
+            .saturating_add(unchanged)
+            .saturating_add(refused)
+            .saturating_add(failed);
+        let files = if count == 1 { "file" } else { "files" };
+        let _ = if failed == 0 {
+            eprintln!(rt;
+                "{count} {files}: {changed} changed, {unchanged} unchanged, {refused} refused"
+            )
+        } else {
+            eprintln!(rt;
+                "{count} {files}: {changed} changed, {unchanged} unchanged, {refused} refused, {failed} failed"
+            )
+        };
     }
 }

@@ -1,10 +1,12 @@
 //! From the words of the command line to what they ask for.
 
 use crate::arguments::{
-    BACKUP, COLOR, DEPTH, DIFF, EXPRESSION, FILES, IN_PLACE, JSON, KEEP_GOING, NAME, NEW, NOTES,
-    NTH, OUTPUT, PROTOCOL, REFUSAL, SCRIPT, SESSION_FILE, TARGET, VARIABLE,
+    BACKUP, CHECK, COLOR, DEPTH, DIFF, EXPRESSION, FILES, FORCE_TEXT, IN_PLACE, JSON, KEEP_GOING,
+    NAME, NEW, NOTES, NTH, OUTPUT, PROTOCOL, REFUSAL, SCRIPT, SESSION_FILE, SUMMARY, TARGET,
+    VARIABLE,
 };
-use crate::commands::program_for;
+use crate::commands::{command_for, program_for};
+use crate::hints::hint;
 use crate::request::{
     Backup, Color, EditWords, Form, Input, Output, Query, QueryWords, Question, Request, Script,
     SessionWords,
@@ -142,50 +144,94 @@ fn backup_of<'a>(matches: &ArgMatches<'a>) -> Result<Backup<'a>, Fault> {
     }
 }
 
+// Where the text of each makefile goes in place, which goes with no other output.
+fn in_place<'a>(
+    matches: &ArgMatches<'_>,
+    backup: Backup<'a>,
+    files: &[Input<'_>],
+) -> Result<Output<'a>, Fault> {
+    if matches.get_flag(DIFF.id) {
+        return Err(Fault::Conflict("the argument '--diff' cannot be used with '--in-place'"));
+    }
+    if matches.get_str(OUTPUT.id).is_some() {
+        return Err(Fault::Conflict(
+            "the argument '--in-place' cannot be used with '--output <OUT>'",
+        ));
+    }
+    if !files.iter().all(is_named) {
+        return Err(Fault::Conflict(
+            "with '--in-place' FILE has to be the name of a file, and neither '-' nor left out",
+        ));
+    }
+    Ok(Output::InPlace(backup))
+}
+
+// That commands are tried goes with no output but a diff on standard output.
+fn check_conflict(matches: &ArgMatches<'_>) -> Result<(), Fault> {
+    if !matches.get_flag(CHECK.id) {
+        return Ok(());
+    }
+    if matches.get_flag(IN_PLACE.id) {
+        return Err(Fault::Conflict("the argument '--check' cannot be used with '--in-place'"));
+    }
+    if matches.get_str(OUTPUT.id).is_some() {
+        return Err(Fault::Conflict("the argument '--check' cannot be used with '--output <OUT>'"));
+    }
+    Ok(())
+}
+
 // Where the text of each makefile goes, or the diff of each.
 fn output_of<'a>(matches: &ArgMatches<'a>, files: &[Input<'_>]) -> Result<Output<'a>, Fault> {
     let backup = backup_of(matches)?;
-    let is_diff = matches.get_flag(DIFF.id);
-    let out = matches.get_str(OUTPUT.id);
+    check_conflict(matches)?;
     if matches.get_flag(IN_PLACE.id) {
-        return match out {
-            _ if is_diff => Err(Fault::Conflict(
-                "the argument '--diff' cannot be used with '--in-place'",
-            )),
-            Some(_) => Err(Fault::Conflict(
-                "the argument '--in-place' cannot be used with '--output <OUT>'",
-            )),
-            None if files.iter().all(is_named) => Ok(Output::InPlace(backup)),
-            None => Err(Fault::Conflict(
-                "with '--in-place' FILE has to be the name of a file, and neither '-' nor left out",
-            )),
-        };
+        return in_place(matches, backup, files);
     }
     if backup.0.is_some() {
         return Err(Fault::Conflict("'--backup <SUFFIX>' may stand beside '--in-place' alone"));
     }
-    match out {
-        None if is_diff => Ok(Output::Standard),
+    match matches.get_str(OUTPUT.id) {
+        None if matches.get_flag(DIFF.id) => Ok(Output::Standard),
+        None if matches.get_flag(CHECK.id) => Ok(Output::Nowhere),
         _ if files.len() > 1 => Err(Fault::Conflict(
-            "several FILEs may stand beside '--in-place', or beside '--diff' without '--output'",
+            "several FILEs may stand beside '--in-place' or '--check', or beside '--diff' without '--output'",
         )),
         None => Ok(Output::Standard),
         Some(name) => Ok(Output::File(name)),
     }
 }
 
-// What the words of `edit` ask for.
+// Whether a line at the end says how many makefiles were changed: a text that is printed is not compared
+// with its makefile.
+fn summary_of(matches: &ArgMatches<'_>, output: Output<'_>) -> Result<bool, Fault> {
+    let has_summary = matches.get_flag(SUMMARY.id);
+    match output {
+        Output::InPlace(_) | Output::Nowhere => Ok(has_summary),
+        Output::Standard if matches.get_flag(DIFF.id) => Ok(has_summary),
+        _ if has_summary => Err(Fault::Conflict(
+            "'--summary' may stand beside '--in-place' or '--check', or beside '--diff' without '--output'",
+        )),
+        _ => Ok(false),
+    }
+}
+
+// What the words of `edit` ask for. Where commands are tried, all of them are.
 fn edit_words<'a>(alloc: Global, matches: &ArgMatches<'a>) -> Result<EditWords<'a>, Fault> {
     let depth = depth_of(matches)?;
     let (script, files) = script_and_files(alloc, matches)?;
     let output = output_of(matches, files.as_slice())?;
+    let has_summary = summary_of(matches, output)?;
+    let (is_diff, is_check) = (matches.get_flag(DIFF.id), matches.get_flag(CHECK.id));
     Ok(EditWords {
-        keep_going: matches.get_flag(KEEP_GOING.id),
+        keep_going: matches.get_flag(KEEP_GOING.id) || is_check,
         depth,
         notes: matches.get_flag(NOTES.id),
         output,
-        is_diff: matches.get_flag(DIFF.id),
+        is_diff,
         color: color_of(matches)?,
+        wants_no_change: is_diff && is_check,
+        has_summary,
+        force_text: matches.get_flag(FORCE_TEXT.id),
         script,
         files,
     })
@@ -278,9 +324,10 @@ where
 /// asked for; a depth that is not written in decimal digits alone, or is not from 1 to 10,000;
 /// neither a script nor `-e`; a script and a makefile that are both standard input; a word that calls
 /// no refusal, or says no colours; a number of an assignment that is none; several makefiles without
-/// `-i` and without `--diff` to standard output; `-i` beside `-o`, beside `--diff` or without the name
-/// of a file; a suffix that is empty or has a `/`, or that stands without `-i`; a session over `-`. A
-/// query that `clap` takes fails for want of memory alone.
+/// `-i`, without `--check` and without `--diff` to standard output; `-i` beside `-o`, beside `--diff`,
+/// beside `--check` or without the name of a file; `--check` beside `-o`; a suffix that is empty or has
+/// a `/`, or that stands without `-i`; `--summary` where a text is printed; a session over `-`. A query
+/// that `clap` takes fails for want of memory alone.
 pub fn read_request<'a, R: FromStr + Drop>(
     alloc: Global,
     words: &'a [String],
@@ -289,14 +336,24 @@ where
     R::Err: Drop,
 {
     let mut program = program_for(alloc, words)?;
-    let matches = program.try_get_matches_from_mut(words)?;
-    match request_of(alloc, &matches) {
-        Ok(request) => Ok(request),
-        Err(Fault::NoMemory(error)) => Err(error.into()),
-        Err(Fault::Missing(text)) => {
-            Err(program.error(ErrorKind::MissingRequiredArgument, text)?)
-        }
-        Err(Fault::Conflict(text)) => Err(program.error(ErrorKind::ArgumentConflict, text)?),
-        Err(Fault::Invalid(text)) => Err(program.error(ErrorKind::ValueValidation, text)?),
+    let matches = match program.try_get_matches_from_mut(words) {
+        Ok(matches) => matches,
+        Err(error) if error.use_stderr() => match hint(alloc, words)? {
+            Some(text) => return Err(program.error(ErrorKind::InvalidSubcommand, text.as_str())?),
+            None => return Err(error),
+        },
+        Err(error) => return Err(error),
+    };
+    let (kind, text) = match request_of(alloc, &matches) {
+        Ok(request) => return Ok(request),
+        Err(Fault::NoMemory(error)) => return Err(error.into()),
+        Err(Fault::Missing(text)) => (ErrorKind::MissingRequiredArgument, text),
+        Err(Fault::Conflict(text)) => (ErrorKind::ArgumentConflict, text),
+        Err(Fault::Invalid(text)) => (ErrorKind::ValueValidation, text),
+    };
+    let mut command = command_for(alloc, words)?;
+    match hint(alloc, words)? {
+        Some(hint) => Err(command.error(kind, hint.as_str())?),
+        None => Err(command.error(kind, text)?),
     }
 }

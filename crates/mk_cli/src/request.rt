@@ -64,6 +64,8 @@ pub enum Output<'a> {
     File(&'a str),
     /// To the makefile itself, which is the old file or the new one at every moment.
     InPlace(Backup<'a>),
+    /// Nowhere: the commands are tried.
+    Nowhere,
 }
 
 /// Whether an old makefile is kept: what its second name has at its end, if it is. That is not empty,
@@ -97,11 +99,18 @@ pub struct EditWords<'a> {
     pub is_diff: bool,
     /// When that diff has colours.
     pub color: Color,
+    /// Whether a makefile that the script would change fails.
+    pub wants_no_change: bool,
+    /// Whether a line at the end says how many makefiles were changed, also for one and elsewhere than at a
+    /// terminal.
+    pub has_summary: bool,
+    /// Whether a script is edited too that stands among several makefiles.
+    pub force_text: bool,
     /// Where the commands come from.
     pub script: Script<'a>,
     /// The makefiles, one or more. Several stand only beside an output in place, beside which each is
-    /// the name of a file, and beside diffs to standard output. None is standard input where the
-    /// script is.
+    /// the name of a file, beside diffs to standard output, and where the commands are tried. None is
+    /// standard input where the script is.
     pub files: Vec<Input<'a>>,
 }
 

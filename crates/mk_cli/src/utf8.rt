@@ -38,7 +38,7 @@ impl Env for SystemWords<'_> {
 }
 
 /// The words of the command line, the program's name first. A word that is not UTF-8 is the name of no
-/// file, as [`is_utf8`] says of it.
+/// file, and [`tell_bad_words`] says so.
 ///
 /// # Errors
 ///
@@ -48,9 +48,21 @@ pub fn words(rt: &HostRuntime) -> io::Result<Vec<String>> {
     Ok(words.collect(rt.alloc())?)
 }
 
-/// Whether a word of the command line is UTF-8 there.
-pub fn is_utf8(word: &str) -> bool {
+// Whether a word of the command line is UTF-8 there.
+fn is_utf8(word: &str) -> bool {
     !word.contains(BAD)
+}
+
+/// Says which words of the command line are not UTF-8, and answers how many.
+pub fn tell_bad_words(rt: &HostRuntime, words: &[String]) -> usize {
+    let mut count: usize = 0;
+    for (number, word) in words.iter().enumerate() {
+        if !is_utf8(word) {
+            let _ = eprintln!(rt; "mkedit: word {number} of the command line is not UTF-8");
+            count = count.saturating_add(1);
+        }
+    }
+    count
 }
 
 // How many of some makefiles have a name that is not UTF-8.

@@ -1,4 +1,5 @@
 //! Notes: below a message, what the system said of a file or of a standard stream.
+ghost use Rattle.std.specs.Prelude.{◌≡◌};
 
 use std::io::ErrorKind;
 use std::{fmt, io};
@@ -26,6 +27,10 @@ pub enum Cause {
     Changed,
     /// It took no byte of a text.
     TookNothing,
+    /// It is longer than a text may be.
+    TooLong,
+    /// More conditionals are open in it than may be.
+    TooDeep,
 }
 
 /// What failed, and why.
@@ -35,6 +40,16 @@ pub struct SystemFault<'a> {
     pub name: &'a str,
     /// Why it failed.
     pub cause: Cause,
+}
+
+impl Cause {
+    /// That the file or stream of this name failed so.
+    pub fn of<'a>(self, name: &'a str) -> SystemFault<'a>
+        ensures name { result.name.now ≡ name.now }
+        ensures cause { result.cause ≡ self }
+    {
+        SystemFault { name, cause: self }
+    }
 }
 
 impl From<io::Error> for Cause {
@@ -53,16 +68,16 @@ fn said_by(kind: ErrorKind) -> &'static str {
         ErrorKind::AlreadyExists => "is there already",
         ErrorKind::ReadOnlyFilesystem => "the file system is read-only",
         ErrorKind::FilesystemLoop => "too many symbolic links",
-        ErrorKind::BrokenPipe => "the reader has left",
+        ErrorKind::BrokenPipe => "broken pipe",
         ErrorKind::StorageFull => "no space left",
         ErrorKind::QuotaExceeded => "the quota is used up",
         ErrorKind::FileTooLarge => "the file is too large",
-        ErrorKind::ResourceBusy => "is in use",
+        ErrorKind::ResourceBusy => "busy",
         ErrorKind::ExecutableFileBusy => "is a program that runs",
         ErrorKind::InvalidFilename => "the name is too long",
         ErrorKind::TooManyLinks => "too many links",
         ErrorKind::OutOfMemory => "no memory",
-        _ => "the system gave another cause",
+        _ => "unknown system error",
     }
 }
 
@@ -75,6 +90,8 @@ impl fmt::Display for Cause {
             Cause::NotRegular => ("", "is no regular file"),
             Cause::Changed => ("", "is another file than was read, or has other bytes"),
             Cause::TookNothing => ("", "takes nothing"),
+            Cause::TooLong => ("", "more than 16,777,216 bytes"),
+            Cause::TooDeep => ("", "more than 256 conditionals are open"),
         };
         write!(f, "{part}{said}")
     }

@@ -23,10 +23,7 @@ pub fn open<'a>(rt: &HostRuntime, name: &'a str) -> Result<File, SystemFault<'a>
 {
     match File::open(rt, name).and_then(beside_standard_streams) {
         Ok(file) => Ok(file),
-        Err(error) => Err(SystemFault {
-            name,
-            cause: Cause::NotOpened(error.kind()),
-        }),
+        Err(error) => Err(Cause::NotOpened(error.kind()).of(name)),
     }
 }
 

@@ -142,13 +142,15 @@ impl<'a, 'r> InPlaceFile<'a, 'r> {
     /// Why the makefile could not be written, if it has failed.
     pub fn fault(&self) -> Option<SystemFault<'a>> {
         if self.is_failed {
-            Some(SystemFault {
-                name: self.name,
-                cause: self.cause,
-            })
+            Some(self.cause.of(self.name))
         } else {
             None
         }
+    }
+
+    /// Whether the makefile has a new text.
+    pub fn is_replaced(&self) -> bool {
+        matches!(&self.committed, Some(Committed::Persisted(_)))
     }
 
     /// Takes the new file away where it does not have the makefile's name.

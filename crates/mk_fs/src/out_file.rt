@@ -41,10 +41,7 @@ impl<'a> OutFile<'a> {
     /// Why the file has failed, if it has.
     pub fn fault(&self) -> Option<SystemFault<'a>> {
         if self.is_failed {
-            Some(SystemFault {
-                name: self.name,
-                cause: self.cause,
-            })
+            Some(self.cause.of(self.name))
         } else {
             None
         }

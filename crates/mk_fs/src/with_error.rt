@@ -11,6 +11,7 @@ use std::io::{ErrorKind, Read, Write};
 pub struct WithError<D> {
     device: D,
     error: Option<ErrorKind>,
+    is_written: bool,
 }
 
 impl<D> WithError<D> {
@@ -21,6 +22,7 @@ impl<D> WithError<D> {
         WithError {
             device,
             error: None,
+            is_written: false,
         }
     }
 
@@ -29,10 +31,14 @@ impl<D> WithError<D> {
         self.error
     }
 
+    /// Whether the device took a byte.
+    pub fn is_written(&self) -> bool {
+        self.is_written
+    }
+
     /// Why a device of this name failed, if it answered an error.
     pub fn fault<'a>(&self, name: &'a str) -> Option<SystemFault<'a>> {
-        let cause = Cause::System(self.error?);
-        Some(SystemFault { name, cause })
+        Some(Cause::System(self.error?).of(name))
     }
 
     /// Why a write failed that has failed: without an error it took nothing.
@@ -71,6 +77,7 @@ impl<W: Write> Write for WithError<W> {
     fn write(&mut self, buf: &[u8]) -> io::Result<usize> {
         let answer = self.device.write(buf);
         self.keep(&answer);
+        self.is_written |= matches!(&answer, Ok(count) if *count > 0);
         answer
     }
 

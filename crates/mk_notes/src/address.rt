@@ -4,7 +4,7 @@ use crate::text::Notes;
 use mk_edit_language::Edit;
 use mk_edit_parts::address::{Address, address_of};
 use mk_edit_parts::seek::wanted;
-use mk_listing::{Position, assignments_of, rules_for};
+use mk_listing::{Position, RuleLine, assignments_of, rules_for};
 use mk_tree::Doc;
 use std::alloc::{AllocError, Allocator};
 
@@ -17,6 +17,20 @@ pub(crate) fn meant_by<A: Allocator>(edit: &Edit<A>) -> Option<Address<'_>> {
     }
 }
 
+/// The name or the target of an address.
+pub(crate) fn name_in<'a>(address: Address<'a>) -> &'a [u8] {
+    match address {
+        Address::Variable(_, name) | Address::Rule(_, name) => name,
+    }
+}
+
+/// The number of an address, if it has one.
+pub(crate) fn number_in(address: Address<'_>) -> Option<u32> {
+    match address {
+        Address::Variable(nth, _) | Address::Rule(nth, _) => nth,
+    }
+}
+
 /// The line of the number of an address, or the first one that it may mean if it has no number.
 pub(crate) fn line_of<A: Allocator>(doc: &Doc<A>, address: Address<'_>) -> Option<Position> {
     let passed = wanted(Some(address)).saturating_sub(1);
@@ -24,7 +38,21 @@ pub(crate) fn line_of<A: Allocator>(doc: &Doc<A>, address: Address<'_>) -> Optio
         Address::Variable(_, name) => assignments_of(doc, name)
             .nth(passed)
             .map(|line| line.position),
-        Address::Rule(_, target) => rules_for(doc, target).nth(passed).map(|line| line.position),
+        Address::Rule(..) => line_of_rule(doc, address).map(|line| line.position),
+    }
+}
+
+/// The rule of the number of an address, or the first one that it may mean if it has no number; none if it
+/// means no rule.
+pub(crate) fn line_of_rule<'a, A: Allocator>(
+    doc: &'a Doc<A>,
+    address: Address<'a>,
+) -> Option<RuleLine<'a, A>> {
+    match address {
+        Address::Variable(..) => None,
+        Address::Rule(_, target) => {
+            rules_for(doc, target).nth(wanted(Some(address)).saturating_sub(1))
+        }
     }
 }
 

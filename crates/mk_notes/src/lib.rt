@@ -1,7 +1,8 @@
-//! Hints on the edits of a run, as texts: the lines of the makefile that are the cause of a refusal, why an
-//! edit that was made may do nothing in make, and what is wrong with a line of the script.
+//! What is said to a person of the commands of a run, as texts: why one is refused, in a sentence and by the
+//! lines of the makefile that are the cause; why an edit that was made may do nothing in make; and what is
+//! wrong with a line of the script.
 //!
-//! - [`RunNotes`]: the notes on the edits of a run, those that were refused and those that were made.
+//! - [`RunNotes`]: the lines on the refusals of a run, and the notes on its edits.
 //! - [`script_mistake`], [`push_mistake`]: the note on a line of a script that is no command.
 //!
 //! A note is a line of text: the name of a file, mostly the number of a line in it, and what is said of
@@ -12,10 +13,17 @@
 //! - `branch`: the branch of a conditional in which a line stands, and the other branches.
 //! - `line`: what notes ask of one line.
 //! - `text`: the text of the notes.
+//! - `part`: sentences with names, texts and numbers in them.
 //! - `address`: the lines that an edit means.
+//! - `asked`: what an edit asks for.
+//! - `broken`: which rule a text breaks.
+//! - `bad_field`, `open_value`, `idle`: the sentences on a field that may not stand there, on a value that is
+//!   open, and on an edit that finds nothing to do.
+//! - `sentence`: the sentence of each refusal of an edit.
+//! - `error`: the line on a refusal.
 //! - `tally`: which words of a makefile may stand in several lines.
 //! - `run_notes`: the notes on the edits of a run, and how far they may walk.
-//! - `refused`: the notes on a refusal.
+//! - `refused`: the line on a refusal, and the notes below it.
 //! - `made`: the notes on an edit that was made.
 //! - `mistakes`: the notes on mistakes in a script.
 //!
@@ -23,15 +31,23 @@
 #![tactic(auto)]
 
 mod address;
+mod asked;
+mod bad_field;
 mod branch;
+mod broken;
+mod error;
+mod idle;
 mod line;
 mod made;
 mod mistakes;
+mod open_value;
+mod part;
 mod refused;
 mod run_notes;
+mod sentence;
 mod tally;
 mod text;
 
-pub use mistakes::{COMMAND_LINES, ScriptMistake, push_mistake, script_mistake};
+pub use mistakes::{ScriptMistake, is_command, push_mistake, script_mistake};
 pub use run_notes::RunNotes;
-pub use text::Names;
+pub use text::{COMMAND_LINES, Names};

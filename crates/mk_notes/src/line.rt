@@ -2,6 +2,7 @@
 
 use mk_class::{Class, Flavor};
 use mk_edit_parts::address::Address;
+use mk_edit_parts::text::is_prefix_name;
 use mk_script::spelling::are_alike;
 use mk_tree::Line;
 use std::alloc::Allocator;
@@ -48,6 +49,17 @@ pub(crate) fn gives_anew<A: Allocator>(line: &Line<A>, name: &[u8]) -> bool {
             it.flavor(),
             Flavor::Conditional | Flavor::Append
         ))
+}
+
+/// Whether a line sets the recipe prefix in a way that is not read.
+pub(crate) fn hides_prefix<A: Allocator>(line: &Line<A>) -> bool {
+    match line.class() {
+        Class::Assign(_, None) => line
+            .assignment()
+            .is_some_and(|it| is_prefix_name(it.name())),
+        Class::DefineHead(is_prefix) => is_prefix,
+        _ => false,
+    }
 }
 
 /// Whether a line is that of a rule for this target, or an assignment for it.

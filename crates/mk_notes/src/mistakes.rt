@@ -1,12 +1,11 @@
 //! The note on a line of a script that is no command: where in the line a mistake is, and what is wrong.
 
+use crate::text::before_number;
 use mk_escape::shown_name;
+use mk_script::table::command_form;
 use mk_script::{Mistake, MistakeCause, mistake_at, nearest_at};
 use std::alloc::{AllocError, Global};
 use std::fmt;
-
-/// What the lines of the command line are called, where they are the script.
-pub const COMMAND_LINES: &str = "-e";
 
 // What the table of commands calls a whole command, where it is the field of another one.
 const COMMAND: &str = "COMMAND";
@@ -32,7 +31,7 @@ impl fmt::Display for ScriptMistake<'_> {
         let field = missing_field(self.mistake.cause);
         let said = said_of(self.mistake.cause);
         match self.nearest {
-            Some(word) => write!(f, "{said}; the nearest is `{word}`"),
+            Some(word) => write!(f, "{said}; did you mean `{word}`?"),
             None => write!(f, "{field}{said}"),
         }
     }
@@ -42,7 +41,9 @@ impl fmt::Display for ScriptMistake<'_> {
 pub fn script_mistake<'a>(script: &'a str, text: &[u8], line: u64) -> Option<ScriptMistake<'a>> {
     let mistake = mistake_at(text, line)?;
     let nearest = match mistake.cause {
-        MistakeCause::UnknownCommand => nearest_at(text, line, mistake.column),
+        MistakeCause::UnknownCommand => {
+            nearest_at(text, line, mistake.column).or_else(|| usual_command(text, line))
+        }
         _ => None,
     };
     Some(ScriptMistake {
@@ -52,6 +53,30 @@ pub fn script_mistake<'a>(script: &'a str, text: &[u8], line: u64) -> Option<Scr
         nearest,
         exchanged: None,
     })
+}
+
+// The command that does what a line, from 1, asks for in words of a makefile or of other programs.
+fn usual_command(text: &[u8], line: u64) -> Option<&'static str> {
+    let before = usize::try_from(line).ok()?.checked_sub(1)?;
+    let line = text.split(|byte| *byte == b'\n').nth(before)?;
+    let mut words = line
+        .split(|byte| matches!(*byte, b' ' | b'\t'))
+        .filter(|word| !word.is_empty());
+    let (first, second) = (words.next()?, words.next());
+    match (first, second) {
+        (b"remove" | b"delete" | b"del" | b"rm", _) => Some("unset"),
+        (_, Some(b"=" | b":=" | b"::=" | b":::=" | b"?=")) => Some("set"),
+        (_, Some(b"+=")) => Some("append"),
+        _ => None,
+    }
+}
+
+/// Whether a name begins with a command: somebody may have left out `-e` before it.
+pub fn is_command(name: &str) -> bool {
+    match name.split_once(' ') {
+        Some((word, _)) => command_form(word.as_bytes()).is_some(),
+        None => false,
+    }
 }
 
 // The name of the field that is missing, before the words on it, if one is.
@@ -101,13 +126,14 @@ pub fn push_mistake(
     found: &ScriptMistake<'_>,
 ) -> Result<(), AllocError> {
     let script = shown_name(alloc, found.script)?;
+    let between = before_number(found.script);
     let (line, column) = (found.line, found.mistake.column);
-    writeln!(notes, "{script}:{line}:{column}: note: {found}")?;
+    writeln!(notes, "{script}{between}{line}:{column}: note: {found}")?;
     if let Some(makefile) = found.exchanged {
         let makefile = shown_name(alloc, makefile)?;
         writeln!(
             notes,
-            "{script}: note: this is no script, and {makefile} is one: they may be exchanged"
+            "{script}: note: this is not a script, but {makefile} is: did you swap SCRIPT and FILE?"
         )?;
     }
     Ok(())

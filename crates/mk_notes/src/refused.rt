@@ -1,29 +1,31 @@
-//! The notes on a refusal.
+//! The line on a refusal, and the notes below it.
 //!
 //! The numbers of lines are those of the document as it stands when the edit is refused: after
 //! accepted edits no other number would say where the next command looks.
 
 use crate::address::{line_of, meant_by};
 use crate::line::{has_target, is_hidden, is_near};
+use crate::open_value::is_open_to;
 use crate::run_notes::RunNotes;
 use crate::text::Notes;
 use mk_class::Class;
 use mk_edit_language::{Edit, Place, Refusal, ValueChange};
 use mk_edit_parts::address::{Address, address_of};
 use mk_edit_parts::lean::begins_with;
-use mk_edit_parts::text::has_word;
-use mk_edit_parts::value_words::bares_end;
-use mk_lines::is_closed;
 use mk_listing::{Position, assignments_of, numbered};
 use mk_tree::Doc;
 use std::alloc::{AllocError, Allocator};
 
 impl<C: Allocator + Copy> RunNotes<'_, C> {
-    /// The notes on a refusal of an edit, as a text: each line begins with the name of a file, mostly the
-    /// number of a line in it, and `note`. The document is the makefile as it stood when the edit was
-    /// refused; the numbers of lines are its own.
+    /// The line on a refusal of a command, and the notes below it, as a text: each line begins with the
+    /// name of a file and mostly the number of a line in it. The document is the makefile as it stood when
+    /// the command was refused; the numbers of lines are its own.
     ///
-    /// | Refusal | Notes on |
+    /// The line on the refusal goes on with `error`, what the command asks for, what is so, and the refusal
+    /// as reports name it: `use-clang:3: error: set LDFLAGS: config.mk assigns no LDFLAGS [4 NoSuch]`. A
+    /// command that is no edit has no notes. The others go on with `note`:
+    ///
+    /// | Refusal of an edit | Notes on |
     /// |---|---|
     /// | `Ambiguous` | the lines that fit the address, and what tells one of them; the line of the rule, if several of its recipe lines have the text |
     /// | `NoSuch` | if the number is too high, the lines of the name; otherwise the lines of other names that are spelled alike, and those that begin with the name and that no edit looks at |
@@ -45,12 +47,16 @@ impl<C: Allocator + Copy> RunNotes<'_, C> {
         &mut self,
         line: u64,
         doc: &Doc<A>,
-        edit: &Edit<B>,
+        edit: Option<&Edit<B>>,
         refusal: Refusal,
     ) -> Result<Vec<u8, C>, AllocError> {
         let mut notes = Notes::new(self.alloc, self.names, line, doc);
-        if self.refused.may_walk(&mut notes)? {
-            notes.on_refusal(edit, refusal)?;
+        notes.walks = self.refused.are_left();
+        notes.error(edit, refusal)?;
+        if let Some(edit) = edit {
+            if self.refused.may_walk(&mut notes)? {
+                notes.on_refusal(edit, refusal)?;
+            }
         }
         Ok(notes.into_text())
     }
@@ -136,7 +142,7 @@ impl<'a, A: Allocator, C: Allocator> Notes<'a, A, C> {
         let doc = self.doc;
         let near = numbered(doc).filter_map(|(at, line)| is_near(line, address).then_some(at));
         if self.lines(&[], near)? > 0 {
-            self.script(&[b"these names are spelled alike"])?;
+            self.script(&[b"did you mean one of these?"])?;
         }
         let hidden = numbered(doc).filter_map(|(at, line)| is_hidden(line, address).then_some(at));
         if self.lines(&[], hidden)? > 0 {
@@ -196,17 +202,6 @@ fn takes_all<A: Allocator>(edit: &Edit<A>) -> bool {
             | Edit::AddWord { .. }
             | Edit::RemoveWord { .. }
     )
-}
-
-// Whether a value does not let a change pass.
-fn is_open_to<A: Allocator>(value: &[u8], change: &ValueChange<A>) -> bool {
-    match change {
-        ValueChange::Set(_) | ValueChange::Append(_) => !is_closed(value),
-        ValueChange::Add(word) => !is_closed(value) && !has_word(value, word),
-        ValueChange::Remove(word) => {
-            has_word(value, word) && (!is_closed(value) || bares_end(value, word))
-        }
-    }
 }
 
 // The last line that begins a define.

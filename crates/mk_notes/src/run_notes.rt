@@ -52,13 +52,18 @@ impl Walks {
         }
     }
 
+    /// Whether one more walk may be taken.
+    pub(crate) fn are_left(&self) -> bool {
+        self.left > 0
+    }
+
     /// Whether the notes on one more edit may walk over its makefile. The first time that they may not, a
     /// note says so.
     pub(crate) fn may_walk<A: Allocator, B: Allocator>(
         &mut self,
         notes: &mut Notes<'_, A, B>,
     ) -> Result<bool, AllocError> {
-        if self.left > 0 {
+        if self.are_left() {
             self.left = self.left.saturating_sub(notes.doc.len().max(1));
             return Ok(true);
         }

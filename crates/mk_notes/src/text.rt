@@ -14,6 +14,9 @@ const MOST_LINES: usize = 10;
 /// How many bytes of a line's text a note shows at most.
 const MOST_BYTES: usize = 100;
 
+/// What the lines of the command line are called, where they are the script.
+pub const COMMAND_LINES: &str = "-e";
+
 /// What makefile and script are called in notes.
 #[derive(Clone, Copy)]
 pub struct Names<'a> {
@@ -23,12 +26,20 @@ pub struct Names<'a> {
     pub script: &'a str,
 }
 
+/// What stands between the name of a script and the number of a line in it. `-e` is no file: its lines are
+/// those of all `-e` together, and an editor is to open none.
+pub(crate) fn before_number(script: &str) -> &'static str {
+    if script == COMMAND_LINES { " " } else { ":" }
+}
+
 /// The notes on an edit, behind each other. Each call that puts a note fails with [`AllocError`] if a
 /// growth is refused.
 #[derive(Drop)]
 pub(crate) struct Notes<'a, A: Allocator, B: Allocator> {
     /// The document of whose lines the notes tell.
     pub doc: &'a Doc<A>,
+    /// Whether a sentence may walk over these lines.
+    pub walks: bool,
     names: Names<'a>,
     // The number of the line of the script, from 1.
     line: u64,
@@ -40,6 +51,7 @@ impl<'a, A: Allocator, B: Allocator> Notes<'a, A, B> {
     pub(crate) fn new(alloc: B, names: Names<'a>, line: u64, doc: &'a Doc<A>) -> Notes<'a, A, B> {
         Notes {
             doc,
+            walks: false,
             names,
             line,
             text: TextSink::new(alloc),
@@ -53,10 +65,16 @@ impl<'a, A: Allocator, B: Allocator> Notes<'a, A, B> {
 
     /// Puts a note on the line of the script.
     pub(crate) fn script(&mut self, said: &[&[u8]]) -> Result<(), AllocError> {
-        self.place(self.names.script, self.line)?;
+        self.script_line()?;
         self.push(&[b": note: "])?;
         self.push(said)?;
         self.push(&[b"\n"])
+    }
+
+    /// Puts the name of the script and the number of the line in it.
+    pub(crate) fn script_line(&mut self) -> Result<(), AllocError> {
+        let script = self.names.script;
+        self.place(script, before_number(script), self.line)
     }
 
     /// Puts a note on a line of the makefile, if there is one: the front of its text, what it is, and the
@@ -68,7 +86,7 @@ impl<'a, A: Allocator, B: Allocator> Notes<'a, A, B> {
         let Some(line) = self.doc.get(at.index) else {
             return Ok(());
         };
-        self.place(self.names.makefile, at.number as u64)?;
+        self.place(self.names.makefile, ":", at.number as u64)?;
         self.push(&[b": note: "])?;
         self.excerpt(line.text())?;
         self.push(&[kind(line).as_bytes()])?;
@@ -116,7 +134,7 @@ impl<'a, A: Allocator, B: Allocator> Notes<'a, A, B> {
         if count > MOST_LINES {
             let mut digits = itoa::Buffer::new();
             let more = digits.format(count - MOST_LINES).as_bytes();
-            self.escape(self.names.makefile.as_bytes(), Layout::Escaped)?;
+            self.makefile()?;
             self.push(&[b": note: and ", more, b" more\n"])?;
         }
         Ok(count)
@@ -133,28 +151,37 @@ impl<'a, A: Allocator, B: Allocator> Notes<'a, A, B> {
         self.push(&[b"   (in `"])?;
         self.excerpt(line.text())?;
         self.push(&[b"`, "])?;
-        self.place(self.names.makefile, start.line.number as u64)?;
+        self.place(self.names.makefile, ":", start.line.number as u64)?;
         self.push(&[b")"])
     }
 
     // Puts the front of a line's text, without the blanks before it.
     fn excerpt(&mut self, text: &[u8]) -> Result<(), AllocError> {
-        let text = after_blanks(text);
+        self.front(after_blanks(text))
+    }
+
+    /// Puts the front of a text.
+    pub(crate) fn front(&mut self, text: &[u8]) -> Result<(), AllocError> {
         match text.split_at_checked(MOST_BYTES) {
             Some((front, rest)) if !rest.is_empty() => self.push(&[front, b"..."]),
             _ => self.push(&[text]),
         }
     }
 
-    // Puts the name of a file and the number of a line in it.
-    fn place(&mut self, file: &str, number: u64) -> Result<(), AllocError> {
-        let mut digits = itoa::Buffer::new();
-        self.escape(file.as_bytes(), Layout::Escaped)?;
-        self.push(&[b":", digits.format(number).as_bytes()])
+    /// Puts the name of the makefile.
+    pub(crate) fn makefile(&mut self) -> Result<(), AllocError> {
+        self.escape(self.names.makefile.as_bytes(), Layout::Escaped)
     }
 
-    // Puts some texts, one after the other, of which some may be from the makefile or the script.
-    fn push(&mut self, parts: &[&[u8]]) -> Result<(), AllocError> {
+    // Puts the name of a file and the number of a line in it, with a text between the two.
+    fn place(&mut self, file: &str, between: &str, number: u64) -> Result<(), AllocError> {
+        let mut digits = itoa::Buffer::new();
+        self.escape(file.as_bytes(), Layout::Escaped)?;
+        self.push(&[between.as_bytes(), digits.format(number).as_bytes()])
+    }
+
+    /// Puts some texts, one after the other, of which some may be from the makefile or the script.
+    pub(crate) fn push(&mut self, parts: &[&[u8]]) -> Result<(), AllocError> {
         for part in parts {
             self.escape(part, Layout::Kept)?;
         }

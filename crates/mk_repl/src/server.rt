@@ -54,6 +54,8 @@ pub struct Server<'a> {
     command_log: CommandLog,
     // Whether the last request was a `quit` that was not done.
     is_warned: bool,
+    // Whether a request has ended the session.
+    is_over: bool,
 }
 
 /// What came of a request.
@@ -117,6 +119,7 @@ impl<'a> Server<'a> {
             is_missing,
             command_log: CommandLog::new(rt.alloc(), words.depth as usize),
             is_warned: false,
+            is_over: false,
         })
     }
 
@@ -373,6 +376,16 @@ impl<'a> Server<'a> {
         }
     }
 
+    /// Whether a request has ended the session.
+    pub fn is_over(&self) -> bool {
+        self.is_over
+    }
+
+    /// Whether the session has changes that are not in the makefile, and no request has said to drop them.
+    pub fn is_unwritten(&self) -> bool {
+        !self.is_over && self.quit().is_err()
+    }
+
     // The commands and the requests, for a person.
     fn commands(&self) -> Result<Vec<u8>, NotDone> {
         Ok(Vec::from_slice(self.rt.alloc(), HELP.as_bytes())?)
@@ -485,6 +498,7 @@ impl<'a> Server<'a> {
         let answer = self.done(request);
         self.is_warned = matches!(request, Request::Word(RequestWord::Quit));
         let after = after_request(request, answer.is_ok());
+        self.is_over = after == After::Ends;
         Asked { answer, after }
     }
 }

@@ -45,8 +45,6 @@ struct Terminal<'a> {
     shown: Vec<u8>,
     // Whether a diff has colours.
     has_color: bool,
-    // Whether a request has ended the session.
-    is_over: bool,
 }
 
 impl<'a> Terminal<'a> {
@@ -60,7 +58,6 @@ impl<'a> Terminal<'a> {
             name,
             shown,
             has_color,
-            is_over: false,
         })
     }
 
@@ -141,9 +138,7 @@ impl<'a> Terminal<'a> {
 
     // The answer to a request, and a line end behind it where it has none.
     fn answer(&mut self, request: Request<'_>) -> Result<Vec<u8>, NotDone> {
-        let asked = self.server.ask(request);
-        self.is_over = asked.after == After::Ends;
-        let text = asked.answer?;
+        let text = self.server.ask(request).answer?;
         match request {
             Request::Word(RequestWord::Write | RequestWord::WriteAnyway)
             | Request::Of(RequestOf::Write, _) => self.written(self.server.file_of(request)),
@@ -183,7 +178,11 @@ impl<'a> Terminal<'a> {
 
     // What is said of a line that is no command.
     fn said_of_other(&mut self, line: &[u8]) -> Result<Vec<u8>, NotDone> {
-        match read_request(line) {
+        let request = match read_request(line) {
+            Some(request) => Some(request),
+            None => usual_request(line),
+        };
+        match request {
             Some(request) => self.said_of(request),
             None => {
                 self.server.forget_quit();
@@ -215,7 +214,7 @@ impl<'a> Terminal<'a> {
         ensures works { OnOk result (W.failed out.new ≡ false) }
     {
         let text = text_said(&said);
-        if self.is_over {
+        if self.server.is_over() {
             write_all(out, text)?;
             return Ok(After::Ends);
         }
@@ -231,6 +230,16 @@ impl<'a> Terminal<'a> {
         let said = self.said_of(Request::Word(RequestWord::Quit));
         write_parts(out, &[b"\n", text_said(&said)])?;
         out.flush()
+    }
+}
+
+// The request that a word of other programs means.
+fn usual_request<'a>(line: &[u8]) -> Option<Request<'a>> {
+    match line.trim_ascii() {
+        b"save" | b"w" => Some(Request::Word(RequestWord::Write)),
+        b"exit" | b"q" => Some(Request::Word(RequestWord::Quit)),
+        b"q!" => Some(Request::Word(RequestWord::QuitAnyway)),
+        _ => None,
     }
 }
 
@@ -269,7 +278,7 @@ fn serve_once<S: ByteSource, W: ByteSink>(
     ensures works { OnOk result (W.failed out.new ≡ false) }
 {
     serve(terminal.server.runtime().alloc(), source, terminal, out)?;
-    if terminal.is_over {
+    if terminal.server.is_over() {
         return Ok(());
     }
     terminal.end(out)?;
@@ -294,7 +303,7 @@ pub fn serve_at_terminal<S: ByteSource, W: ByteSink>(
     let mut terminal = Terminal::open(server, has_color)?;
     for _ in 0..u64::MAX {
         serve_once(&mut terminal, source, out)?;
-        if terminal.is_over {
+        if terminal.server.is_over() {
             mem::forget(terminal);
             return Ok(());
         }

@@ -7,11 +7,12 @@ use Rattle.mk_cli.specs.declared.request.Output.{Output}
 use Rattle.mk_cli.specs.declared.request.Output.TheVariants as output
 use Rattle.mkedit.specs.declared.destination.Destination.{Destination}
 use Rattle.mkedit.specs.declared.destination.Destination.TheVariants.{InPlace, Printed}
-use Rattle.mkedit.specs.declared.destination.Printed.TheVariants.{Standard, File}
+use Rattle.mkedit.specs.declared.destination.Printed.TheVariants.{Standard, File, Nowhere}
 
 abbrev pub destination_of : Output → Input → Destination
 destination_of output.Standard file = Printed Standard
 destination_of (output.File name) file = Printed (File name)
+destination_of output.Nowhere file = Printed Nowhere
 destination_of (output.InPlace backup) (input.File name) = InPlace name backup.0
 destination_of (output.InPlace backup) input.Standard = Printed Standard
 

@@ -14,6 +14,8 @@ pub enum Printed<'a> {
     Standard,
     /// In the file of this name, which is written in place of what it has.
     File(&'a str),
+    /// Nowhere: the commands are tried.
+    Nowhere,
 }
 
 /// Where the text of a makefile goes.
@@ -34,6 +36,7 @@ pub fn destination_of<'a>(output: Output<'a>, file: Input<'a>) -> Destination<'a
     match (output, file) {
         (Output::Standard, _) => Destination::Printed(Printed::Standard),
         (Output::File(name), _) => Destination::Printed(Printed::File(name)),
+        (Output::Nowhere, _) => Destination::Printed(Printed::Nowhere),
         (Output::InPlace(Backup(suffix)), Input::File(name)) => Destination::InPlace(name, suffix),
         (Output::InPlace(_), Input::Standard) => Destination::Printed(Printed::Standard),
     }

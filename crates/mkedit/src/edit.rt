@@ -7,21 +7,20 @@ ghost use Rattle.std.specs.Prelude.{IfOk};
 ghost use Rattle.mk_session.specs.Sessions.{IsBadDepth};
 
 use crate::destination::{Makefile, open_makefile};
-use crate::ending::{End, ended};
-use crate::exchanged::with_exchanged;
-use crate::input::{names_of, open_script, script_name};
-use crate::observer::NotesBelow;
-use crate::run::{Run, run_over};
+use crate::ending::{BAD_COMMAND_LINE, Effect, End, UNWANTED_CHANGE, ended};
+use crate::exchanged::{tell_script, with_exchanged};
+use crate::input::{open_script, script_name};
+use crate::run::{Run, run_over, run_with_notes};
 use crate::several::edit_each;
-use mk_cli::{EditWords, Input};
+use mk_cli::{EditWords, Input, Summary};
 use mk_fs::{Stream, WithError};
 use mk_history::history::is_bad_depth;
+use mk_lines::sink::write_all;
 use mk_lines::source::read_all;
 use mk_lines::{StdSink, StdSource};
 use mk_notes::script_mistake;
-use mk_run::{Outcome, Step, read_script};
+use mk_run::{Outcome, Step, read_script, status};
 use std::alloc::Global;
-use std::io::Stderr;
 use std::process::ExitCode;
 
 // The command line takes the depths that a history has.
@@ -59,25 +58,17 @@ fn read_steps<'a>(
     let text = match read_all(alloc, &mut StdSource::new(&mut device)) {
         Ok(text) => text,
         Err(fault) => {
-            return Err(End::from(fault).with_fault(device.fault(script_name(&words.script))));
+            let name = script_name(&words.script);
+            return Err(
+                End::from(fault)
+                    .with_fault(device.fault(name))
+                    .with_limit(name),
+            );
         }
     };
     match read_script(alloc, &mut StdSource::new(text.as_slice())) {
         Ok(steps) => Ok(steps),
         Err(outcome) => Err(end_of_script(rt, words, text.as_slice(), outcome)),
-    }
-}
-
-// The observer that writes notes below the lines on refusals, if there are notes.
-fn notes_below<'a>(
-    rt: &HostRuntime,
-    words: &EditWords<'a>,
-    file: Input<'a>,
-) -> Option<NotesBelow<'a, Stderr, Global>> {
-    if words.notes {
-        Some(NotesBelow::new(rt.alloc(), names_of(words, file), rt.stderr()))
-    } else {
-        None
     }
 }
 
@@ -104,12 +95,38 @@ pub fn edit<'a>(rt: &'a HostRuntime, words: &EditWords<'a>) -> ExitCode {
         Ok(ready) => ready,
         Err(end) => return ended(rt, &end, words.notes),
     };
+    if tell_script(rt, words) {
+        return ExitCode::from(BAD_COMMAND_LINE);
+    }
     let run = Run::new(rt.alloc(), words, steps.as_slice());
     let Some((file, makefile)) = alone else {
         return edit_each(rt, words, run);
     };
-    let report = &mut StdSink::new(rt.stderr());
-    let observer = &mut notes_below(rt, words, file);
-    let end = run_over(rt, words, run, file, makefile, report, observer);
-    ended(rt, &end, words.notes)
+    let end = if words.notes {
+        let (end, said) = run_with_notes(rt, words, run, file, makefile);
+        match write_all(&mut StdSink::new(rt.stderr()), said.as_slice()) {
+            Ok(()) => end,
+            Err(fault) => End::from(fault),
+        }
+    } else {
+        run_over(
+            rt,
+            words,
+            run,
+            file,
+            makefile,
+            &mut StdSink::new(rt.stderr()),
+            &mut (),
+        )
+    };
+    let code = ended(rt, &end, words.notes);
+    if words.has_summary {
+        let mut summary = Summary::new();
+        summary.add(status(&end.outcome), end.effect != Effect::Unchanged);
+        summary.show(rt);
+    }
+    match end.effect {
+        Effect::Unwanted if end.outcome == Outcome::Done => ExitCode::from(UNWANTED_CHANGE),
+        _ => code,
+    }
 }

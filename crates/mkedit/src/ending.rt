@@ -1,5 +1,5 @@
 //! How the program ends: a message on standard error, and the status.
-ghost use Rattle.std.specs.Prelude.{◌≡◌, ◌≢◌, ◌++◌, [], IfErr, OnOk, false, max, string_bytes};
+ghost use Rattle.std.specs.Prelude.{◌≡◌, ◌≢◌, ◌++◌, [], IfErr, OnOk, false, if◌then◌else◌, max, string_bytes};
 ghost use Rattle.std.specs.Io.KnownBytes.{Appends};
 ghost use Rattle.std.specs.Process.{exit_status};
 ghost use Rattle.clap.specs.Values.{kind_of};
@@ -12,13 +12,16 @@ use mk_escape::{Layout, shown_name, write_escaped, write_name};
 use mk_fs::{Cause, SystemFault};
 use mk_lines::sink::write_all;
 use mk_lines::{ByteSink, Fault, StdSink};
-use mk_notes::{ScriptMistake, push_mistake};
+use mk_notes::{ScriptMistake, is_command, push_mistake};
 use mk_run::{Outcome, message, status};
 use std::alloc::{AllocError, Global};
 use std::process::ExitCode;
 
 /// The status of a bad command line.
 pub const BAD_COMMAND_LINE: u8 = 2;
+
+/// The status where a script would change a makefile that it is not to change.
+pub const UNWANTED_CHANGE: u8 = 1;
 
 /// How a run or a query ended.
 #[derive(Clone, Copy)]
@@ -29,6 +32,19 @@ pub struct End<'a> {
     pub fault: Option<SystemFault<'a>>,
     /// What is wrong with the line of the script that is no command, if that is known.
     pub mistake: Option<ScriptMistake<'a>>,
+    /// What the run did.
+    pub effect: Effect,
+}
+
+/// What a run did to the text of its makefile. Of a text that is printed it says nothing.
+#[derive(Clone, Copy, Debug, PartialEq, Eq)]
+pub enum Effect {
+    /// It left the text as it was.
+    Unchanged,
+    /// It changed the text, or would change it.
+    Changed,
+    /// It would change the text, where nothing is to change.
+    Unwanted,
 }
 
 impl<'a> End<'a> {
@@ -40,6 +56,7 @@ impl<'a> End<'a> {
             outcome,
             fault: None,
             mistake: None,
+            effect: Effect::Unchanged,
         }
     }
 
@@ -64,11 +81,40 @@ impl<'a> End<'a> {
         }
     }
 
+    /// The same end, with the limit that the file of this name is beyond, if it ended so.
+    pub fn with_limit(self, name: &'a str) -> End<'a>
+        ensures { result.outcome ≡ self.entry.outcome }
+    {
+        match self.outcome {
+            Outcome::TooLong => self.with_fault(Some(Cause::TooLong.of(name))),
+            Outcome::TooDeep => self.with_fault(Some(Cause::TooDeep.of(name))),
+            _ => self,
+        }
+    }
+
+    /// The same end, of what was written into memory: a sink of memory fails for want of memory alone.
+    pub fn kept(self, is_failed: bool) -> End<'a>
+        ensures { result.outcome ≡ (if is_failed then Outcome.NoMemory else self.entry.outcome) }
+    {
+        if is_failed {
+            End::of(Outcome::NoMemory)
+        } else {
+            self
+        }
+    }
+
     /// The same end, with this mistake of the script.
     pub fn with_mistake(self, mistake: Option<ScriptMistake<'a>>) -> End<'a>
         ensures { result.outcome ≡ self.entry.outcome }
     {
         End { mistake, ..self }
+    }
+
+    /// The same end, of a run that did this.
+    pub fn with_effect(self, effect: Effect) -> End<'a>
+        ensures { result.outcome ≡ self.entry.outcome }
+    {
+        End { effect, ..self }
     }
 
     // The notes on its fault and on its mistake.
@@ -78,6 +124,9 @@ impl<'a> End<'a> {
             let name = &shown_name(alloc, fault.name)?;
             let cause = fault.cause;
             writeln!(notes, "{name}: note: {cause}")?;
+            if is_command(fault.name) {
+                writeln!(notes, "{name}: note: -e goes before a command")?;
+            }
         }
         if let Some(found) = &self.mistake {
             push_mistake(alloc, &mut notes, found)?;
@@ -170,14 +219,6 @@ pub fn ended(rt: &HostRuntime, end: &End<'_>, notes: bool) -> ExitCode
     let below = notes_on(rt.alloc(), end, notes);
     let mut errors = StdSink::new(rt.stderr());
     told(end, below.as_bytes(), &mut errors)
-}
-
-/// Says how a run or a query ended, early or not, and answers its status.
-pub fn finished(rt: &HostRuntime, end: Result<End<'_>, End<'_>>, notes: bool) -> ExitCode {
-    match end {
-        Ok(end) => ended(rt, &end, notes),
-        Err(end) => ended(rt, &end, notes),
-    }
 }
 
 /// The greatest of some statuses.

@@ -1,4 +1,5 @@
-//! Whether SCRIPT and FILE may be exchanged: SCRIPT is no script, and FILE is one.
+//! Whether a script stands where a makefile should: SCRIPT and FILE may be exchanged, or one of several
+//! FILEs is a script too.
 //!
 //! A line of a makefile is almost never a command of a script, so a file that is a script
 //! throughout is no makefile. Whether SCRIPT reads as a makefile is not asked: every text does.
@@ -6,8 +7,9 @@ ghost use Rattle.std.specs.Prelude.{◌≡◌, false};
 
 use crate::ending::End;
 use mk_cli::{EditWords, Input, Script};
+use mk_escape::write_name;
 use mk_fs::{is_regular, open};
-use mk_lines::{ByteSource, StdSource};
+use mk_lines::{ByteSource, StdSink, StdSource};
 use mk_notes::ScriptMistake;
 use mk_run::read_script;
 use std::alloc::Allocator;
@@ -55,4 +57,25 @@ pub fn with_exchanged<'a>(rt: &HostRuntime, words: &EditWords<'a>, end: End<'a>)
         exchanged: Some(*name),
         ..found
     }))
+}
+
+/// Says on standard error which of several makefiles is a script, if one is: it would be edited as a
+/// makefile, where its commands were to be executed.
+pub fn tell_script(rt: &HostRuntime, words: &EditWords<'_>) -> bool {
+    let files = words.files.as_slice();
+    if words.force_text || files.len() < 2 {
+        return false;
+    }
+    for file in files {
+        if let Input::File(name) = *file {
+            if is_script_file(rt, name) {
+                let name = name.as_bytes();
+                let told =
+                    b" is a script: there is one SCRIPT alone, unless --force-text makes it a FILE\n";
+                let _ = write_name(&mut StdSink::new(rt.stderr()), b"mkedit: ", name, told);
+                return true;
+            }
+        }
+    }
+    false
 }

@@ -3,19 +3,17 @@
 //!
 //! - `edit`: a script over makefiles; `run`: over one of them, by [`mk_run::run_steps`].
 //! - `diff`: the diff of a makefile and its text, in place of that text, by [`mk_diff`].
-//! - `color`: when that diff has colours.
 //! - `input`: what is read, and what it is called; `destination`: where the text of a makefile goes.
 //! - `several`: what is said of one of several makefiles; `named`: lines that begin with its name.
 //! - `query`: what a makefile has, by [`mk_repl::found_for`].
 //! - `exchanged`: whether script and makefile may be exchanged.
-//! - `observer`: the observers of a run that write the notes on its edits, or keep them, by [`mk_notes`].
+//! - `observer`: the observer of a run that keeps, for a person, what [`mk_notes`] says of its commands.
 //! - `ending`: the message and the status.
 //! - `session`: a makefile that is edited step by step, by [`mk_repl`].
 #![tactic(auto)]
 
 ghost use Rattle.std.specs.Prelude.{◌≡◌, true};
 
-mod color;
 mod destination;
 mod diff;
 mod edit;
@@ -31,25 +29,13 @@ mod several;
 
 use ending::{BAD_COMMAND_LINE, End, answered, ended, printed};
 use mk_cli::{
-    CalledRefusal, Request, asked_command, bad_files, is_utf8, put_explanation, put_help,
-    read_request, words,
+    CalledRefusal, Request, asked_command, bad_files, put_explanation, put_help, read_request,
+    tell_bad_words, words,
 };
 use mk_lines::StdSink;
 use mk_run::Outcome;
 use std::io::IsTerminal;
 use std::process::ExitCode;
-
-// Says which words of the command line are not UTF-8, and answers how many.
-fn tell_bad_words(rt: &HostRuntime, words: &[String]) -> usize {
-    let mut count: usize = 0;
-    for (number, word) in words.iter().enumerate() {
-        if !is_utf8(word) {
-            let _ = eprintln!(rt; "mkedit: word {number} of the command line is not UTF-8");
-            count = count.saturating_add(1);
-        }
-    }
-    count
-}
 
 // Whether messages have notes: where they are asked for, and at a terminal.
 fn has_notes(rt: &HostRuntime, asked: bool) -> bool

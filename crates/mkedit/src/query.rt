@@ -17,9 +17,9 @@ ghost use Rattle.mk_run.specs.RunEnds.{PutsOut, PutsOutIf, ReadsOnce};
 ghost use Rattle.mk_repl.specs.QueryTexts.{IsSaid, answer_refusal, answer_text, found_text, has_prefix, query_outcome};
 ghost use Rattle.mkedit.specs.Destinations.{name_of};
 
-use crate::ending::{End, Statuses, finished};
+use crate::ending::{Effect, End, Statuses, ended};
 use crate::input::{input_name, name_of, open_input};
-use crate::several::{Told, kept_outcome, put_named, tell_named, tell_unopened};
+use crate::several::{Told, put_named, tell_named, tell_unopened};
 use mk_cli::{Form, Input, Progress, Question};
 use mk_escape::{Layout, escaped, shown_text};
 use mk_fs::{STANDARD_OUTPUT, SystemFault, WithError};
@@ -209,9 +209,9 @@ fn put_shown<W: ByteSink>(
     match shown.prefix {
         Some(name) if shown.is_terminal => {
             let name = escaped(alloc, name.as_bytes(), Layout::Escaped)?;
-            put_named(alloc, name.as_slice(), answer.as_slice(), &[], b"", out)?;
+            put_named(alloc, name.as_slice(), answer.as_slice(), b"", out)?;
         }
-        Some(name) => put_named(alloc, name.as_bytes(), answer.as_slice(), &[], b"", out)?,
+        Some(name) => put_named(alloc, name.as_bytes(), answer.as_slice(), b"", out)?,
         None => write_all(out, answer.as_slice())?,
     }
     ByteSink::flush(out)
@@ -235,7 +235,7 @@ fn print_shown<R: ByteSource, W: ByteSink, P: ByteSink>(
     let mut text = Vec::new(alloc);
     let mut kept = StdSink::new(&mut text);
     let outcome = print(alloc, question, file, makefile, &mut kept, report);
-    match kept_outcome(outcome, kept.failed()) {
+    match End::of(outcome).kept(kept.failed()).outcome {
         Outcome::Done => match put_shown(alloc, shown, text, out) {
             Ok(()) => Outcome::Done,
             Err(fault) => Outcome::from(fault),
@@ -270,7 +270,9 @@ fn end_of_query<'a, R, W>(
     out: &WithError<W>,
 ) -> Asked<'a> {
     let is_left = matches!(out.error(), Some(ErrorKind::BrokenPipe));
-    let end = End::of(query_outcome(outcome, is_left)).with_fault(makefile.fault(name));
+    let end = End::of(query_outcome(outcome, is_left))
+        .with_fault(makefile.fault(name))
+        .with_limit(name);
     if is_left {
         return Asked { end, is_left };
     }
@@ -336,12 +338,10 @@ fn ask_named(
         Ok(asked) => asked,
         Err(fault) => return tell_unopened(rt, progress, fault, notes),
     };
-    let end = End {
-        outcome: kept_outcome(asked.end.outcome, lines.failed()),
-        ..asked.end
-    };
+    let end = asked.end.kept(lines.failed());
     Told {
-        status: tell_named(rt, progress, file, &mut report, &[], &end, notes),
+        status: tell_named(rt, progress, file, b"", &mut report, &end, notes),
+        effect: Effect::Unchanged,
         is_left: asked.is_left,
     }
 }
@@ -367,21 +367,15 @@ fn ask_each(
     statuses.code()
 }
 
-// Answers what one makefile is asked for, and says how that ended.
-fn ask_alone<'a>(
-    rt: &HostRuntime,
-    question: Question<'_>,
-    file: Input<'a>,
-) -> Result<End<'a>, End<'a>> {
-    let mut report = StdSink::new(rt.stderr());
-    Ok(ask_one(rt, question, None, file, &mut report)?.end)
-}
-
 /// Answers what the makefiles are asked for, on standard output, and answers the status. Where nobody
 /// reads that to its end, it ends as where all was read.
 pub fn ask(rt: &HostRuntime, question: Question<'_>, files: &[Input<'_>], notes: bool) -> ExitCode {
-    match files {
-        [file] => finished(rt, ask_alone(rt, question, *file), notes),
-        files => ask_each(rt, question, files, notes),
-    }
+    let [file] = files else {
+        return ask_each(rt, question, files, notes);
+    };
+    let end = match ask_one(rt, question, None, *file, &mut StdSink::new(rt.stderr())) {
+        Ok(asked) => asked.end,
+        Err(fault) => End::from(fault),
+    };
+    ended(rt, &end, notes)
 }

@@ -5,12 +5,13 @@ ghost use Rattle.mk_script.specs.Scripts.{step_of};
 ghost use Rattle.mk_run.specs.RunEnds.{IsRunOver, TellsFaults, written};
 ghost use Rattle.mk_run.specs.RunSteps.{GivesSteps};
 
-use crate::color::has_color;
 use crate::destination::{Makefile, Printed};
 use crate::diff::{DiffForm, diff_name, run_diff};
-use crate::ending::End;
-use crate::input::input_name;
-use mk_cli::{EditWords, Input};
+use crate::ending::{Effect, End};
+use crate::input::{input_name, names_of};
+use crate::observer::NotesKept;
+use mk_cli::{EditWords, Input, has_color};
+use mk_escape::TextSink;
 use mk_fs::{AsRead, Expected, InPlaceFile, OutFile, STANDARD_OUTPUT, WithError};
 use mk_lines::source::read_all;
 use mk_lines::{ByteSink, ByteSource, StdSink, StdSource};
@@ -138,9 +139,47 @@ where
     });
     let mut out = InPlaceFile::new(rt, name, expected, suffix);
     let outcome = run_to(run, &mut StdSource::new(text), &mut out, report, observer);
-    let end = End::of(outcome).with_fault(out.fault());
+    let effect = effect_of(out.is_replaced(), false);
+    let end = End::of(outcome).with_fault(out.fault()).with_effect(effect);
     out.close();
     end
+}
+
+// What a run did, whose text is another than the makefile's or not.
+fn effect_of(is_changed: bool, is_unwanted: bool) -> Effect {
+    match (is_changed, is_unwanted) {
+        (false, _) => Effect::Unchanged,
+        (true, false) => Effect::Changed,
+        (true, true) => Effect::Unwanted,
+    }
+}
+
+// Runs over a makefile, and puts no text out. Answers also whether the text would be another.
+fn try_out<R, P, T>(
+    run: Run<'_>,
+    makefile: &mut R,
+    report: &mut P,
+    observer: &mut T,
+) -> (Outcome, bool)
+where
+    R: ByteSource,
+    P: ByteSink,
+    T: Observer<Global>,
+    requires makefile_works { R.failed makefile.old ≡ false }
+    requires report_works { P.failed report.old ≡ false }
+    requires depth { IsBadDepth run.depth → ⊥ }
+{
+    let old = match read_all(run.alloc, makefile) {
+        Ok(old) => old,
+        Err(fault) => return (Outcome::from(fault), false),
+    };
+    let mut text = TextSink::new(run.alloc);
+    let mut source = StdSource::new(old.as_slice());
+    let outcome = run_to(run, &mut source, &mut text, report, observer);
+    if text.is_failed {
+        return (Outcome::NoMemory, false);
+    }
+    (outcome, text.text.as_slice() != old.as_slice())
 }
 
 /// Runs over a makefile that is open, and puts the text, or its diff, where it goes.
@@ -162,7 +201,8 @@ where
     let (stream, to) = match makefile {
         Makefile::Printed(stream, to) => (stream, to),
         Makefile::InPlace(makefile, name, suffix) => {
-            return replace(rt, run, &makefile, name, suffix, report, observer);
+            let end = replace(rt, run, &makefile, name, suffix, report, observer);
+            return end.with_limit(name);
         }
     };
     let mut device = WithError::new(stream);
@@ -185,8 +225,34 @@ where
                 Some(form) => run_diff(run, form, source, &mut out, report, observer),
                 None => run_to(run, source, &mut out, report, observer),
             };
-            End::of(outcome).with_fault(stdout.fault(STANDARD_OUTPUT))
+            let effect = effect_of(stdout.is_written(), words.wants_no_change);
+            End::of(outcome)
+                .with_fault(stdout.fault(STANDARD_OUTPUT))
+                .with_effect(effect)
+        }
+        Printed::Nowhere => {
+            let (outcome, is_changed) = try_out(run, source, report, observer);
+            End::of(outcome).with_effect(effect_of(is_changed, false))
         }
     };
-    end.with_fault(device.fault(input_name(file)))
+    let name = input_name(file);
+    end.with_fault(device.fault(name)).with_limit(name)
+}
+
+/// Runs over a makefile that is open as [`run_over`] does. In place of the report it answers, for a
+/// person, why a command is refused, and why an edit that is made may do nothing in make.
+pub fn run_with_notes<'a>(
+    rt: &'a HostRuntime,
+    words: &EditWords<'a>,
+    run: Run<'_>,
+    file: Input<'a>,
+    makefile: Makefile<'a>,
+) -> (End<'a>, Vec<u8>)
+    requires { IsBadDepth run.depth → ⊥ }
+{
+    let mut report = TextSink::new(rt.alloc());
+    let mut observer = NotesKept::new(rt.alloc(), names_of(words, file));
+    let end = run_over(rt, words, run, file, makefile, &mut report, &mut observer);
+    let NotesKept { text, is_full, .. } = observer;
+    (end.kept(report.is_failed || is_full), text)
 }

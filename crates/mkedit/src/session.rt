@@ -3,9 +3,8 @@
 ghost use Rattle.std.specs.Prelude.{◌≡◌, false};
 ghost use Rattle.mk_repl.specs.SessionForms.{is_by_protocol};
 
-use crate::color::has_color;
-use crate::ending::{End, finished};
-use mk_cli::{Form, SessionWords};
+use crate::ending::{End, ended};
+use mk_cli::{Form, SessionWords, has_color};
 use mk_fs::{Cause, STANDARD_OUTPUT, SystemFault, WithError, open};
 use mk_lines::source::read_all;
 use mk_lines::{ByteSink, ByteSource, Fault, StdSink, StdSource};
@@ -71,6 +70,9 @@ fn reply<S: ByteSource, W: ByteSink>(
         return serve_at_terminal(server, has_color, source, out);
     }
     let talked = serve(rt.alloc(), source, &mut server, out);
+    if server.is_unwritten() && rt.stderr().is_terminal() {
+        let _ = eprintln!(rt; "mkedit: note: the input has ended, and the changes are not written");
+    }
     mem::forget(server);
     talked
 }
@@ -85,12 +87,11 @@ fn talk<'a>(rt: &'a HostRuntime, words: SessionWords<'a>, server: Server<'a>) ->
     End::of_print(talked).with_fault(device.fault(STANDARD_OUTPUT))
 }
 
-// Opens the makefile, and replies to the lines of standard input.
-fn over_file<'a>(rt: &'a HostRuntime, words: SessionWords<'a>) -> Result<End<'a>, End<'a>> {
-    Ok(talk(rt, words, open_server(rt, words)?))
-}
-
 /// Opens the makefile, replies to the lines of standard input, and answers the status.
 pub fn session<'a>(rt: &'a HostRuntime, words: SessionWords<'a>) -> ExitCode {
-    finished(rt, over_file(rt, words), rt.stderr().is_terminal())
+    let end = match open_server(rt, words) {
+        Ok(server) => talk(rt, words, server),
+        Err(end) => end,
+    };
+    ended(rt, &end, rt.stderr().is_terminal())
 }

@@ -1,11 +1,11 @@
 -- What is there and the lines of the rest are the lines of the text.
-use Rattle.std.proofs.Common.{◌≡◌, ◌++◌, length, map}
+use Rattle.std.proofs.Common.{◌≡◌, ◌++◌, length}
 use Rattle.mkedit.specs.NamedLines.{named_lines}
 use Rattle.mkedit.proofs.named.named_lines.Given as goal
 
 abbrev pub invariant-lines : goal.invariant-lines
 invariant-lines g l =
-    named_lines l.name l.text (map (λ below. below.items) l.notes) ≡ l.named.items ++ named_lines l.name l.rest (map (λ below. below.items) l.below)
+    named_lines l.name l.text ≡ l.named.items ++ named_lines l.name l.rest
 
 abbrev pub decreases-lines : goal.decreases-lines
 decreases-lines g l = length l.rest

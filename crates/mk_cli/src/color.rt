@@ -1,7 +1,7 @@
-//! When a diff has colours, and what a session shows of it.
+//! When a diff has colours.
 ghost use Rattle.std.specs.Prelude.{◌≡◌, false, true};
 
-use mk_cli::Color;
+use crate::request::Color;
 use std::env;
 use std::env::VarError;
 
@@ -16,7 +16,7 @@ fn is_unwanted(rt: &HostRuntime) -> bool {
 }
 
 /// Whether a diff has colours that goes to a terminal, or to something else.
-pub(crate) fn has_color(rt: &HostRuntime, when: Color, is_terminal: bool) -> bool
+pub fn has_color(rt: &HostRuntime, when: Color, is_terminal: bool) -> bool
     ensures always { when ≡ Color.Always → result ≡ true }
     ensures never { when ≡ Color.Never → result ≡ false }
     ensures elsewhere { when ≡ Color.Auto → is_terminal ≡ false → result ≡ false }

@@ -1,0 +1,106 @@
+//! What an edit asks for, in the words of a script.
+
+use crate::address::{meant_by, name_in, number_in};
+use crate::part::Part::{Number, Text, Words};
+use crate::text::Notes;
+use mk_edit_language::{Edit, Place, ValueChange};
+use mk_edit_parts::address::address_of;
+use std::alloc::{AllocError, Allocator};
+
+impl<'a, A: Allocator, B: Allocator> Notes<'a, A, B> {
+    /// Puts the command of an edit with the fields that say what it is about, such as `nth 2 set CC` and
+    /// `recipe-set all 3`. What it would write is left out.
+    pub(crate) fn asked<C: Allocator>(&mut self, edit: &Edit<C>) -> Result<(), AllocError> {
+        if let Some(nth) = address_of(edit).and_then(|address| number_in(address)) {
+            self.say("nth @ ", &[Number(u64::from(nth))])?;
+        }
+        self.say(command_word(edit), &[])?;
+        match edit {
+            Edit::AddAssign { place, name, .. } => self.asked_at(place, name),
+            Edit::AddRule { place, targets, .. } => self.asked_at(place, targets),
+            _ => self.asked_of_line(edit),
+        }
+    }
+
+    // Puts the place of a new line, and its name or its targets.
+    fn asked_at<'p, C: Allocator>(
+        &mut self,
+        place: &'p Place<C>,
+        new: &'p [u8],
+    ) -> Result<(), AllocError> {
+        let (word, about) = match place {
+            Place::Bottom => return self.fields(&[b"bottom", new]),
+            Place::BeforeVar { name, .. } => ("before-var", name.as_slice()),
+            Place::AfterVar { name, .. } => ("after-var", name.as_slice()),
+            Place::BeforeRule { target, .. } => ("before-rule", target.as_slice()),
+        };
+        self.fields(&[word.as_bytes(), about, new])
+    }
+
+    // Puts the name or the target of the lines that an edit means, and the word or the number of a recipe
+    // line that it is about.
+    fn asked_of_line<C: Allocator>(&mut self, edit: &Edit<C>) -> Result<(), AllocError> {
+        if let Some(address) = meant_by(edit) {
+            self.fields(&[name_in(address)])?;
+        }
+        match edit {
+            Edit::AddWord { word, .. }
+            | Edit::RemoveWord { word, .. }
+            | Edit::AddPrereq { word, .. }
+            | Edit::RemovePrereq { word, .. }
+            | Edit::RenameTarget { to: word, .. }
+            | Edit::ChangeValues {
+                change: ValueChange::Add(word) | ValueChange::Remove(word),
+                ..
+            } => self.fields(&[word]),
+            Edit::SetRecipe { number, .. }
+            | Edit::RemoveRecipe { number, .. }
+            | Edit::InsertRecipe { number, .. } => self.say(" @", &[Number(u64::from(*number))]),
+            _ => Ok(()),
+        }
+    }
+
+    // Puts fields, each behind a blank, and between quotes if it is empty or has a blank.
+    fn fields(&mut self, fields: &[&[u8]]) -> Result<(), AllocError> {
+        for field in fields {
+            let quote = Words(if is_bare(field) { "" } else { "\"" });
+            self.say(" @@@", &[quote, Text(field), quote])?;
+        }
+        Ok(())
+    }
+}
+
+// The command of an edit, with the `all` before it.
+fn command_word<A: Allocator>(edit: &Edit<A>) -> &'static str {
+    match edit {
+        Edit::SetValue { .. } => "set",
+        Edit::AppendValue { .. } => "append",
+        Edit::AddWord { .. } => "add",
+        Edit::RemoveWord { .. } => "drop",
+        Edit::ChangeValues { change, .. } => match change {
+            ValueChange::Set(_) => "all set",
+            ValueChange::Append(_) => "all append",
+            ValueChange::Add(_) => "all add",
+            ValueChange::Remove(_) => "all drop",
+        },
+        Edit::AddAssign { .. } => "assign",
+        Edit::RemoveAssign { .. } => "unset",
+        Edit::AddRule { .. } => "rule",
+        Edit::RemoveRule { .. } => "unrule",
+        Edit::AddPrereq { order: true, .. } => "depend-order",
+        Edit::AddPrereq { .. } => "depend",
+        Edit::RemovePrereq { .. } => "undepend",
+        Edit::AddRecipe { .. } => "recipe",
+        Edit::SetRecipe { .. } => "recipe-set",
+        Edit::RemoveRecipe { .. } => "recipe-del",
+        Edit::InsertRecipe { .. } => "recipe-insert",
+        Edit::SetRecipeByText { .. } => "recipe-replace",
+        Edit::RemoveRecipeByText { .. } => "recipe-remove",
+        Edit::RenameTarget { .. } => "rename",
+    }
+}
+
+// Whether a script may have a field without quotes.
+fn is_bare(field: &[u8]) -> bool {
+    !field.is_empty() && !field.iter().any(|byte| matches!(*byte, b' ' | b'\t'))
+}

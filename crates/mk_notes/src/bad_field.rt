@@ -1,0 +1,117 @@
+//! The sentence on a field of an edit that may not stand there.
+
+use crate::broken::{Test, broken};
+use crate::part::Part::Words;
+use crate::text::Notes;
+use mk_class::{is_target, is_word};
+use mk_edit_language::{Edit, Field, ValueChange};
+use mk_edit_parts::address::{Address, address_of};
+use mk_tree::WordTexts;
+use std::alloc::{AllocError, Allocator};
+
+/// A text of an edit that may not stand there.
+#[derive(Clone, Copy)]
+struct Tested<'a> {
+    /// What a sentence calls it.
+    called: &'static str,
+    text: &'a [u8],
+    test: Test,
+}
+
+impl<'a> Tested<'a> {
+    fn new(called: &'static str, text: &'a [u8], test: Test) -> Tested<'a> {
+        Tested { called, text, test }
+    }
+}
+
+impl<'a, A: Allocator, B: Allocator> Notes<'a, A, B> {
+    /// Puts which rule a field of an edit breaks.
+    pub(crate) fn bad_field<C: Allocator>(
+        &mut self,
+        edit: &Edit<C>,
+        field: Field,
+    ) -> Result<(), AllocError> {
+        let Tested { called, text, test } = text_of_field(edit, field);
+        self.say("@ @", &[Words(called), Words(broken(text, test))])
+    }
+}
+
+// The text of a field that may not stand there.
+fn text_of_field<A: Allocator>(edit: &Edit<A>, field: Field) -> Tested<'_> {
+    match (field, edit) {
+        (
+            Field::Value,
+            Edit::SetValue { value, .. }
+            | Edit::AppendValue { value, .. }
+            | Edit::AddAssign { value, .. }
+            | Edit::ChangeValues {
+                change: ValueChange::Set(value) | ValueChange::Append(value),
+                ..
+            },
+        ) => Tested::new("the value", value, Test::Value),
+        (
+            Field::Word,
+            Edit::AddWord { word, .. }
+            | Edit::RemoveWord { word, .. }
+            | Edit::ChangeValues {
+                change: ValueChange::Add(word) | ValueChange::Remove(word),
+                ..
+            },
+        ) => Tested::new("the word", word, Test::ValueWord),
+        (Field::Name, Edit::AddAssign { name, .. } | Edit::ChangeValues { name, .. }) => {
+            Tested::new("the name", name, Test::Name)
+        }
+        _ => text_of_rule_field(edit, field),
+    }
+}
+
+// The text of a field of an edit of a rule that may not stand there, or of a field that an address has.
+fn text_of_rule_field<A: Allocator>(edit: &Edit<A>, field: Field) -> Tested<'_> {
+    match (field, edit) {
+        (Field::Word, Edit::AddPrereq { word, .. } | Edit::RemovePrereq { word, .. }) => {
+            Tested::new("the word", word, Test::Word)
+        }
+        (Field::Targets, Edit::AddRule { targets, .. }) => {
+            match WordTexts::new(targets).find(|word| !is_target(word)) {
+                Some(word) => Tested::new("a target", word, Test::Word),
+                None => Tested::new("the list of targets", &[], Test::Word),
+            }
+        }
+        (Field::Prereqs, Edit::AddRule { prereqs, .. }) => {
+            let bad = WordTexts::new(prereqs).find(|word| !is_word(word));
+            Tested::new("a prerequisite", bad.unwrap_or_default(), Test::Word)
+        }
+        (
+            Field::Line,
+            Edit::AddRecipe { line, .. }
+            | Edit::SetRecipe { line, .. }
+            | Edit::InsertRecipe { line, .. }
+            | Edit::SetRecipeByText { line, .. },
+        ) => Tested::new("the line", line, Test::Line),
+        (Field::Old, Edit::SetRecipeByText { old, .. } | Edit::RemoveRecipeByText { old, .. }) => {
+            Tested::new("the old line", old, Test::Line)
+        }
+        (Field::Old, Edit::RenameTarget { from, .. }) => Tested::new(
+            "the old name",
+            from,
+            Test::Word,
+        ),
+        (Field::New, Edit::RenameTarget { to, .. }) => Tested::new("the new name", to, Test::Word),
+        _ => text_of_address(edit, field),
+    }
+}
+
+// The name or the target in an address that may not stand there.
+fn text_of_address<A: Allocator>(edit: &Edit<A>, field: Field) -> Tested<'_> {
+    match (field, address_of(edit)) {
+        (Field::Place, Some(Address::Variable(_, name))) => {
+            Tested::new("the name in PLACE", name, Test::Name)
+        }
+        (Field::Place, Some(Address::Rule(_, target))) => {
+            Tested::new("the target in PLACE", target, Test::Word)
+        }
+        (_, Some(Address::Variable(_, name))) => Tested::new("the name", name, Test::Name),
+        (_, Some(Address::Rule(_, target))) => Tested::new("the target", target, Test::Word),
+        (_, None) => Tested::new("the field", &[], Test::Line),
+    }
+}

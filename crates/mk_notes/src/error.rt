@@ -1,0 +1,57 @@
+//! The line on a refusal.
+
+use crate::part::Part::{Makefile, Number, Words};
+use crate::text::Notes;
+use mk_edit_language::{Detail, Edit, Refusal};
+use std::alloc::{AllocError, Allocator};
+
+impl<'a, A: Allocator, B: Allocator> Notes<'a, A, B> {
+    /// Puts the line on a refusal: where the command stands, what it asks for, what is so, and the refusal as
+    /// reports name it.
+    pub(crate) fn error<C: Allocator>(
+        &mut self,
+        edit: Option<&Edit<C>>,
+        refusal: Refusal,
+    ) -> Result<(), AllocError> {
+        self.script_line()?;
+        self.say(": error: ", &[])?;
+        match edit {
+            Some(edit) => {
+                self.asked(edit)?;
+                self.say(": ", &[])?;
+                self.sentence(edit, refusal)?;
+            }
+            None => self.plain_sentence(refusal)?,
+        }
+        self.named(refusal)
+    }
+
+    // Puts a refusal as reports name it, at the end of its line.
+    fn named(&mut self, refusal: Refusal) -> Result<(), AllocError> {
+        let number = u64::from(refusal.number());
+        self.say(" [@ @", &[Number(number), Words(refusal.name())])?;
+        match refusal.detail() {
+            Detail::Count(count) => self.say(" @", &[Number(count)])?,
+            Detail::Field(field) => self.say(" @", &[Words(field.name())])?,
+            Detail::Nothing => {}
+        }
+        self.say("]\n", &[])
+    }
+
+    /// Puts what is so, where a refusal says it by itself.
+    pub(crate) fn plain_sentence(&mut self, refusal: Refusal) -> Result<(), AllocError> {
+        let said = match refusal {
+            Refusal::OpenDefine => "@ ends inside a define",
+            Refusal::TooLong => "@ would have more than 16,777,216 bytes",
+            Refusal::Leans => {
+                "a line below begins with the recipe prefix and could be read differently"
+            }
+            Refusal::NothingToUndo => "undo: no edit is left to undo",
+            Refusal::NothingToRedo => "redo: no undone edit is left to redo",
+            Refusal::GroupOpen => "a group is open: end or cancel it first",
+            Refusal::NoGroup => "no group is open to end or cancel",
+            _ => "there is no memory",
+        };
+        self.say(said, &[Makefile])
+    }
+}

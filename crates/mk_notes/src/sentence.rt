@@ -1,0 +1,202 @@
+//! What is so, where a command is refused: a sentence for each refusal.
+//!
+//! A sentence tells the count, the word or the line that it is about. Where that takes a walk over the
+//! makefile and no more may be taken, it is a shorter one, which is true all the same.
+
+use crate::address::{meant_by, name_in, number_in};
+use crate::line::hides_prefix;
+use crate::part::Part::{Count, Makefile, Number, Text, Times, Words};
+use crate::text::Notes;
+use mk_class::is_reserved_word;
+use mk_edit_language::{Edit, Refusal};
+use mk_edit_parts::address::Address;
+use mk_listing::{assignments_of, numbered, rules_for};
+use mk_tree::{Doc, WordTexts};
+use std::alloc::{AllocError, Allocator};
+
+impl<'a, A: Allocator, B: Allocator> Notes<'a, A, B> {
+    /// Puts what is so, where an edit is refused.
+    pub(crate) fn sentence<C: Allocator>(
+        &mut self,
+        edit: &Edit<C>,
+        refusal: Refusal,
+    ) -> Result<(), AllocError> {
+        match refusal {
+            Refusal::BadArgument(field) => self.bad_field(edit, field),
+            Refusal::Reserved => self.reserved(edit),
+            Refusal::RecipePrefix => self.recipe_prefix(),
+            Refusal::OpenLine => self.open_line(),
+            _ => match meant_by(edit) {
+                Some(address) => self.sentence_on(edit, address, refusal),
+                None => self.plain_sentence(refusal),
+            },
+        }
+    }
+
+    // Puts what is so of an address, where an edit is refused.
+    fn sentence_on<'e, C: Allocator>(
+        &mut self,
+        edit: &'e Edit<C>,
+        address: Address<'e>,
+        refusal: Refusal,
+    ) -> Result<(), AllocError> {
+        let name = Text(name_in(address));
+        match (refusal, edit) {
+            (Refusal::NoSuch, Edit::RenameTarget { .. }) => {
+                self.say("@ has no target @", &[Makefile, name])
+            }
+            (Refusal::NoSuch, _) => self.no_such(address),
+            (Refusal::Ambiguous(count), _) => self.several(edit, address, count),
+            (Refusal::Absent | Refusal::Already, _) => self.idle(edit, address),
+            (Refusal::Taken, Edit::RenameTarget { to, .. }) => {
+                self.say("@ has the target @ already", &[Makefile, Text(to)])
+            }
+            (Refusal::SharedRule(count), _) => {
+                self.say("the rule for @ has @", &[name, Count(count, "target")])
+            }
+            (Refusal::Straddles, _) => {
+                self.say("a conditional directive stands in the recipe of @", &[name])
+            }
+            (Refusal::OpenValue, _) => self.open_value(edit, address),
+            _ => self.plain_sentence(refusal),
+        }
+    }
+
+    // Puts which name is reserved that an edit has.
+    fn reserved<C: Allocator>(&mut self, edit: &Edit<C>) -> Result<(), AllocError> {
+        match directive_in(edit) {
+            Some(word) => self.say(
+                "@ is the name of a directive, not of a target",
+                &[Text(word)],
+            ),
+            None => self.say("no edit can name .RECIPEPREFIX", &[]),
+        }
+    }
+
+    // Puts what makes the recipe prefix a cause.
+    fn recipe_prefix(&mut self) -> Result<(), AllocError> {
+        if !self.walks {
+            return self.say(
+                "the recipe prefix is not known, or a line would begin with it",
+                &[],
+            );
+        }
+        match numbered(self.doc).find(|(_, line)| hides_prefix(line)) {
+            Some((at, _)) => self.say(
+                "line @ of @ sets .RECIPEPREFIX in a way that mkedit does not read",
+                &[Number(at.number as u64), Makefile],
+            ),
+            None => self.say(
+                "a line that is no recipe line would begin with the recipe prefix",
+                &[],
+            ),
+        }
+    }
+
+    // Puts how the last line ends, below which none can stand.
+    fn open_line(&mut self) -> Result<(), AllocError> {
+        let last = self.doc.get(self.doc.len().saturating_sub(1));
+        let end = match last.map(|line| line.bytes()) {
+            Some([.., b'\r']) => "a carriage return",
+            _ => "a backslash",
+        };
+        self.say("the last line of @ ends in @", &[Makefile, Words(end)])
+    }
+
+    // Puts which line is missing that an address means.
+    fn no_such(&mut self, address: Address<'_>) -> Result<(), AllocError> {
+        let nth = match number_in(address) {
+            None | Some(1) => return self.has(address, 0),
+            Some(0) => return self.say("counting starts at 1", &[]),
+            Some(nth) => u64::from(nth),
+        };
+        if !self.walks {
+            return self.has_fewer(address, nth);
+        }
+        let count = count_of(self.doc, address);
+        self.has(address, count)?;
+        if count == 0 {
+            return Ok(());
+        }
+        self.say(", and `nth @` is asked for", &[Number(nth)])
+    }
+
+    // Puts which lines are several of which an edit means one.
+    fn several<'e, C: Allocator>(
+        &mut self,
+        edit: &'e Edit<C>,
+        address: Address<'e>,
+        count: u64,
+    ) -> Result<(), AllocError> {
+        let old = match edit {
+            Edit::SetRecipeByText { old, .. } | Edit::RemoveRecipeByText { old, .. } => Text(old),
+            _ => return self.has(address, count),
+        };
+        let target = Text(name_in(address));
+        if number_in(address).is_some() || (self.walks && count_of(self.doc, address) == 1) {
+            let lines = Count(count, "recipe line");
+            self.say("@ of @ are `@`", &[lines, target, old])
+        } else if self.walks {
+            self.has(address, count)
+        } else {
+            let rules = Count(count, "rule");
+            self.say("@ for @, or lines of its recipe, fit", &[rules, target])
+        }
+    }
+
+    // Puts how many lines of its name an address finds.
+    fn has(&mut self, address: Address<'_>, count: u64) -> Result<(), AllocError> {
+        let name = Text(name_in(address));
+        match address {
+            Address::Variable(..) if count == 0 => self.say("@ assigns no @", &[Makefile, name]),
+            Address::Variable(..) => self.say("@ assigns @ @", &[Makefile, name, Times(count)]),
+            Address::Rule(..) => self.say("@ has @ for @", &[Makefile, Count(count, "rule"), name]),
+        }
+    }
+
+    // Puts that an address finds fewer lines of its name.
+    fn has_fewer(&mut self, address: Address<'_>, nth: u64) -> Result<(), AllocError> {
+        let name = Text(name_in(address));
+        match address {
+            Address::Variable(..) => self.say(
+                "@ assigns @ fewer than @",
+                &[Makefile, name, Count(nth, "time")],
+            ),
+            Address::Rule(..) => self.say(
+                "@ has fewer than @ for @",
+                &[Makefile, Count(nth, "rule"), name],
+            ),
+        }
+    }
+}
+
+// How many lines have the name of an address.
+fn count_of<A: Allocator>(doc: &Doc<A>, address: Address<'_>) -> u64 {
+    let mut count: u64 = 0;
+    match address {
+        Address::Variable(_, name) => {
+            for _ in assignments_of(doc, name) {
+                count = count.saturating_add(1);
+            }
+        }
+        Address::Rule(_, target) => {
+            for _ in rules_for(doc, target) {
+                count = count.saturating_add(1);
+            }
+        }
+    }
+    count
+}
+
+// The first target of an edit that is the name of a directive.
+fn directive_in<A: Allocator>(edit: &Edit<A>) -> Option<&[u8]> {
+    let new = match edit {
+        Edit::AddRule { targets, .. } => WordTexts::new(targets).find(|it| is_reserved_word(it)),
+        Edit::RenameTarget { to, .. } if is_reserved_word(to) => Some(to.as_slice()),
+        _ => None,
+    };
+    match meant_by(edit) {
+        Some(Address::Rule(_, target)) if new.is_none() && is_reserved_word(target) => Some(target),
+        _ => new,
+    }
+}
