@@ -42,7 +42,7 @@ def number_in(value: Any) -> int:
 
 def placed(found: List[Members]) -> Iterator[Tuple[Members, Dict[str, Any]]]:
     """Each object on a line but those on branches, with the fields of `Found`."""
-    # The conditionals round what stands in a branch, by the number of the line that begins it.
+    # The conditionals around the lines of a branch, by the number of the line that begins it.
     inside: Dict[int, Tuple[Condition, ...]] = {}
     for it in found:
         line, depth = number_in(it["line"]), number_in(it["depth"])
