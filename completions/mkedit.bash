@@ -5,14 +5,18 @@
 _mkedit_options() {
     case $1 in
         "") echo "-h --help -V --version" ;;
-        edit) echo "-k --keep-going -d --depth -o --output -i --in-place --backup --diff --color --check --summary --force-text -e --expression --notes -h --help" ;;
+        # made by tools/texts: options
+        edit) echo "-k --keep-going -d --depth -o --output -i --in-place --backup --diff --color --check --summary --force-text -e --expression --notes --report -h --help" ;;
         vars) echo "--name --json --notes -h --help" ;;
-        rules | recipes) echo "--target --json --notes -h --help" ;;
-        check | caveats) echo "--json --notes -h --help" ;;
+        rules) echo "--target --json --notes -h --help" ;;
+        recipes) echo "--target --json --notes -h --help" ;;
+        check) echo "--json --notes -h --help" ;;
+        caveats) echo "--json --notes -h --help" ;;
+        get) echo "--nth --json --notes -h --help" ;;
+        explain) echo "-h --help" ;;
         session) echo "-d --depth --protocol --json --new --color -h --help" ;;
-        get) echo "--nth --notes -h --help" ;;
+        # made until here
         help) ;;
-        *) echo "-h --help" ;;
     esac
 }
 
@@ -69,6 +73,8 @@ _mkedit() {
         return # a number, a command of a script, or a suffix
     elif [[ $command == @(edit|session) && $before == --color ]]; then
         mapfile -t COMPREPLY < <(compgen -W "auto always never" -- "$word")
+    elif [[ $command == edit && $before == --report ]]; then
+        mapfile -t COMPREPLY < <(compgen -W "text json" -- "$word")
     elif [[ $command == session && $before == @(-d|--depth) ]]; then
         return # a number
     elif [[ $command == get && $before == --nth ]]; then

@@ -2,22 +2,113 @@
 # Completion of mkedit's command line for zsh.
 # make install puts this file into a folder of $fpath, under the name _mkedit.
 
+# What each command does, and its options.
+# made by tools/texts: options
 _mkedit_commands() {
     local -a commands
     commands=(
-        'edit:Runs a script of edits over a makefile, and prints the text'
+        'edit:Runs a script over a makefile and prints the result'
         'vars:Lists the assignments of a makefile'
         'rules:Lists the rules of a makefile'
         'recipes:Lists the recipe lines of a makefile with their numbers'
-        'check:Lists the lines of a makefile that are kept and not read inside'
-        'caveats:Lists the lines of a makefile that make may read otherwise'
+        'check:Lists the lines of a makefile that mkedit cannot parse'
+        'caveats:Lists the lines of a makefile that make may read differently'
         'get:Prints the value of a variable of a makefile'
-        'explain:Says why a command is refused, and what to do then'
-        'session:Answers commands and requests on one makefile, a line each'
+        'explain:Explains why a command is refused, and what to do then'
+        'session:Answers commands and requests on one makefile, line by line'
         'help:Prints help for a command'
     )
     _describe -t commands 'command' commands
 }
+
+_mkedit_options_of_edit() {
+    options=(
+        '(-k --keep-going)'{-k,--keep-going}'[Continues after a refused command]'
+        '(-d --depth)'{-d+,--depth=}'[How many edits can be undone, from 1 to 10000 (default: 100)]:DEPTH: '
+        '(-o --output)'{-o+,--output=}'[Writes the result to OUT; to write it to FILE itself, name FILE twice]:OUT:_files'
+        '(-i --in-place)'{-i,--in-place}'[Replaces FILE with the result atomically; access lists (ACLs) are not kept]'
+        '--backup=[With -i, keeps the old file as FILE with SUFFIX at its end]:SUFFIX: '
+        '--diff[Prints a diff instead, for patch -p1 or git apply in the current directory (.. for ../m, / for /x/m)]'
+        '--color=[When to colour changes: auto (at a terminal), always or never (default: auto)]:WHEN:(auto always never)'
+        '--check[Tries every command, reports each refusal and writes nothing; with --diff, a change fails too]'
+        '--summary[Ends with how many FILEs were changed; the default for several FILEs at a terminal]'
+        '--force-text[Edits several FILEs even if one of them is a script and not a makefile]'
+        '*'{-e+,--expression=}'[Runs COMMAND in place of SCRIPT; several -e are the lines of a script]:COMMAND: '
+        '--notes[Explains messages and refusals, with the lines concerned; the default at a terminal]'
+        '--report=[Reports refusals and messages as text, or with json as one JSON object per line (default: text)]:FORM:(text json)'
+        '(-h --help)'{-h,--help}'[Print help]'
+    )
+}
+
+_mkedit_options_of_vars() {
+    options=(
+        '--name=[Lists only the assignments of NAME, target-specific ones too]:NAME:_mkedit_names'
+        '--json[Prints one JSON object per line]'
+        '--notes[Explains messages and refusals, with the lines concerned; the default at a terminal]'
+        '(-h --help)'{-h,--help}'[Print help]'
+    )
+}
+
+_mkedit_options_of_rules() {
+    options=(
+        '--target=[Lists only what belongs to the rules for TARGET]:TARGET:_mkedit_targets'
+        '--json[Prints one JSON object per line]'
+        '--notes[Explains messages and refusals, with the lines concerned; the default at a terminal]'
+        '(-h --help)'{-h,--help}'[Print help]'
+    )
+}
+
+_mkedit_options_of_recipes() {
+    options=(
+        '--target=[Lists only what belongs to the rules for TARGET]:TARGET:_mkedit_targets'
+        '--json[Prints one JSON object per line]'
+        '--notes[Explains messages and refusals, with the lines concerned; the default at a terminal]'
+        '(-h --help)'{-h,--help}'[Print help]'
+    )
+}
+
+_mkedit_options_of_check() {
+    options=(
+        '--json[Prints one JSON object per line]'
+        '--notes[Explains messages and refusals, with the lines concerned; the default at a terminal]'
+        '(-h --help)'{-h,--help}'[Print help]'
+    )
+}
+
+_mkedit_options_of_caveats() {
+    options=(
+        '--json[Prints one JSON object per line]'
+        '--notes[Explains messages and refusals, with the lines concerned; the default at a terminal]'
+        '(-h --help)'{-h,--help}'[Print help]'
+    )
+}
+
+_mkedit_options_of_get() {
+    options=(
+        '--nth=[Prints the value of the N-th assignment of NAME, counted from 1]:N: '
+        '--json[Prints one JSON object per line]'
+        '--notes[Explains messages and refusals, with the lines concerned; the default at a terminal]'
+        '(-h --help)'{-h,--help}'[Print help]'
+    )
+}
+
+_mkedit_options_of_explain() {
+    options=(
+        '(-h --help)'{-h,--help}'[Print help]'
+    )
+}
+
+_mkedit_options_of_session() {
+    options=(
+        '(-d --depth)'{-d+,--depth=}'[How many edits can be undone, from 1 to 10000 (default: 100)]:DEPTH: '
+        '--protocol[Replies as to a program, even at a terminal]'
+        '--json[Prints one JSON object per line]'
+        '--new[Opens a missing FILE as an empty one; `write` creates it]'
+        '--color=[When to colour changes: auto (at a terminal), always or never (default: auto)]:WHEN:(auto always never)'
+        '(-h --help)'{-h,--help}'[Print help]'
+    )
+}
+# made until here
 
 # The makefile that the command line names, or else the one that make reads in this folder.
 _mkedit_makefile() {
@@ -49,54 +140,21 @@ _mkedit_targets() {
 }
 
 _mkedit_edit() {
-    local -a files
+    local -a options files
+    _mkedit_options_of_edit
     if (( $words[(I)(-e*|--expression*)] )); then
         files=('*:makefile:_files')
     else
         files=('1:script:_files' '*:makefile:_files')
     fi
-    _arguments -s \
-        '(-k --keep-going)'{-k,--keep-going}'[go on after a refused command]' \
-        '(-d --depth)'{-d+,--depth=}'[how many edits can be undone, from 1 to 10000]:depth: ' \
-        '(-o --output -i --in-place --check)'{-o+,--output=}'[where the text goes; it may be FILE, which is then named twice]:output:_files' \
-        '(-i --in-place -o --output --diff --check)'{-i,--in-place}'[the makefile gets the text]' \
-        '(-o --output)--backup=[with -i, keeps the old file under its name with this suffix at its end]:suffix: ' \
-        '(-i --in-place)--diff[prints what would change, as a diff that patch takes, in place of the text]' \
-        '--color=[whether changes are shown in colours]:when:(auto always never)' \
-        '(-i --in-place -o --output)--check[try each command, report each refusal, and write no text; with --diff, a diff fails too]' \
-        '(-o --output)--summary[say at the end how many makefiles were changed]' \
-        '--force-text[edit several files also where one of them is a script]' \
-        '*'{-e+,--expression=}'[a line of a script, in place of the script]:command: ' \
-        '--notes[say below a message or a refusal what its cause is]' \
-        '(-h --help)'{-h,--help}'[print help]' \
-        $files
+    _arguments -s $options $files
 }
 
 _mkedit_query() {
-    _arguments -s "$@" \
-        '--json[print lines of JSON, each of them an object, for programs]' \
-        '--notes[say below a message or a refusal what its cause is]' \
-        '(-h --help)'{-h,--help}'[print help]' \
-        '*:makefile:_files'
-}
-
-_mkedit_vars() {
-    _mkedit_query \
-        '--name=[list the assignments of this name alone, for targets or not]:name:_mkedit_names'
-}
-
-_mkedit_rules() {
-    _mkedit_query \
-        '--target=[list what belongs to the rules for this target alone]:target:_mkedit_targets'
-}
-
-_mkedit_get() {
-    _arguments -s \
-        '--nth=[take the N-th of several assignments of the name, from 1]:number: ' \
-        '--notes[say below a message or a refusal what its cause is]' \
-        '(-h --help)'{-h,--help}'[print help]' \
-        '1:name:_mkedit_names' \
-        '*:makefile:_files'
+    local -a options
+    _mkedit_options_of_$1
+    shift
+    _arguments -s $options "$@" '*:makefile:_files'
 }
 
 _mkedit_help() {
@@ -122,20 +180,7 @@ _mkedit_explain() {
         NoMemory
     )
     # made until here
-    _arguments -s \
-        '(-h --help)'{-h,--help}'[print help]' \
-        "1:refusal:(${refusals[*]})"
-}
-
-_mkedit_session() {
-    _arguments -s \
-        '(-d --depth)'{-d+,--depth=}'[how many edits can be undone, from 1 to 10000]:depth: ' \
-        '--protocol[reply as to a program, also at a terminal]' \
-        '--json[print lines of JSON, each of them an object, for programs]' \
-        '--new[open a makefile that is missing as an empty one]' \
-        '--color=[whether changes are shown in colours]:when:(auto always never)' \
-        '(-h --help)'{-h,--help}'[print help]' \
-        '1:makefile:_files'
+    _arguments -s "1:refusal:(${refusals[*]})"
 }
 
 _mkedit() {
@@ -149,12 +194,9 @@ _mkedit() {
     [[ $state == argument ]] || return
     case $line[1] in
         edit) _mkedit_edit ;;
-        vars) _mkedit_vars ;;
-        rules | recipes) _mkedit_rules ;;
-        check | caveats) _mkedit_query ;;
-        get) _mkedit_get ;;
+        vars | rules | recipes | check | caveats | session) _mkedit_query $line[1] ;;
+        get) _mkedit_query get '1:name:_mkedit_names' ;;
         explain) _mkedit_explain ;;
-        session) _mkedit_session ;;
         help) _arguments '1:command:_mkedit_help' ;;
     esac
 }

@@ -48,7 +48,7 @@ def picture(program):
     width, height = round(most * CHARACTER + 2 * MARGIN), len(lines) * LINE_HEIGHT + 2 * MARGIN
     rows = (f'<text xml:space="preserve" x="{MARGIN}" y="{MARGIN + (it + 1) * LINE_HEIGHT - 5}">{line}</text>' for it, line in enumerate(lines))
     head = f'<svg xmlns="http://www.w3.org/2000/svg" width="{width}" height="{height}" viewBox="0 0 {width} {height}">'
-    title = "<title>mkedit shows what an edit changes as a diff, and refuses one that fits nothing</title>"
+    title = "<title>mkedit shows what an edit changes as a diff, and refuses one that matches nothing</title>"
     return "\n".join([head, title, f"<style>{STYLE}</style>", '<rect width="100%" height="100%" rx="8" fill="#0d1117"/>', *rows, "</svg>", ""])
 
 

@@ -3,6 +3,6 @@ CC = gcc # c
 CXX = g++ # c++
 CFLAGS = -O2 -Wall -Wextra
 
-# Where `make install` puts the program.
-PREFIX   = /usr/local   # packagers: /usr
+# Where `make install` puts the program; packages use /usr.
+PREFIX   = /usr/local
 BINDIR   = bin

@@ -74,7 +74,7 @@ def commands(top=TOP):
 
 def table(found):
     """The table of README.md: the edits alone, each in a sentence."""
-    yield "| Command of a script | What it does |"
+    yield "| Script command | What it does |"
     yield "|---|---|"
     for it in found:
         if it.word not in NO_EDITS:

@@ -23,12 +23,20 @@ LIST = re.compile(r".*\n    .*?\n", re.S)
 
 
 class Argument(NamedTuple):
-    """An option or a word: its name, what kind it is, what is written for it, and what help says of it."""
+    """An option or a word: its name, what kind it is, what help says of it, and of an option its letter and its value's name."""
 
     name: str
     kind: str
-    forms: list
     help: str
+    letter: str = ""
+    value: str = ""
+
+    @property
+    def forms(self):
+        """What is written for it, as the manual pages have it."""
+        if not self.name.startswith("--"):
+            return [f"Ar {self.name}"]
+        return [f"Fl {it}" + (f" Ar {self.value}" if self.value else "") for it in (*self.letter, self.name[1:])]
 
     @property
     def in_synopsis(self):
@@ -39,10 +47,16 @@ class Argument(NamedTuple):
 def argument_of(name, kind, details, text):
     """The argument that is declared so."""
     if kind in ("Required", "Word", "Words"):
-        return Argument(name, kind, [f"Ar {name}"], text)
-    letter, (value, default) = re.findall(r"'(.)'", details), (re.findall(r'"(.*?)"', details) + ["", ""])[:2]
-    forms = [f"Fl {it}" + (f" Ar {value}" if value else "") for it in (*letter, f"-{name}")]
-    return Argument(f"--{name}", kind, forms, text + (f" [default: {default}]" if default else ""))
+        return Argument(name, kind, text)
+    letter, (value, default) = "".join(re.findall(r"'(.)'", details)), (re.findall(r'"(.*?)"', details) + ["", ""])[:2]
+    return Argument(f"--{name}", kind, text + (f" [default: {default}]" if default else ""), letter, value)
+
+
+def commands_of_program(top=TOP):
+    """Each command of the program: its word, what it does in a line, and its arguments."""
+    arguments, commands = ((top / it).read_text(encoding="utf-8") for it in SOURCES[:2])
+    known = {constant: argument_of(*it) for constant, *it in ARGUMENT.findall(arguments)}
+    return [(word, about, [known[it] for it in re.findall(r"\w+", names)]) for word, about, names in COMMAND.findall(commands)]
 
 
 def parts(top=TOP):
@@ -50,11 +64,8 @@ def parts(top=TOP):
 
     The parts are the synopsis, each command, and each argument that may be left out.
     """
-    arguments, commands, texts = ((top / it).read_text(encoding="utf-8") for it in SOURCES)
-    known = {constant: argument_of(*it) for constant, *it in ARGUMENT.findall(arguments)}
-    made, texts = {"synopsis": []}, texts_in(texts)
-    for word, about, names in COMMAND.findall(commands):
-        taken = [known[it] for it in re.findall(r"\w+", names)]
+    made, texts = {"synopsis": []}, texts_in((top / SOURCES[2]).read_text(encoding="utf-8"))
+    for word, about, taken in commands_of_program(top):
         made["synopsis"] += [".Nm", f".Cm {word}", *(it.in_synopsis for it in taken)]
         made.update((it.name, mdoc.item(" , ".join(it.forms), f"{it.help}.")) for it in taken if it.kind != "Required")
         said = [on_one_line(it) for it in texts[word.upper()].split("\n\n") if not ELSEWHERE.search(it)]

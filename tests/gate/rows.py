@@ -33,10 +33,10 @@ class Stored(NamedTuple):
 
 
 STORED = (
-    Stored("mk_lines", "proofs/RandomRows.antt", "line_rows.py 250 1"),
-    Stored("mk_class", "proofs/RandomArguments.antt", "argument_rows.py 500 1"),
-    Stored("mk_tree", "proofs/WorkedReadings.antt", "reading_rows.py tests/cases/readings/worked.tsv"),
-    Stored("mk_tree", "proofs/RandomReadings.antt", "reading_rows.py tests/cases/readings/random.tsv"),
+    Stored("mk_reading_rows", "proofs/RandomLines.antt", "line_rows.py 250 1"),
+    Stored("mk_reading_rows", "proofs/RandomArguments.antt", "argument_rows.py 500 1"),
+    Stored("mk_reading_rows", "proofs/WorkedReadings.antt", "reading_rows.py tests/cases/readings/worked.tsv"),
+    Stored("mk_reading_rows", "proofs/RandomReadings.antt", "reading_rows.py tests/cases/readings/random.tsv"),
     Stored("mk_rows", "proofs/edits/WorkedEdits.antt", "edit_rows.py tests/cases/runs.tsv"),
     Stored("mk_rows", "proofs/edits/RandomEdits.antt", "edit_rows.py tests/cases/edits/random.tsv"),
     Stored("mk_rows", "proofs/edits/CornerEdits.antt", "edit_rows.py tests/cases/edits/corners.tsv"),

@@ -132,7 +132,9 @@ def told_by_recipes(text, only=None):
 
 def told_by_check(text):
     """The lines that are not read inside, each with its members."""
-    return ((line, {"kind": line.kind.lower()}) for line in read(text)[0] if line.kind in ("Rough", "Opaque"))
+    for line in read(text)[0]:
+        if line.kind in ("Rough", "Opaque"):
+            yield line, {"kind": line.kind.lower(), "text": text_value(joined(line.raw)[0])}
 
 
 def end_objects(file, text):

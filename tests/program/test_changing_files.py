@@ -1,6 +1,8 @@
 """Tests of files that another process changes while the program reads them, or before it replaces them."""
 
+import fcntl
 import os
+import re
 import subprocess
 import threading
 import time
@@ -192,15 +194,35 @@ class ChangedBeforeReplaced(RoomCase):
 
     def test_one_of_several_that_has_changed_is_told_by_its_name(self):
         got = self.run_and_change(self.append, "edit", "-i", "script", "Makefile", "other")
-        self.assertEqual(got, CHANGED._replace(stderr=b"Makefile:" + CHANGED.stderr))
+        self.assertEqual(got, CHANGED._replace(stderr=b"Makefile: " + CHANGED.stderr))
         self.assert_holds("Makefile", TEXT + b"X = 1\n")
         self.assert_holds("other", b"CC = clang\n")
 
     def test_a_note_says_what_has_changed(self):
         got = self.run_and_change(self.append, "edit", "-i", "--notes", "script", "Makefile")
-        note = b"Makefile: note: is another file than was read, or has other bytes\n"
+        note = b"Makefile: note: is another file than was read, has other bytes, or is locked\n"
         self.assertEqual(got, CHANGED._replace(stderr=CHANGED.stderr + note))
         self.assert_holds("Makefile", TEXT + b"X = 1\n")
+
+    def test_a_file_that_another_program_has_locked_is_left_as_it_is(self):
+        there = self.names()
+        for how in (fcntl.LOCK_SH, fcntl.LOCK_EX):
+            with open(self.makefile, "rb") as file:
+                fcntl.flock(file, how)
+                self.assert_run(CHANGED, "edit", "-i", "script", "Makefile")
+                self.assert_run(silent(0), "edit", "-i", "empty", "Makefile")
+                self.assert_well(self.room.changed())
+                self.assertEqual(self.names(), there)
+        self.assert_run(silent(0), "edit", "-i", "script", "Makefile")
+        self.assert_holds("Makefile", EDITED.stdout)
+
+    def test_a_file_is_locked_when_its_name_is_taken(self):
+        self.need_strace()
+        tool = ["strace", "-f", "-qq", "-o", "calls", "-e", "trace=flock,rename", self.room.program.path]
+        subprocess.run([*tool, "edit", "-i", "script", "Makefile"], cwd=self.room.folder, timeout=SECONDS, check=True)
+        calls = re.findall(r"(flock|rename)\(.*= 0$", (self.room.folder / "calls").read_text(), re.M)
+        self.assertEqual(calls, ["flock", "rename"])
+        self.assert_holds("Makefile", EDITED.stdout)
 
     def test_a_session_does_not_write_over_what_has_changed(self):
         given = b"set CC clang\nwrite\n"

@@ -21,8 +21,8 @@ class Checks(RoomCase):
             (("two", "Makefile"), Outcome(b"", report, 1)),
             (("two",), Outcome(b"", report, 1)),
             (("script", "Makefile", "clang", "-"), silent(0)),
-            (("script", "other", "Makefile"), Outcome(b"", b"other:" + MISSING, 1)),
-            (("script", "absent", "other"), Outcome(b"", b"mkedit: cannot open absent\nother:" + MISSING, 3)),
+            (("script", "other", "Makefile"), Outcome(b"", b"other: " + MISSING, 1)),
+            (("script", "absent", "other"), Outcome(b"", b"mkedit: cannot open absent\nother: " + MISSING, 3)),
         ):
             self.assert_run(outcome, "edit", "--check", *words, given=TEXT)
         self.room.write("deep", b"ifdef A\n" * 257)
@@ -44,7 +44,7 @@ class Checks(RoomCase):
             (("--diff", "script", "clang", "clang"), b"2 files: 0 changed, 2 unchanged, 0 refused\n", 0),
             (
                 ("-i", "script", "other", "absent", "clang"),
-                b"other:1: refused 4 NoSuch\nmkedit: cannot open absent\n"
+                b"other: 1: refused 4 NoSuch\nmkedit: cannot open absent\n"
                 b"3 files: 0 changed, 1 unchanged, 1 refused, 1 failed\n",
                 3,
             ),

@@ -43,19 +43,8 @@ FISH_COMMAND = re.compile(r"-n __fish_use_subcommand -a (\w+)")
 FISH_REFUSALS = re.compile(r"^set -l refusals (.*)$", re.M)
 FISH_OPTION = re.compile(r"(?:-s (\w) )?-l ([\w-]+)")
 FISH_CONDITION = re.compile(r"-n (?:(__fish_use_subcommand)|'__fish_seen_subcommand_from ([\w ]+)[;'])")
-# The functions of the file for zsh that have the options of a command, "" for the program itself.
-ZSH_FUNCTIONS = {
-    "": ("",),
-    "edit": ("_edit",),
-    "vars": ("_vars", "_query"),
-    "rules": ("_rules", "_query"),
-    "recipes": ("_rules", "_query"),
-    "check": ("_query",),
-    "caveats": ("_query",),
-    "get": ("_get",),
-    "explain": ("_explain",),
-    "session": ("_session",),
-}
+# The commands of the program, "" for the program itself.
+COMMANDS = ("", "edit", "vars", "rules", "recipes", "check", "caveats", "get", "explain", "session")
 
 
 def section(shown, title):
@@ -188,7 +177,7 @@ class Completions(RoomCase):
 
     def test_the_file_for_fish_has_what_help_lists(self):
         text = (FOLDER / "mkedit.fish").read_text(encoding="utf-8")
-        for command in ZSH_FUNCTIONS:
+        for command in COMMANDS:
             found = options_of_fish(text, command)
             self.assertEqual(found, options(self.room, *command.split()), command)
         self.assertEqual({*FISH_REFUSALS.search(text)[1].split()}, names_of_refusals())
@@ -198,9 +187,9 @@ class Completions(RoomCase):
         text = (FOLDER / "mkedit.zsh").read_text(encoding="utf-8")
         named = {*ZSH_COMMAND.findall(section_of_zsh(text, "_mkedit_commands"))}
         self.assertEqual(named, commands(self.room))
-        for command, functions in ZSH_FUNCTIONS.items():
-            parts = "".join(section_of_zsh(text, f"_mkedit{function}") for function in functions)
-            found = {it for pair in ZSH_OPTION.findall(parts) for it in pair if it}
+        for command in COMMANDS:
+            part = section_of_zsh(text, f"_mkedit_options_of_{command}" if command else "_mkedit")
+            found = {it for pair in ZSH_OPTION.findall(part) for it in pair if it}
             self.assertEqual(found, options(self.room, *command.split()), command)
         part = section_of_zsh(text, "_mkedit_explain")
         found = {*re.search(r"refusals=\((.*?)\)", part, re.S)[1].split()}

@@ -129,12 +129,13 @@ class Devices(RoomCase):
         for query, name in (("vars", "long"), ("rules", "rules"), ("check", "rough"), ("caveats", "caveats")):
             self.assert_left(silent(0), query, name)
 
-    def test_a_query_that_nobody_reads_is_done(self):
-        for query in ANSWERS:
+    def test_a_query_and_help_that_nobody_reads_are_done(self):
+        asked = [(query, *notes, "queried") for query in ANSWERS for notes in ((), ("--notes",))]
+        helped = [("help", "edit"), ("help", "set"), ("edit", "--help"), ("-h",), ("-V",), ("explain", "NoSuch")]
+        for words in (*asked, *helped):
             reader, writer = os.pipe()
             os.close(reader)
-            self.assert_run(silent(0), query, "queried", stdout=writer)
-            self.assert_run(silent(0), query, "--notes", "queried", stdout=writer)
+            self.assert_run(silent(0), *words, stdout=writer)
             os.close(writer)
 
     def test_a_refused_script_needs_no_output(self):

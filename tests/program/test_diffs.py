@@ -126,7 +126,7 @@ class Diffs(RoomCase):
         self.assertEqual(got.stdout, DIFF.replace(b"a/Makefile", b"a/-").replace(b"b/Makefile", b"b/-"))
 
     def test_names_are_as_patch_and_git_read_them(self):
-        for name in ("a b", "a\tb", "a\nb", "a\x1b[2J", "a\x7f", 'a"b', "a\\b", "a'b", "ä", "a  b c"):
+        for name in ("a b", "a\tb", "a\nb", "a\x1b[2J", "a\x7f", 'a"b', "a\\b", "a'b", "ä", "a  b c", "a ", " a  "):
             self.room.write(name, TEXT)
             got = self.room.run("edit", "--diff", "script", name)
             with self.subTest(name):

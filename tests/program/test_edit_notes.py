@@ -24,6 +24,8 @@ all:
 AGAIN = "-e 1: note: {} is assigned again below, and make may take that value"
 OTHERWISE = "-e 1: note: {} is assigned in another branch too, and make may take that value"
 DEFAULT = "-e 1: note: make takes this value only where {} has none"
+SKIPPED = "-e 1: note: this change is in a conditional, and make may skip it"
+UNREAD = "-e 1: note: {} has more assignments, in lines that mkedit cannot parse"
 # A command, and the lines of notes on it.
 CASES = (
     # a variable that is assigned again below
@@ -39,15 +41,21 @@ CASES = (
     )),
     # in another branch
     ("nth 2 add CC x", (
+        SKIPPED,
+        "config.mk:3: note: CC := clang x   (in `ifdef DEBUG`, config.mk:2)",
         OTHERWISE.format("CC"),
         "config.mk:5: note: CC = tcc   (in `else`, config.mk:4)",
     )),
     ("nth 2 drop CC clang", (
+        SKIPPED,
+        "config.mk:3: note: CC :=    (in `ifdef DEBUG`, config.mk:2)",
         OTHERWISE.format("CC"),
         "config.mk:5: note: CC = tcc   (in `else`, config.mk:4)",
     )),
     # neither `+=` nor `?=` takes its effect from the value, nor an assignment for a target or in a recipe
     ("nth 3 set CC x", (
+        SKIPPED,
+        "config.mk:5: note: CC = x   (in `else`, config.mk:4)",
         OTHERWISE.format("CC"),
         "config.mk:3: note: CC := clang   (in `ifdef DEBUG`, config.mk:2)",
     )),
@@ -68,7 +76,14 @@ CASES = (
         AGAIN.format("LDFLAGS"),
         "config.mk:11: note: define LDFLAGS   (a define)",
     )),
-    ("nth 2 assign before-var CC CFLAGS = x", ()),
+    ("nth 2 assign before-var CC CFLAGS = x", (
+        SKIPPED,
+        "config.mk:3: note: CFLAGS = x   (in `ifdef DEBUG`, config.mk:2)",
+    )),
+    ("nth 2 assign after-var CC CFLAGS ?= x", (
+        SKIPPED,
+        "config.mk:4: note: CFLAGS ?= x   (in `ifdef DEBUG`, config.mk:2)",
+    )),
     ("assign before-rule all LDFLAGS = x", ()),
     ("assign bottom CC = x", ()),
     # a value that is a default
@@ -119,47 +134,57 @@ THIRD = "config.mk:14: note: A = 5   (in `else`, config.mk:13)"
 # A command on an assignment in a conditional, and the lines of notes on it.
 BRANCH_CASES = (
     ("nth 2 set A x", (
+        SKIPPED, "config.mk:3: note: A = x   (in `ifdef X`, config.mk:2)",
         AGAIN.format("A"), INNER[0], "config.mk:16: note: A = 6",
         OTHERWISE.format("A"), *SECOND, THIRD,
     )),
     # the innermost conditional counts
     ("nth 3 set A x", (
+        SKIPPED, "config.mk:5: note: A = x   (in `ifdef Y`, config.mk:4)",
         AGAIN.format("A"), SECOND[1], THIRD, "config.mk:16: note: A = 6",
         OTHERWISE.format("A"), INNER[1],
     )),
     ("nth 4 append A x", (
+        SKIPPED, "config.mk:7: note: A += 3 x   (in `else`, config.mk:6)",
         AGAIN.format("A"), SECOND[1], THIRD, "config.mk:16: note: A = 6",
         OTHERWISE.format("A"), INNER[0],
     )),
     ("nth 5 add A x", (
-        DEFAULT.format("A"), "config.mk:10: note: A ?= 4 x   (in `else ifdef Z`, config.mk:9)",
+        SKIPPED, DEFAULT.format("A"), "config.mk:10: note: A ?= 4 x   (in `else ifdef Z`, config.mk:9)",
         AGAIN.format("A"), SECOND[1], "config.mk:16: note: A = 6",
         OTHERWISE.format("A"), FIRST, *INNER, THIRD,
     )),
     ("nth 6 drop A 5", (
+        SKIPPED, "config.mk:14: note: A =    (in `else`, config.mk:13)",
         AGAIN.format("A"), "config.mk:16: note: A = 6",
         OTHERWISE.format("A"), FIRST, *INNER, *SECOND,
     )),
     # a new line
     ("nth 6 assign before-var A A = x", (
+        SKIPPED, "config.mk:14: note: A = x   (in `else`, config.mk:13)",
         AGAIN.format("A"),
         "config.mk:15: note: A = 5   (in `else`, config.mk:13)",
         "config.mk:17: note: A = 6",
         OTHERWISE.format("A"), FIRST, *INNER, *SECOND,
     )),
     ("nth 6 assign after-var A A = x", (
+        SKIPPED, "config.mk:15: note: A = x   (in `else`, config.mk:13)",
         AGAIN.format("A"), "config.mk:17: note: A = 6",
         OTHERWISE.format("A"), FIRST, *INNER, *SECOND,
     )),
     # no other branch assigns the variable, or there is none
-    ("nth 6 assign after-var A C = x", ()),
+    ("nth 6 assign after-var A C = x", (SKIPPED, "config.mk:15: note: C = x   (in `else`, config.mk:13)")),
     ("nth 2 assign after-var A B = x", (
+        SKIPPED, "config.mk:4: note: B = x   (in `ifdef X`, config.mk:2)",
         AGAIN.format("B"),
         "config.mk:18: note: B = 1",
         "config.mk:20: note: B = 2   (in `ifdef V`, config.mk:19)",
     )),
-    ("nth 2 set B x", ()),
+    ("nth 2 set B x", (SKIPPED, "config.mk:19: note: B = x   (in `ifdef V`, config.mk:18)")),
     ("nth 7 set A x", ()),
+    # the line that is gone, or more than one
+    ("nth 2 unset A", ()),
+    ("all set B x", ()),
 )  # fmt: skip
 
 RULES = b"""\
@@ -189,6 +214,8 @@ last &: i
 """
 # What is said of the lines of rules below it.
 ELSEWHERE = "-e 1: note: {} has a recipe in another rule"
+COLONS = "-e 1: note: {} has a rule with `{}`, and make stops with an error if it reads both"
+GOAL = "-e 1: note: make may take {} as its default goal now, in place of {}"
 # A command on a rule, and the lines of notes on it.
 RULE_CASES = (
     # a new rule; a rule has a recipe in its own line too, and in each branch of a conditional
@@ -197,7 +224,7 @@ RULE_CASES = (
         "config.mk:1: note: foo: a",
         "config.mk:4: note: foo bar: c ; two",
     )),
-    ('rule bottom "baz bar foo" :: x', (
+    ('rule bottom "baz bar foo" : x', (
         ELSEWHERE.format("bar"),
         "config.mk:4: note: foo bar: c ; two",
         "config.mk:7: note: bar:   (in `ifdef A`, config.mk:6)",
@@ -206,12 +233,43 @@ RULE_CASES = (
         "config.mk:1: note: foo: a",
         "config.mk:4: note: foo bar: c ; two",
     )),
-    ("nth 1 rule before-rule foo all : x", (ELSEWHERE.format("all"), "config.mk:22: note: all: ;")),
+    ("nth 3 rule before-rule foo all : x", (ELSEWHERE.format("all"), "config.mk:22: note: all: ;")),
     ("rule bottom last : x", (ELSEWHERE.format("last"), "config.mk:22: note: last &: i")),
     # a pattern may have several rules, and so may a target of rules with `::`
     ("rule bottom %.o : x", ()),
     ("rule bottom dbl :: x", ()),
     ("rule bottom a : foo", ()),
+    # make has rules with one kind of colons for a target
+    ("rule bottom dbl : x", (
+        COLONS.format("dbl", "::"),
+        "config.mk:17: note: dbl:: e",
+        "config.mk:19: note: dbl:: g",
+    )),
+    ('rule bottom "bar last %.o" :: x', (
+        COLONS.format("bar", ":"),
+        "config.mk:4: note: foo bar: c ; two",
+        "config.mk:7: note: bar:   (in `ifdef A`, config.mk:6)",
+        "config.mk:10: note: bar:   (in `else`, config.mk:9)",
+        "config.mk:20: note: bar: h",
+        COLONS.format("last", ":"),
+        "config.mk:22: note: last &: i",
+    )),
+    # the first target is the default goal, if it is no pattern and does not begin with a dot
+    ("nth 1 rule before-rule foo check : x", (GOAL.format("check", "foo"), "config.mk:2: note: foo: a")),
+    ('nth 1 rule before-rule foo ".PHONY %.c check ./d" : x', (
+        GOAL.format("check", "foo"),
+        "config.mk:2: note: foo: a",
+    )),
+    ("nth 1 rule before-rule foo ./.d/e : x", (GOAL.format("./.d/e", "foo"), "config.mk:2: note: foo: a")),
+    ("nth 1 rule before-rule foo .PHONY : x", ()),
+    ("nth 1 rule before-rule foo ./.d : x", ()),
+    ("nth 1 rule before-rule foo %.c : x", ()),
+    ("nth 2 rule before-rule foo check : x", ()),
+    ('nth 1 rule before-rule foo "foo new" : x', (
+        ELSEWHERE.format("foo"),
+        "config.mk:2: note: foo: a",
+        "config.mk:5: note: foo bar: c ; two",
+    )),
     # a line of a recipe, where another rule has one
     ("nth 1 recipe foo q", (
         ELSEWHERE.format("foo"),
@@ -231,6 +289,25 @@ RULE_CASES = (
     ("recipe last q", ()),
     ("recipe-insert %.o 1 q", ()),
     ("nth 1 recipe dbl q", ()),
+    # a line in a conditional: that of the rule, or the recipe line
+    ("nth 2 recipe-insert bar 1 q", (
+        SKIPPED,
+        "config.mk:7: note: bar:   (in `ifdef A`, config.mk:6)",
+        ELSEWHERE.format("bar"),
+        "config.mk:4: note: foo bar: c ; two",
+        "config.mk:11: note: bar:   (in `else`, config.mk:10)",
+    )),
+    ("nth 2 depend bar q", (SKIPPED, "config.mk:7: note: bar: q   (in `ifdef A`, config.mk:6)")),
+    ("nth 2 recipe-del bar 1", (SKIPPED, "config.mk:7: note: bar:   (in `ifdef A`, config.mk:6)")),
+    ("nth 2 rule before-rule bar q : r", (SKIPPED, "config.mk:7: note: q: r   (in `ifdef A`, config.mk:6)")),
+    ('nth 2 rule before-rule bar "q bar" : r', (
+        SKIPPED,
+        "config.mk:7: note: q bar: r   (in `ifdef A`, config.mk:6)",
+        ELSEWHERE.format("bar"),
+        "config.mk:4: note: foo bar: c ; two",
+        "config.mk:8: note: bar:   (in `ifdef A`, config.mk:6)",
+        "config.mk:11: note: bar:   (in `else`, config.mk:10)",
+    )),
     # edits that put in no recipe
     ("nth 1 recipe-del foo 1", ()),
     ("nth 2 depend foo q", ()),
@@ -273,6 +350,120 @@ class EditNotes(RoomCase):
             lines = b"".join(b"foo: %d ;\n" % it for it in range(count))
             notes = [f"config.mk:{it + 1}: note: foo: {it} ;" for it in range(10)]
             self.assert_noted(lines, "rule bottom foo : x", (ELSEWHERE.format("foo"), *notes, *more))
+
+    def test_a_recipe_line_in_a_conditional(self):
+        lines = b"all:\n\ta\nifdef X\n\tb\nelse\n\tc\nendif\n"
+        for command, notes in (
+            ("recipe-set all 1 x", ()),
+            ("recipe-set all 2 x", (SKIPPED, "config.mk:4: note: x   (in a recipe)   (in `ifdef X`, config.mk:3)")),
+            ("recipe-replace all a x", ()),
+            (
+                "recipe-replace all c x",
+                (SKIPPED, "config.mk:6: note: x   (in a recipe)   (in `else`, config.mk:5)"),
+            ),
+            # which of two lines it is, the text does not tell
+            ("recipe-replace all b c", ()),
+        ):
+            self.assert_noted(lines, command, notes)
+
+    def test_a_value_that_keeps_the_old_one_is_no_other(self):
+        for line, again in (
+            ("A := $(A) b", False),
+            ("A := b ${A}", False),
+            ("A := $(filter-out a,$(A))", False),
+            ("A := $(A:.c=.o)", False),
+            ("A := $A", False),
+            ("A != echo $(A)", False),
+            ("A := $(B)", True),
+            ("A := $(AB) $(B A) $B", True),
+            ("A := (A) A", True),
+        ):
+            notes = (AGAIN.format("A"), f"config.mk:2: note: {line}") if again else ()
+            self.assert_noted(f"A = a\n{line}\n".encode(), "nth 1 set A c", notes)
+
+    def test_assignments_that_are_not_read(self):
+        lines = b"""\
+A = 1
+$(info x)
+\tA += 2
+\toverride A ?= 3
+\tA: = 4
+\tAB = 5
+B = 6
+$(info y)
+\tB:=7
+"""
+        notes = (
+            UNREAD.format("A"),
+            "config.mk:3: note: A += 2   (opaque)",
+            "config.mk:4: note: override A ?= 3   (opaque)",
+        )
+        for command in ("set A x", "append A x", "add A x", "drop A 1", "all add A x"):
+            self.assert_noted(lines, command, notes)
+        self.assert_noted(lines, "set B x", (UNREAD.format("B"), "config.mk:9: note: B:=7   (opaque)"))
+        self.assert_noted(lines, "unset B", (UNREAD.format("B"), "config.mk:8: note: B:=7   (opaque)"))
+        # those above matter where all or none are left
+        self.assert_noted(lines, "assign after-var B A = x", ())
+        self.assert_noted(lines, "assign bottom A = x", ())
+        self.assert_noted(lines, "assign after-var A AB = x", (
+            UNREAD.format("AB"),
+            "config.mk:7: note: AB = 5   (opaque)",
+        ))  # fmt: skip
+
+    def test_an_assignment_behind_a_byte_order_mark(self):
+        note = b"config.mk:1: note: \xef\xbb\xbfA = 1   (behind a byte order mark)\n"
+        self.room.write("config.mk", b"\xef\xbb\xbfA = 1\nA += 2\n")
+        words = ("edit", "-o", "out", "--notes", "-e", "all set A 3", "config.mk")
+        self.assert_run(Outcome(b"", said(UNREAD.format("A")) + note, 0), *words)
+
+    def test_a_default_goal_that_stays(self):
+        for lines in (
+            b"%.o: a\n.PHONY: all\nA = 1\n",
+            b"all: a\nA = 1\nb: c\n",
+            b"A = 1\nall: a\n.DEFAULT_GOAL := all\n",
+            b"a : b : c : d\nA = 1\nall: a\n",
+            b"A = 1\nnew: b\nall: a\n",
+        ):
+            self.assert_noted(lines, "rule after-var A new : x", ())
+        self.assert_noted(b"A = 1\n.PHONY: all\nall: a\n", "rule after-var A new : x", (
+            GOAL.format("new", "all"),
+            "config.mk:4: note: all: a",
+        ))  # fmt: skip
+
+    def test_try_tells_of_names_that_are_spelled_alike(self):
+        makefile = b"CFLAGS = -O2\nCFLAGS += -g\nclean:\n\trm\nLIBS = x\n"
+        alike = "-e 1: note: `try` finds no {}; did you mean one of these?"
+        for command, notes in (
+            ("try set CFLAG x", (
+                alike.format("CFLAG"),
+                "config.mk:1: note: CFLAGS = -O2",
+                "config.mk:2: note: CFLAGS += -g",
+            )),
+            ("try all drop CFLAG x", (
+                alike.format("CFLAG"),
+                "config.mk:1: note: CFLAGS = -O2",
+                "config.mk:2: note: CFLAGS += -g",
+            )),
+            ("try unrule claen", (alike.format("claen"), "config.mk:3: note: clean:")),
+            ("try rename claen x", (alike.format("claen"), "config.mk:3: note: clean:")),
+            ("try unset NOTHING", ()),
+            # the name is there
+            ("try nth 3 set CFLAGS x", ()),
+            ("try drop LIBS y", ()),
+            ("try add LIBS x", ()),
+            # an alternative is expected to be missing
+            ("set CFLAG x\nor set LIBS x", ()),
+        ):  # fmt: skip
+            self.assert_noted(makefile, command, notes)
+
+    def test_after_many_bytes_there_are_no_notes(self):
+        self.room.write("config.mk", b"#" + b"x" * 9_999_999 + b"\nLIBS = x\n")
+        near = "`try` finds no LIB; did you mean one of these?\nconfig.mk:2: note: LIBS = x\n"
+        end = "no more notes like these: the makefile is too long for so many edits\n"
+        for line, note in ((10, near), (11, end)):
+            self.room.write("script", b"try set NONE x\n" * (line - 1) + b"try set LIB x\n")
+            wanted = Outcome(b"", f"script:{line}: note: {note}".encode(), 0)
+            self.assert_run(wanted, "edit", "-o", "out", "--notes", "script", "config.mk")
 
     def test_both_notes(self):
         self.assert_noted(b"CC ?= gcc\nCC = tcc\n", "nth 1 set CC x", (

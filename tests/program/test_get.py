@@ -10,7 +10,7 @@ import subprocess
 
 from tests.lib import reading
 from tests.lib.checks import Outcome
-from tests.lib.rooms import READ_FAULT, TOO_DEEP, WRITE_FAULT, RoomCase, cannot_open
+from tests.lib.rooms import READ_FAULT, TOO_DEEP, TOO_LONG, WRITE_FAULT, RoomCase, cannot_open
 from tests.lib.tables import TABLES, rows, unescape
 from tests.soak import document
 from tests.soak.edits import Refused, SetValue
@@ -88,7 +88,8 @@ class Get(RoomCase):
 
     def test_get_takes_the_line_that_set_takes_in_each_makefile(self):
         for text, place in makefiles().items():
-            own = sorted(filter(is_word, reading.names(text)))
+            # A comma stands between names.
+            own = sorted(name for name in reading.names(text) if is_word(name) and b"," not in name)
             names = own if own and len(text) % 7 else OTHERS
             name = names[len(text) % len(names)]
             nth = (None, None, 1, 2, 0)[len(text) % 5]
@@ -132,10 +133,38 @@ class Get(RoomCase):
     def test_of_several_files_each_line_has_a_name(self):
         self.room.write("two", TWO)
         self.room.write("other", b"CC =\n")
-        wanted = Outcome(b"Makefile:gcc\nother:\n", b"two:refused 5 Ambiguous 2\n", 1)
+        wanted = Outcome(b"Makefile:gcc\nother:\n", b"two: refused 5 Ambiguous 2\n", 1)
         self.assert_run(wanted, "get", "CC", "Makefile", "two", "other")
         wanted = Outcome(b"Makefile:gcc\n", cannot_open("none").stderr, 3)
         self.assert_run(wanted, "get", "CC", "none", "Makefile")
+
+    def test_several_names_have_a_line_each_in_their_order(self):
+        self.room.write("two", TWO + b"AR = ar\nX =\n")
+        asked = ("get", "X,CC,AR,LD", "two")
+        told = b"CC: refused 5 Ambiguous 2\nLD: refused 4 NoSuch\n"
+        self.assert_run(Outcome(b"\nar\n", told, 1), *asked)
+        self.assert_run(Outcome(b"ar\n\n", b"", 0), "get", "AR,X", given=b"AR = ar\nX =\n")
+        self.assert_run(Outcome(b"b\nb\n", b"", 0), "get", "--nth", "2", "CC,CC", "two")
+        told = b"Makefile: AR: refused 4 NoSuch\nmkedit: cannot open none\ntwo: CC: refused 5 Ambiguous 2\n"
+        wanted = Outcome(b"Makefile:gcc\ntwo:ar\n", told, 3)
+        self.assert_run(wanted, "get", "CC,AR", "Makefile", "none", "two")
+        self.assert_run(Outcome(b"", b": refused 1 BadArgument name\n" * 2, 1), "get", ",")
+
+    def test_a_makefile_that_cannot_be_read_is_told_once_for_all_names(self):
+        self.room.write("long", b"#" * ((1 << 24) + 1))
+        self.assert_run(READ_FAULT, "get", "CC,AR", ".")
+        self.assert_run(TOO_LONG, "get", "CC,AR", "long")
+        told = b".: mkedit: read fault\n.: note: is a directory\n"
+        self.assert_run(Outcome(b"Makefile:gcc\nMakefile:gcc\n", told, 3), "get", "--notes", "CC,CC", ".", "Makefile")
+
+    def test_a_value_in_json_has_its_file_and_its_name(self):
+        self.room.write("bytes", b"A = \xff\nB = \t\"\\x # c\n")
+        told = b'{"file":"bytes","name":"A","value":{"base64":"/w=="}}\n'
+        told += b'{"file":"bytes","name":"B","value":"\\"\\\\x"}\n'
+        self.assert_run(Outcome(told, b"", 0), "get", "--json", "A,B", "bytes")
+        told += b'{"file":"Makefile","name":"CC","value":"gcc"}\n'
+        missing = b"bytes: CC: refused 4 NoSuch\nMakefile: A: refused 4 NoSuch\nMakefile: B: refused 4 NoSuch\n"
+        self.assert_run(Outcome(told, missing, 1), "get", "--json", "A,B,CC", "bytes", "Makefile")
 
     def test_a_fault_is_no_refusal(self):
         self.assert_run(cannot_open("none"), "get", "CC", "none")

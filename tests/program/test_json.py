@@ -184,7 +184,7 @@ class Json(RoomCase):
         self.assert_run(Outcome(line, cannot_open("absent").stderr, 3), "vars", "--json", "absent", "Makefile")
         self.assert_run(cannot_open("absent"), "vars", "--json", "absent")
         self.assert_run(READ_FAULT, "vars", "--json", ".")
-        self.assert_run(Outcome(line, b".:mkedit: read fault\n", 3), "vars", "--json", ".", "Makefile")
+        self.assert_run(Outcome(line, b".: mkedit: read fault\n", 3), "vars", "--json", ".", "Makefile")
         self.room.write("deep", b"ifdef A\n" * 257)
         self.assert_run(TOO_DEEP, "check", "--json", "deep")
 
@@ -210,7 +210,7 @@ class Json(RoomCase):
         self.assertEqual((got.stderr, got.status), (b"", 0))
 
     def test_other_commands_do_not_take_it(self):
-        for words in (("get", "--json", "CC", "Makefile"), ("edit", "--json", "script", "Makefile"), ("explain", "--json", "4")):
+        for words in (("edit", "--json", "script", "Makefile"), ("explain", "--json", "4")):
             self.assert_bad_command_line(*words)
             said = self.room.run(*words).stderr.decode()
             self.assertRegex(said, r"^error: unexpected argument '--json' found\n")

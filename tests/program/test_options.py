@@ -23,6 +23,7 @@ TAKEN = [
         edit --expression 'set CC clang' -- Makefile | edit '--expression=set CC clang'
         edit -e 'set CC cc' -e '' -e '# a' -e 'set CC clang' | edit -e 'set CC cc\\nset CC clang' Makefile
         edit -d 1 script | edit -d1 script | edit -d=1 script | edit --depth 10000 script | edit --depth=00100 script
+        edit --report text script | edit script --report=text --notes Makefile
         edit --notes script | edit --color always script Makefile | edit --color=never script | edit --color auto script"""),
     (0, "--- a/Makefile", None, """
         edit --diff script Makefile | edit --diff --color never script Makefile | edit --color=auto script Makefile --diff
@@ -44,6 +45,7 @@ TAKEN = [
     (0, None, None, "vars --name CXX | vars --name= | rules --target main.o queried | recipes queried --target=al | check"),
     (0, "gcc", None, "get CC | get CC - | get --nth 1 CC | get CC --nth=1 queried | get --nth 01 CC | get --notes CC"),
     (0, "Makefile:gcc", None, "get CC Makefile queried | get --nth 1 CC Makefile -"),
+    (0, '{"file":"-","name":"CC","value":"gcc"}', None, "get --json CC | get CC,CC --json - | get --nth=1 --json CC,CC"),
     (1, None, "refused 4 NoSuch", "get X | get --nth 2 CC | get --nth=0 CC | get --nth 4294967295 CC | get -- -x | get X -"),
     (0, "4 NoSuch", None, "explain 4 | explain NoSuch | explain nosuch | explain NOSUCH | explain -- 4"),
     (0, "20 NoMemory", None, "explain 20 | explain NoMemory"),
@@ -67,7 +69,8 @@ REFUSED = {
         "-o": "rules -o out Makefile | session -oout Makefile",
         "--name": "rules --name all | get --name CC | edit --name CC script | session --name CC a | --name CC vars",
         "--target": "vars --target all | explain --target a 4 | check --target=all | caveats --target all | get --target a",
-        "--json": "edit --json script | get --json CC | explain --json 4",
+        "--json": "edit --json script | explain --json 4",
+        "--report": "vars --report json Makefile | get --report=json CC | session --report json Makefile",
         "--nth": "vars --nth 1 | edit --nth 1 script | session --nth=1 Makefile",
         "--color": "vars --color always Makefile | get --color=never CC",
         "--depth": "check --depth 5 Makefile | get --depth=5 CC",
@@ -83,6 +86,7 @@ REFUSED = {
         "--depth <DEPTH>": "edit -d 1 -d 2 script | session -d1 --depth=1 Makefile",
         "--backup <SUFFIX>": "edit -i --backup a --backup b script Makefile",
         "--color <WHEN>": "edit --color never --color never script | session --color auto --color auto Makefile",
+        "--report <FORM>": "edit --report json --report json script",
         "--name <NAME>": "vars --name CC --name CC Makefile",
         "--target <TARGET>": "rules --target a --target b | recipes --target a --target=a",
         "--nth <N>": "get --nth 1 --nth 1 CC",
@@ -93,6 +97,7 @@ REFUSED = {
         "--output <OUT>": "edit script Makefile -o | edit script --output",
         "--expression <COMMAND>": "edit script Makefile -e | edit --expression",
         "--color <WHEN>": "edit script --color | session Makefile --color",
+        "--report <FORM>": "edit script --report",
         "--backup <SUFFIX>": "edit -i script Makefile --backup | edit --backup -i script",
         "--name <NAME>": "vars Makefile --name | vars --name --json",
         "--target <TARGET>": "rules --target | recipes queried --target",
@@ -126,6 +131,8 @@ REFUSED = {
         "invalid value for '--color <WHEN>': it is auto, always or never": """
             edit --color Always script | edit --diff --color= script Makefile | edit --color alway -e undo
             session --color=Never Makefile | session --color '' Makefile | session --color - Makefile""",
+        "invalid value for '--report <FORM>': it is text or json": """
+            edit --report Json script | edit --diff --report= script Makefile | edit --report xml -e undo""",
         "invalid value for '--backup <SUFFIX>': it may neither be empty nor have a '/'": """
             edit -i --backup '' script Makefile | edit -i --backup=a/b script Makefile | edit --backup / -i script""",
         "invalid value for '<REFUSAL>': it is no number from 1 to 20, and no refusal has this name": """

@@ -52,7 +52,7 @@ class Progress(RoomCase):
         self.room.written.pop("Makefile")
         got, shown = self.shown("edit", "-i", "script", "slow", "Makefile")
         self.assertEqual(got, Outcome(b"", b"", 3))
-        told = rb"slow:mkedit: write fault\nslow: note: is no regular file\n"
+        told = rb"slow: mkedit: write fault\nslow: note: is no regular file\n"
         last = b"2 files: 1 changed, 0 unchanged, 0 refused, 1 failed\n"
         self.assertRegex(shown, rb"\A%b\r1 of 2 files%b%b\Z" % (told, WIPED, last))
 

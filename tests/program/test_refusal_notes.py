@@ -263,8 +263,22 @@ config.mk:2: note: A = 2
 
     def test_a_refusal_that_try_makes_none_has_no_note(self):
         self.room.write("config.mk", MAKEFILE)
-        words = ("edit", "--notes", "-e", "try set CFLAG x", "config.mk")
+        words = ("edit", "--notes", "-e", "try add PREFIX /usr", "-e", "try set NOTHING x", "config.mk")
         self.assert_run(Outcome(MAKEFILE, b"", 0), *words)
+
+    def test_of_many_lines_those_with_the_word_come_first(self):
+        lines = b"".join(b"A = %d\n" % it for it in range(12)) + b"A = $(if x,-g)\nA = a-gb\n"
+        with_word = ("config.mk:13: note: A = $(if x,-g)", "config.mk:14: note: A = a-gb")
+        others = [f"config.mk:{it + 1}: note: A = {it}" for it in range(8)]
+        notes = (*with_word, *others, "config.mk: note: and 4 more")
+        self.assert_noted(lines, "all drop A -g", "6 Absent", notes)
+        which = "-e 1: note: `nth 1` to `nth 14` or `all` before the command says which"
+        self.assert_noted(lines, "add A -g", "5 Ambiguous 14", (*notes, which))
+        # up to ten lines are in their order, so that their numbers are seen
+        lines = lines[lines.index(b"A = 4\n"):]
+        notes = (*(f"config.mk:{it}: note: A = {it + 3}" for it in range(1, 9)),
+                 "config.mk:9: note: A = $(if x,-g)", "config.mk:10: note: A = a-gb")  # fmt: skip
+        self.assert_noted(lines, "all drop A -g", "6 Absent", notes)
 
     def test_what_makefile_and_script_are_called(self):
         makefile = b"A = 1\nA = 2\n"

@@ -324,9 +324,10 @@ class Session(RoomCase):
             ("qiut", "fault not a command"),
             ("append CC -g", "ok"),
             ("set Y 1", "refused 4 NoSuch"),
+            ("x" * 65_536, "fault line too long"),
         ):
             self.assert_replies(talk, (line, reply), ("quit", UNWRITTEN))
-        self.assert_replies(talk, ("x" * 65_536, "fault line too long"), ("# no reply\nquit", "ok"))
+        self.assert_replies(talk, ("# no reply\n \nquit", "ok"))
         self.assertEqual(talk.end(), Outcome(b"", b"", 0))
 
     def test_quit_ends_where_nothing_is_unwritten(self):

@@ -51,10 +51,10 @@ class SeveralDiffs(RoomCase):
         self.assert_well(wrong_trees(got.stdout, OLD, NEW))
 
     def test_a_refused_file_has_no_diff_and_the_others_go_on(self):
-        both = Outcome(diff_of("Makefile") + diff_of("copy"), b"other:1: refused 4 NoSuch\n", 1)
+        both = Outcome(diff_of("Makefile") + diff_of("copy"), b"other: 1: refused 4 NoSuch\n", 1)
         self.assert_run(both, "edit", "--diff", "script", "Makefile", "other", "copy")
         self.room.write("both", b"set CC clang\nset CXX clang++\n")
-        told = b"Makefile:2: refused 4 NoSuch\nother:1: refused 4 NoSuch\n"
+        told = b"Makefile: 2: refused 4 NoSuch\nother: 1: refused 4 NoSuch\n"
         self.assert_run(Outcome(b"", told, 1), "edit", "--diff", "both", "Makefile", "other")
         got = self.room.run("edit", "-k", "--diff", "both", "Makefile", "other")
         self.assertEqual((got.stderr, got.status), (told, 1))
@@ -69,7 +69,7 @@ class SeveralDiffs(RoomCase):
     def test_a_message_begins_with_the_name_of_its_file(self):
         self.room.write("deep", b"ifdef A\n" * 257)
         self.room.write("long", b"\n" * 16_777_217)
-        told = b"deep:mkedit: too deep\nlong:mkedit: too long\n.:mkedit: read fault\n"
+        told = b"deep: mkedit: too deep\nlong: mkedit: too long\n.: mkedit: read fault\n"
         wanted = Outcome(diff_of("Makefile"), told, 3)
         self.assert_run(wanted, "edit", "--diff", "script", "deep", "long", ".", "Makefile")
 
@@ -123,7 +123,7 @@ class SeveralDiffs(RoomCase):
             self.assertEqual(all_shown(user, program), painted)
 
     def test_each_file_is_told_where_the_disk_is_full(self):
-        told = b"Makefile:mkedit: write fault\ncopy:mkedit: write fault\n"
+        told = b"Makefile: mkedit: write fault\ncopy: mkedit: write fault\n"
         with open("/dev/full", "wb") as full:
             got = self.room.run("edit", "--diff", "script", "Makefile", "copy", stdout=full)
         self.assertEqual((got.stderr, got.status), (told, 3))
@@ -135,5 +135,5 @@ class SeveralDiffs(RoomCase):
         ) as process:
             process.stdout.readline()
             process.stdout.close()
-            self.assertEqual(process.stderr.read(), b"Makefile:mkedit: write fault\n")
+            self.assertEqual(process.stderr.read(), b"Makefile: mkedit: write fault\n")
         self.assertEqual(process.returncode, 3)

@@ -18,7 +18,7 @@ OTHER = b"# c++\nCXX = g++\n"
 CLANG = b"CC = clang # c\n"
 # Two lines of one name.
 TWO = b"CC = a\nCC = b\n"
-REFUSED_OTHER = Outcome(b"", b"other:1: refused 4 NoSuch\n", 1)
+REFUSED_OTHER = Outcome(b"", b"other: 1: refused 4 NoSuch\n", 1)
 DEEP = b"ifdef A\n" * 257
 
 
@@ -42,12 +42,12 @@ class SeveralFiles(RoomCase):
 
     def test_each_report_line_begins_with_the_name_of_its_file(self):
         self.room.write("two", TWO)
-        report = b"two:1: refused 5 Ambiguous 2\nother:1: refused 4 NoSuch\n"
+        report = b"two: 1: refused 5 Ambiguous 2\nother: 1: refused 4 NoSuch\n"
         self.assert_run(Outcome(b"", report, 1), "edit", "-i", "script", "two", "Makefile", "other")
         self.assert_edited("Makefile")
         self.room.write("long", b"set A b\nset CC clang\nset C d\n")
-        report = b"copy:1: refused 4 NoSuch\ncopy:3: refused 4 NoSuch\n"
-        report += b"".join(b"other:%d: refused 4 NoSuch\n" % it for it in (1, 2, 3))
+        report = b"copy: 1: refused 4 NoSuch\ncopy: 3: refused 4 NoSuch\n"
+        report += b"".join(b"other: %d: refused 4 NoSuch\n" % it for it in (1, 2, 3))
         self.assert_run(Outcome(b"", report, 1), "edit", "-k", "-i", "long", "copy", "other")
         self.assert_edited("copy")
 
@@ -64,14 +64,14 @@ class SeveralFiles(RoomCase):
 
     def test_a_message_begins_with_the_name_of_its_file(self):
         self.room.write("deep", DEEP)
-        told = Outcome(b"", b"deep:mkedit: too deep\n.:mkedit: read fault\n", 3)
+        told = Outcome(b"", b"deep: mkedit: too deep\n.: mkedit: read fault\n", 3)
         self.assert_run(told, "edit", "-i", "script", "deep", ".", "Makefile")
         self.assert_edited("Makefile")
         self.assert_run(told, "check", "deep", ".", "empty")
 
     def test_a_note_stands_below_the_message_of_its_file(self):
         told = b"mkedit: cannot open absent\nabsent: note: no such file\n"
-        told += b".:mkedit: read fault\n.: note: is a directory\n"
+        told += b".: mkedit: read fault\n.: note: is a directory\n"
         self.assert_run(Outcome(b"", told, 3), "edit", "--notes", "-i", "script", "absent", ".")
         self.assert_run(Outcome(b"", told, 3), "vars", "--notes", "absent", ".", "empty")
 
@@ -101,7 +101,7 @@ class SeveralFiles(RoomCase):
 
     def test_a_file_that_is_named_twice_is_edited_twice(self):
         words = ("edit", "-i", "-e", "append CC -m64", "Makefile", "Makefile", "other")
-        told = Outcome(b"", b"other:1: refused 4 NoSuch\n", 1)
+        told = Outcome(b"", b"other: 1: refused 4 NoSuch\n", 1)
         self.assert_run(told, *words)
         self.assert_holds("Makefile", b"CC = gcc -m64 -m64 # c\n")
 
@@ -117,7 +117,7 @@ class SeveralFiles(RoomCase):
 
     def test_each_depth_is_that_of_the_command_line(self):
         self.room.write("undone", b"set CC a\nset CC b\nundo\nundo\n")
-        report = b"Makefile:4: refused 16 NothingToUndo\ncopy:4: refused 16 NothingToUndo\n"
+        report = b"Makefile: 4: refused 16 NothingToUndo\ncopy: 4: refused 16 NothingToUndo\n"
         words = ("edit", "-d", "1", "-i", "undone", "Makefile", "copy")
         self.assert_run(Outcome(b"", report, 1), *words)
 
@@ -181,7 +181,7 @@ class SeveralFiles(RoomCase):
         told = b"mkedit: more is a script: there is one SCRIPT alone, unless --force-text makes it a FILE\n"
         for words in (("-i", "script", "more", "Makefile"), ("-i", "-e", "undo", "Makefile", "more"), ("--check", "script", "empty", "more")):
             self.assert_run(Outcome(b"", told, 2), "edit", *words)
-        report = b"more:1: refused 4 NoSuch\n"
+        report = b"more: 1: refused 4 NoSuch\n"
         self.assert_run(Outcome(b"", report, 1), "edit", "-i", "--force-text", "script", "more", "Makefile")
         self.assert_edited("Makefile")
 

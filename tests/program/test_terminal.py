@@ -119,8 +119,8 @@ class Terminal(RoomCase):
         user.shown(b"> ")
         self.assertEqual(
             user.types(b"set X 3\n"),
-            b"refused 5 Ambiguous 2: Several assignments or several rules that are read have this name, and no "
-            b"`nth` says which one is meant, and no `all` that all are.\ntwo> ",
+            b"refused 5 Ambiguous 2: Several assignments or several rules have this name, and neither `nth` nor "
+            b"`all` says which are meant.\ntwo> ",
         )
         self.assertEqual(
             user.types(b"set a:b 1\n"),
@@ -128,7 +128,7 @@ class Terminal(RoomCase):
         )
         self.assertEqual(
             user.types(b"undo\n"),
-            b"refused 16 NothingToUndo: No edit is there to take back, or the depth is used up.\ntwo> ",
+            b"refused 16 NothingToUndo: There is no edit to undo, or the depth is used up.\ntwo> ",
         )
 
     def test_answers_are_shown_as_they_are(self):

@@ -65,73 +65,73 @@ class Session:
     # ---- variables
 
     def set(self, name: str, value: str, nth: Optional[int] = None) -> None:
-        """Gives an assignment another value."""
+        """Replaces the value of an assignment."""
         self._do("set", name, value, nth=nth)
 
     def append(self, name: str, value: str, nth: Optional[int] = None) -> None:
-        """Puts a text at the end of a value."""
+        """Appends a text to a value."""
         self._do("append", name, value, nth=nth)
 
     def add(self, name: str, word: str, nth: Optional[int] = None) -> None:
-        """Puts a word at the end of a value that does not have it."""
+        """Appends a word to a value that does not have it yet."""
         self._do("add", name, word, nth=nth)
 
     def drop(self, name: str, word: str, nth: Optional[int] = None) -> None:
-        """Takes a word out of a value."""
+        """Removes a word from a value."""
         self._do("drop", name, word, nth=nth)
 
     def set_all(self, name: str, value: str) -> None:
-        """Gives each assignment of a name another value."""
+        """Replaces the value of each assignment of a name."""
         self._do("set", name, value, before="all")
 
     def append_all(self, name: str, value: str) -> None:
-        """Puts a text at the end of each value of a name."""
+        """Appends a text to each value of a name."""
         self._do("append", name, value, before="all")
 
     def add_all(self, name: str, word: str) -> None:
-        """Puts a word at the end of each value of a name that does not have it."""
+        """Appends a word to each value of a name that does not have it yet."""
         self._do("add", name, word, before="all")
 
     def drop_all(self, name: str, word: str) -> None:
-        """Takes a word out of each value of a name."""
+        """Removes a word from each value of a name."""
         self._do("drop", name, word, before="all")
 
     def unset(self, name: str, nth: Optional[int] = None) -> None:
-        """Takes an assignment away."""
+        """Removes an assignment."""
         self._do("unset", name, nth=nth)
 
     def assign(self, place: Place, name: str, operator: str, value: str) -> None:
-        """Puts in the line of an assignment."""
+        """Inserts a new assignment."""
         self._put_in("assign", place, name, operator, value)
 
     # ---- rules
 
     def rule(self, place: Place, targets: str, separator: str, prerequisites: str) -> None:
-        """Puts in the line of a rule."""
+        """Inserts the line of a new rule."""
         self._put_in("rule", place, targets, separator, prerequisites)
 
     def unrule(self, target: str, nth: Optional[int] = None) -> None:
-        """Takes a rule away, with its recipe."""
+        """Removes a rule and its recipe."""
         self._do("unrule", target, nth=nth)
 
     def depend(self, target: str, word: str, nth: Optional[int] = None) -> None:
-        """Puts a word at the end of a rule's prerequisites."""
+        """Appends a word to a rule's normal prerequisites."""
         self._do("depend", target, word, nth=nth)
 
     def depend_order(self, target: str, word: str, nth: Optional[int] = None) -> None:
-        """Puts a word at the end of a rule's order-only prerequisites."""
+        """Appends a word to a rule's order-only prerequisites."""
         self._do("depend-order", target, word, nth=nth)
 
     def undepend(self, target: str, word: str, nth: Optional[int] = None) -> None:
-        """Takes a word out of a rule's prerequisites."""
+        """Removes a word from a rule's prerequisites."""
         self._do("undepend", target, word, nth=nth)
 
     def recipe(self, target: str, line: str, nth: Optional[int] = None) -> None:
-        """Puts a line at the end of a rule's recipe."""
+        """Appends a line to a rule's recipe."""
         self._do("recipe", target, line, nth=nth)
 
     def recipe_insert(self, target: str, number: int, line: str, nth: Optional[int] = None) -> None:
-        """Puts a line before the recipe line of a number, from 1."""
+        """Inserts a line before the recipe line of a number, from 1."""
         self._do("recipe-insert", target, digits(number), line, nth=nth)
 
     def recipe_set(self, target: str, number: int, line: str, nth: Optional[int] = None) -> None:
@@ -139,34 +139,34 @@ class Session:
         self._do("recipe-set", target, digits(number), line, nth=nth)
 
     def recipe_del(self, target: str, number: int, nth: Optional[int] = None) -> None:
-        """Takes the recipe line of a number, from 1, away."""
+        """Removes the recipe line of a number, from 1."""
         self._do("recipe-del", target, digits(number), nth=nth)
 
     def recipe_replace(self, target: str, old: str, line: str, nth: Optional[int] = None) -> None:
-        """Replaces the recipe line that says old."""
+        """Replaces the recipe line whose text is old."""
         self._do("recipe-replace", target, old, line, nth=nth)
 
     def recipe_remove(self, target: str, old: str, nth: Optional[int] = None) -> None:
-        """Takes the recipe line away that says old."""
+        """Removes the recipe line whose text is old."""
         self._do("recipe-remove", target, old, nth=nth)
 
     def rename(self, old: str, new: str) -> None:
-        """Gives a target another name, also where it is a prerequisite."""
+        """Renames a target, also where it is a prerequisite."""
         self._do("rename", old, new)
 
     # ---- history
 
     def undo(self) -> None:
-        """Takes the last edit or group back."""
+        """Undoes the last edit or group."""
         self._do("undo")
 
     def redo(self) -> None:
-        """Makes the edit or group again that was taken back last."""
+        """Redoes the edit or group that was undone last."""
         self._do("redo")
 
     @contextmanager
     def group(self) -> Iterator["Session"]:
-        """Edits as one: an exception takes all of them back, and comes out.
+        """Edits as one: an exception undoes all of them, and is raised again.
 
         Where they cannot be taken back, for instance since the session has ended, the error that says so is
         in the context of the exception.
@@ -180,14 +180,14 @@ class Session:
         self._do("end")
 
     def _cancel(self, fault: BaseException) -> None:
-        """Takes a group back after an exception, which no error of this hides."""
+        """Undoes a group after an exception, which no error of this hides."""
         try:
             self._do("cancel")
         except Error as later:
             put_behind(fault, later)
 
     def revert(self) -> None:
-        """Takes back all that can be; a fault where the depth was too small for that."""
+        """Undoes everything; a fault if the depth was too small for that."""
         self._do("revert")
 
     # ---- what the makefile has
@@ -222,7 +222,7 @@ class Session:
         return self._talk.ask(answers.recipe_lines, "recipes", *([word(target)] if target is not None else []))
 
     def history(self) -> List[Step]:
-        """What can be undone and redone, the last first; a group that is open comes before that."""
+        """What can be undone and redone, the last first; an open group comes before that."""
         return self._talk.ask(answers.steps, "history")
 
     def check(self) -> str:

@@ -16,7 +16,3 @@ mod HeaderLemmas
 mod HeaderPartLemmas
 mod ReadingLemmas
 pub mod ArgumentLemmas
--- Definitions computed
-mod ClassNames
-mod WorkedRows
-mod RandomArguments

@@ -43,7 +43,7 @@ pub(crate) enum Kind {
 pub(crate) const KEEP_GOING: Argument = Argument {
     id: "keep-going",
     kind: Kind::Flag(Some('k')),
-    help: "Goes on after a refused command",
+    help: "Continues after a refused command",
 };
 
 pub(crate) const DEPTH: Argument = Argument {
@@ -60,125 +60,131 @@ pub(crate) const DEPTH: Argument = Argument {
 pub(crate) const OUTPUT: Argument = Argument {
     id: "output",
     kind: Kind::Value(Some('o'), "OUT"),
-    help: "Where the text goes; it may be FILE, which is then named twice",
+    help: "Writes the result to OUT; to write it to FILE itself, name FILE twice",
 };
 
 pub(crate) const IN_PLACE: Argument = Argument {
     id: "in-place",
     kind: Kind::Flag(Some('i')),
-    help: "FILE gets the text, and is the old file or the new one at every moment",
+    help: "Replaces FILE with the result atomically; access lists (ACLs) are not kept",
 };
 
 pub(crate) const BACKUP: Argument = Argument {
     id: "backup",
     kind: Kind::Value(None, "SUFFIX"),
-    help: "With -i, keeps the old file under FILE's name with SUFFIX at its end",
+    help: "With -i, keeps the old file as FILE with SUFFIX at its end",
 };
 
 pub(crate) const DIFF: Argument = Argument {
     id: "diff",
     kind: Kind::Flag(None),
-    help: "Prints what would change, as a diff that patch takes, in place of the text",
+    help: "Prints a diff instead, for patch -p1 or git apply in the current directory (.. for ../m, / for /x/m)",
 };
 
 pub(crate) const COLOR: Argument = Argument {
     id: "color",
     kind: Kind::Value(None, "WHEN"),
-    help: "Whether changes are shown in colours: auto (at a terminal), always or never [default: auto]",
+    help: "When to colour changes: auto (at a terminal), always or never [default: auto]",
 };
 
 pub(crate) const CHECK: Argument = Argument {
     id: "check",
     kind: Kind::Flag(None),
-    help: "Tries each command, reports each refusal, and writes no text; with --diff, a diff fails too",
+    help: "Tries every command, reports each refusal and writes nothing; with --diff, a change fails too",
 };
 
 pub(crate) const SUMMARY: Argument = Argument {
     id: "summary",
     kind: Kind::Flag(None),
-    help: "Says at the end how many FILEs were changed; at a terminal it does so for several FILEs",
+    help: "Ends with how many FILEs were changed; the default for several FILEs at a terminal",
 };
 
 pub(crate) const FORCE_TEXT: Argument = Argument {
     id: "force-text",
     kind: Kind::Flag(None),
-    help: "Edits several FILEs also where one of them is a script, and not a makefile",
+    help: "Edits several FILEs even if one of them is a script and not a makefile",
 };
 
 pub(crate) const EXPRESSION: Argument = Argument {
     id: "expression",
     kind: Kind::Values(Some('e'), "COMMAND"),
-    help: "A line of a script, in place of SCRIPT; several -e are its lines",
+    help: "Runs COMMAND in place of SCRIPT; several -e are the lines of a script",
 };
 
 pub(crate) const NOTES: Argument = Argument {
     id: "notes",
     kind: Kind::Flag(None),
-    help: "Says below a refusal or a message what is wrong, and where; at a terminal it always does",
+    help: "Explains messages and refusals, with the lines concerned; the default at a terminal",
+};
+
+pub(crate) const REPORT: Argument = Argument {
+    id: "report",
+    kind: Kind::Value(None, "FORM"),
+    help: "Reports refusals and messages as text, or with json as one JSON object per line [default: text]",
 };
 
 pub(crate) const JSON: Argument = Argument {
     id: "json",
     kind: Kind::Flag(None),
-    help: "Prints lines of JSON, each of them an object, for programs",
+    help: "Prints one JSON object per line",
 };
 
 pub(crate) const NAME: Argument = Argument {
     id: "name",
     kind: Kind::Value(None, "NAME"),
-    help: "Lists the assignments of NAME alone, for targets or not",
+    help: "Lists only the assignments of NAME, target-specific ones too",
 };
 
 pub(crate) const TARGET: Argument = Argument {
     id: "target",
     kind: Kind::Value(None, "TARGET"),
-    help: "Lists what belongs to the rules for TARGET alone",
+    help: "Lists only what belongs to the rules for TARGET",
 };
 
 pub(crate) const NTH: Argument = Argument {
     id: "nth",
     kind: Kind::Value(None, "N"),
-    help: "Takes the N-th of several assignments of NAME, from 1",
+    help: "Prints the value of the N-th assignment of NAME, counted from 1",
 };
 
 pub(crate) const PROTOCOL: Argument = Argument {
     id: "protocol",
     kind: Kind::Flag(None),
-    help: "Replies as to a program, also at a terminal",
+    help: "Replies as to a program, even at a terminal",
 };
 
 pub(crate) const NEW: Argument = Argument {
     id: "new",
     kind: Kind::Flag(None),
-    help: "Opens a FILE that is missing as an empty one; `write` makes it",
+    help: "Opens a missing FILE as an empty one; `write` creates it",
 };
 
 pub(crate) const SCRIPT: Argument = Argument {
     id: "SCRIPT",
     kind: Kind::Word,
-    help: "The script: a command a line; - is standard input",
+    help: "The script, one command per line; - is standard input",
 };
 
 pub(crate) const FILES: Argument = Argument {
     id: "FILE",
     kind: Kind::Words,
-    help: "The makefiles; standard input where one is -, or where there is none",
+    help: "The makefiles; standard input if one is -, or if there is none",
 };
 
 pub(crate) const VARIABLE: Argument = Argument {
     id: "NAME",
     kind: Kind::Required,
-    help: "The name of the variable",
+    help: "The name of the variable, or several names with commas between them",
 };
 
 pub(crate) const REFUSAL: Argument = Argument {
     id: "REFUSAL",
     kind: Kind::Required,
-    help: "Its number or its name, as the report has them",
+    help: "Its number or its name, as in the report",
 };
 
 pub(crate) const SESSION_FILE: Argument = Argument {
     id: "FILE",
     kind: Kind::Required,
-    help: "The makefile, by its name; the requests come from standard input",
+    help: "The makefile; the requests come from standard input",
 };

@@ -4,7 +4,7 @@
 //! say of commands in the same words.
 
 const SET: &str = "\
-Gives an assignment another value.
+Replaces the value of an assignment, and keeps its operator.
 
 Is refused with BadArgument, Reserved, RecipePrefix, NoSuch, Ambiguous or TooLong.
 
@@ -17,7 +17,7 @@ makes
 ";
 
 const APPEND: &str = "\
-Puts text at the end of a value.
+Appends text to a value.
 
 Is refused with BadArgument, Reserved, RecipePrefix, NoSuch, Ambiguous, OpenValue or TooLong.
 
@@ -30,7 +30,7 @@ makes
 ";
 
 const ADD: &str = "\
-Puts a word at the end of a value, unless it is there.
+Appends a word to a value that does not have it yet.
 
 Is refused with BadArgument, Reserved, RecipePrefix, NoSuch, Ambiguous, Already, OpenValue or
 TooLong.
@@ -44,7 +44,7 @@ makes
 ";
 
 const DROP: &str = "\
-Takes a word out of a value.
+Removes a word from a value.
 
 Is refused with BadArgument, Reserved, RecipePrefix, NoSuch, Ambiguous, Absent or OpenValue.
 
@@ -57,7 +57,7 @@ makes
 ";
 
 const UNSET: &str = "\
-Takes an assignment away.
+Removes an assignment.
 
 Is refused with BadArgument, Reserved, RecipePrefix, NoSuch, Ambiguous or Leans.
 
@@ -71,7 +71,7 @@ makes
 ";
 
 const ASSIGN: &str = "\
-Puts in a new assignment.
+Inserts a new assignment at PLACE.
 
 Is refused with BadArgument, Reserved, RecipePrefix, NoSuch, Ambiguous, OpenLine, OpenDefine, Leans
 or TooLong.
@@ -86,8 +86,8 @@ makes
 ";
 
 const RULE: &str = "\
-Puts in the line of a new rule, also where the target has a rule. A rule without prerequisites has
-`\"\"` for PREREQS.
+Inserts the line of a new rule at PLACE, even if a target has a rule already. A rule without
+prerequisites has `\"\"` for PREREQS.
 
 Is refused with BadArgument, Reserved, RecipePrefix, NoSuch, Ambiguous, OpenLine, OpenDefine, Leans
 or TooLong.
@@ -102,7 +102,7 @@ makes
 ";
 
 const UNRULE: &str = "\
-Takes a rule away, with its recipe.
+Removes a rule and its recipe.
 
 Is refused with BadArgument, Reserved, RecipePrefix, NoSuch, Ambiguous, SharedRule, Straddles or
 Leans.
@@ -118,7 +118,7 @@ makes
 ";
 
 const DEPEND: &str = "\
-Puts a word at the end of a rule's normal prerequisites.
+Appends a word to a rule's normal prerequisites.
 
 Is refused with BadArgument, Reserved, RecipePrefix, NoSuch, Ambiguous, Already or TooLong.
 
@@ -131,7 +131,7 @@ makes
 ";
 
 const DEPEND_ORDER: &str = "\
-Puts a word at the end of a rule's order-only prerequisites.
+Appends a word to a rule's order-only prerequisites.
 
 Is refused with BadArgument, Reserved, RecipePrefix, NoSuch, Ambiguous, Already or TooLong.
 
@@ -144,7 +144,7 @@ makes
 ";
 
 const UNDEPEND: &str = "\
-Takes a word out of a rule's prerequisites.
+Removes a word from a rule's prerequisites.
 
 Is refused with BadArgument, Reserved, RecipePrefix, NoSuch, Ambiguous or Absent.
 
@@ -157,7 +157,7 @@ makes
 ";
 
 const RECIPE: &str = "\
-Puts a line at the end of a rule's recipe.
+Appends a line to a rule's recipe.
 
 Is refused with BadArgument, Reserved, RecipePrefix, NoSuch, Ambiguous, Straddles, OpenLine or
 TooLong.
@@ -174,7 +174,7 @@ makes
 ";
 
 const RECIPE_INSERT: &str = "\
-Puts a line before the K-th line of a rule's recipe.
+Inserts a line before line K of a rule's recipe.
 
 Is refused with BadArgument, Reserved, RecipePrefix, NoSuch, Ambiguous, Absent, Straddles, OpenLine
 or TooLong.
@@ -191,7 +191,7 @@ makes
 ";
 
 const RECIPE_SET: &str = "\
-Replaces the K-th line of a rule's recipe.
+Replaces line K of a rule's recipe.
 
 Is refused with BadArgument, Reserved, RecipePrefix, NoSuch, Ambiguous, Absent or TooLong.
 
@@ -206,7 +206,7 @@ makes
 ";
 
 const RECIPE_DEL: &str = "\
-Takes the K-th line of a rule's recipe away.
+Removes line K of a rule's recipe.
 
 Is refused with BadArgument, Reserved, RecipePrefix, NoSuch, Ambiguous or Absent.
 
@@ -222,7 +222,7 @@ makes
 ";
 
 const RECIPE_REPLACE: &str = "\
-Replaces the line of a rule's recipe that says OLD.
+Replaces the line of a rule's recipe whose text is OLD.
 
 Is refused with BadArgument, Reserved, RecipePrefix, NoSuch, Ambiguous, Absent or TooLong.
 
@@ -237,7 +237,7 @@ makes
 ";
 
 const RECIPE_REMOVE: &str = "\
-Takes the line of a rule's recipe away that says OLD.
+Removes the line of a rule's recipe whose text is OLD.
 
 Is refused with BadArgument, Reserved, RecipePrefix, NoSuch, Ambiguous or Absent.
 
@@ -253,7 +253,7 @@ makes
 ";
 
 const RENAME: &str = "\
-Gives a target another name, also where it is a prerequisite. Recipes stay as they are.
+Renames a target, also where it is a prerequisite. Recipes stay as they are.
 
 Is refused with BadArgument, Reserved, RecipePrefix, NoSuch, Taken or TooLong.
 
@@ -285,7 +285,7 @@ makes
 ";
 
 const ALL: &str = "\
-Makes `set`, `append`, `add` or `drop` at every assignment of the name, as one edit.
+Applies `set`, `append`, `add` or `drop` to every assignment of the name, as one edit.
 
 Is refused with those of COMMAND, but not with Ambiguous.
 
@@ -300,7 +300,7 @@ makes
 ";
 
 const UNDO: &str = "\
-Takes back the last edit that stands. Only edits of the same run can be taken back.
+Undoes the last edit that stands. Only edits of the same run can be undone.
 
 Is refused with NothingToUndo or GroupOpen.
 
@@ -314,7 +314,7 @@ makes
 ";
 
 const REDO: &str = "\
-Makes again what the last `undo` took back.
+Redoes what the last `undo` undid.
 
 Is refused with NothingToRedo or GroupOpen.
 
@@ -348,7 +348,7 @@ makes
 ";
 
 const END: &str = "\
-Ends a group, and its edits stand.
+Ends a group and keeps its edits.
 
 Is refused with NoGroup.
 
@@ -363,7 +363,7 @@ makes
 ";
 
 const CANCEL: &str = "\
-Ends a group, and takes its edits back.
+Ends a group and undoes its edits.
 
 Is refused with NoGroup.
 
@@ -378,8 +378,8 @@ makes
 ";
 
 const TRY: &str = "\
-Makes an edit, and it is no refusal if there is nothing to do. There is nothing to do where a word is
-there already, where it is gone, and where no line has the name.
+Makes an edit; having nothing to do is not an error. There is nothing to do if a word is there
+already or gone already, or if no line has the name.
 
 Is refused with those of COMMAND, but not with NoSuch, Absent or Already.
 
@@ -392,8 +392,8 @@ makes
 ";
 
 const OR: &str = "\
-Makes an edit if that of the line above finds nothing on which it is to be made. That line has no `try`,
-and needs none: in both lines it is no refusal that a word is there already, or gone already.
+Makes an edit if the one in the line above finds no line to edit. That line has no `try` and needs
+none: in both lines it is no error if a word is there already or gone already.
 
 Is refused with those of COMMAND.
 

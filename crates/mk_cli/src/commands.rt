@@ -2,8 +2,8 @@
 
 use crate::arguments::{
     Argument, BACKUP, CHECK, COLOR, DEPTH, DIFF, EXPRESSION, FILES, FORCE_TEXT, IN_PLACE, JSON,
-    KEEP_GOING, Kind, NAME, NEW, NOTES, NTH, OUTPUT, PROTOCOL, REFUSAL, SCRIPT, SESSION_FILE,
-    SUMMARY, TARGET, VARIABLE,
+    KEEP_GOING, Kind, NAME, NEW, NOTES, NTH, OUTPUT, PROTOCOL, REFUSAL, REPORT, SCRIPT,
+    SESSION_FILE, SUMMARY, TARGET, VARIABLE,
 };
 use crate::help;
 use clap::builder::ValueParser;
@@ -29,10 +29,10 @@ struct Subcommand {
 static SUBCOMMANDS: [Subcommand; 9] = [
     Subcommand {
         word: "edit",
-        about: "Runs a script of edits over a makefile, and prints the text",
+        about: "Runs a script over a makefile and prints the result",
         arguments: &[
             KEEP_GOING, DEPTH, OUTPUT, IN_PLACE, BACKUP, DIFF, COLOR, CHECK, SUMMARY, FORCE_TEXT,
-            EXPRESSION, NOTES, SCRIPT, FILES,
+            EXPRESSION, NOTES, REPORT, SCRIPT, FILES,
         ],
     },
     Subcommand {
@@ -52,27 +52,27 @@ static SUBCOMMANDS: [Subcommand; 9] = [
     },
     Subcommand {
         word: "check",
-        about: "Lists the lines of a makefile that are kept and not read inside",
+        about: "Lists the lines of a makefile that mkedit cannot parse",
         arguments: &[JSON, NOTES, FILES],
     },
     Subcommand {
         word: "caveats",
-        about: "Lists the lines of a makefile that make may read otherwise",
+        about: "Lists the lines of a makefile that make may read differently",
         arguments: &[JSON, NOTES, FILES],
     },
     Subcommand {
         word: "get",
         about: "Prints the value of a variable of a makefile",
-        arguments: &[NTH, NOTES, VARIABLE, FILES],
+        arguments: &[NTH, JSON, NOTES, VARIABLE, FILES],
     },
     Subcommand {
         word: "explain",
-        about: "Says why a command is refused, and what to do then",
+        about: "Explains why a command is refused, and what to do then",
         arguments: &[REFUSAL],
     },
     Subcommand {
         word: "session",
-        about: "Answers commands and requests on one makefile, a line each",
+        about: "Answers commands and requests on one makefile, line by line",
         arguments: &[DEPTH, PROTOCOL, JSON, NEW, COLOR, SESSION_FILE],
     },
 ];
@@ -155,7 +155,9 @@ pub(crate) fn command_for<'a>(alloc: Global, words: &[String]) -> Result<Command
 pub(crate) fn program_for<'a>(alloc: Global, words: &[String]) -> Result<Command<'a>, AllocError> {
     let mut program = Command::new(alloc, "mkedit")
         .version(VERSION)
-        .about("Edits a makefile by a script, and keeps every byte that no edit concerns")
+        .about(
+            "Makes scripted edits to makefiles and preserves every byte it was not asked to change",
+        )
         .after_help(help::PROGRAM)
         .subcommand_required(true);
     if let Some(subcommand) = first_command(words) {

@@ -7,29 +7,29 @@ use mk_edit_language::Refusal;
 
 const BAD_ARGUMENT: &str = "\
 A field is not what it has to be. The report names the first such field.
-`name` has ASCII letters, digits, underscores, dots and hyphens alone, so no `$(X)`.
+`name` has only ASCII letters, digits, underscores, dots and hyphens, so no `$(X)`.
 `value` has no blank at either end, no `#` that would begin a comment, no backslash and no lone `$` at
 its end, and no reference that is not closed, such as `$(X`. With `append` it is not empty either.
 `target`, `word`, `old` and `new` are one word each, without a blank outside a reference. `targets`
 and `prereqs` are such words, and `targets` is not empty. Outside a reference no word has a `#`,
 colon, semicolon, equals sign, vertical bar, backslash or lone `$`, and each reference is closed. No
-target ends in `&`. `place` has such a name or such a target in it. With `add` and `drop`, `word` is a
-word of a value: it is what `value` has to be, and is not empty.
+target ends in `&`. `place` contains such a name or such a target. With `add` and `drop`, `word` is a
+word of a value: it follows the rules for `value`, and is not empty.
 `line` does not end in a backslash, and neither does `old` of `recipe-replace` and `recipe-remove`,
-which is no word. No field has a CR or a NUL.
+which is a whole line. No field has a CR or a NUL.
 
 Example: the script
     set CC \"gcc #1\"
 is reported as
     1: refused 1 BadArgument value
 
-Correct the script. No edit reaches a line whose name has a reference, such as `obj-$(X)`: such a line
-can be changed by hand alone. In a value write `\\#`, and between double quotes `\\\\#`:
+Correct the script. No edit reaches a line whose name has a reference, such as `obj-$(X)`: change such
+a line by hand. In a value write `\\#`, and between double quotes `\\\\#`:
 `set CC \"gcc \\\\#1\"`. Or put the `#` inside a reference.
 ";
 
 const RESERVED: &str = "\
-The variable is `.RECIPEPREFIX`, also where PLACE names it, or a target is one of these words:
+The variable is `.RECIPEPREFIX`, in PLACE too, or a target is one of these words:
 `ifeq`, `ifneq`, `ifdef`, `ifndef`, `else`, `endif`, `define`, `endef`, `undefine`, `include`,
 `-include`, `sinclude`, `load`, `-load`, `export`, `unexport`, `override`, `private` or `vpath`. A
 prerequisite may be such a word.
@@ -43,11 +43,11 @@ Edit by hand.
 ";
 
 const RECIPE_PREFIX: &str = "\
-The file sets `.RECIPEPREFIX` in a way that is not read: in a conditional, with a modifier such as
-`export`, by `define`, with `+=`, `?=`, `!=` or `:::=`, or to a byte that cannot be a prefix, such
-as the `$` of a reference. Then mkedit does not know which lines are recipe lines. There is a second
-cause: the edit would write a line that begins with the recipe prefix and is no recipe line. The
-second cause is tested directly after 5.
+The file sets `.RECIPEPREFIX` in a way that mkedit does not read: in a conditional, with a modifier
+such as `export`, by `define`, with `+=`, `?=`, `!=` or `:::=`, or to a byte that cannot be a prefix,
+such as the `$` of a reference. So mkedit does not know which lines are recipe lines. There is a second
+cause, tested directly after 5: the edit would write a line that begins with the recipe prefix and is
+no recipe line.
 
 Example: over
     ifdef POSIX
@@ -64,7 +64,7 @@ Edit by hand.
 
 const NO_SUCH: &str = "\
 No assignment or rule has this name, or there is no N-th of them. For `rename`, the old name is no
-target of a rule or of an assignment for targets.
+target of a rule or of a target-specific assignment.
 
 Example: over
     CC = gcc
@@ -73,20 +73,19 @@ the script
 is reported as
     1: refused 4 NoSuch
 
-Look with `mkedit vars` or `mkedit rules`. If both print nothing, the makefile may be empty:
-`> FILE` empties it, and without FILE it is standard input. A byte order mark at the start of the
-file is a part of its first name and does not show: `head -c 3 FILE | od -c` shows it. In `set` the
-name comes before the value. If the file does have the line, it may be one that is not read inside:
-`mkedit check` lists these. `set`, `append` and `unset` find no `define`, no directive such as
-`export NAME`, no assignment for targets such as `t: X = 1` and no name with a reference such as
+List what is there with `mkedit vars` or `mkedit rules`. If both print nothing, the makefile may be
+empty: `> FILE` empties it, and without FILE it is standard input. A byte order mark at the start of
+the file is part of its first name and does not show: `head -c 3 FILE | od -c` shows it. In `set` the
+name comes before the value. If the file does have the line, mkedit may be unable to parse it:
+`mkedit check` lists such lines. `set`, `append` and `unset` find no `define`, no directive such as
+`export NAME`, no target-specific assignment such as `t: X = 1` and no name with a reference such as
 `obj-$(X)`, and `mkedit check` lists none of these. Edit such a line by hand. For a word that is
-only a prerequisite, use `undepend` and `depend` in place of `rename`.
+only a prerequisite, use `undepend` and `depend` instead of `rename`.
 ";
 
 const AMBIGUOUS: &str = "\
-Several assignments or several rules that are read have this name, and no `nth` says which one is
-meant, and no `all` that all are. Or several recipe lines of the rule have the text OLD. The report
-says how many there are.
+Several assignments or several rules have this name, and neither `nth` nor `all` says which are meant.
+Or several recipe lines of the rule have the text OLD. The report says how many there are.
 
 Example: over
     ifdef DEBUG
@@ -100,16 +99,16 @@ is reported as
     1: refused 5 Ambiguous 2
 
 Say which one: `nth 2 set CC clang`. The name may be that of PLACE:
-`nth 2 assign after-var CC X = 1`. `mkedit vars` and `mkedit rules` list them in order, and
-assignments for targets do not count. Or change all of them: `all set CC clang`. `all` may stand
-before `set`, `append`, `add` and `drop`; for another command write one line for each. For a recipe
-line use `recipe-set` or `recipe-del`, which go by number.
+`nth 2 assign after-var CC X = 1`. `mkedit vars` and `mkedit rules` list them in order;
+target-specific assignments do not count. Or change all of them: `all set CC clang`. `all` works with
+`set`, `append`, `add` and `drop`; for another command write one line for each. For a recipe line use
+`recipe-set` or `recipe-del`, which take its number.
 ";
 
 const ABSENT: &str = "\
-The word to take out is no prerequisite of the rule, or no word of the value, and with `all` of no
-value of the name; the rule has no K-th recipe line, or none whose text is OLD. For `recipe-insert` K
-may be one more than the number of recipe lines.
+The word to remove is no prerequisite of the rule, or no word of the value, and with `all` of no value
+of the name; the rule has no K-th recipe line, or none whose text is OLD. For `recipe-insert` K may be
+one more than the number of recipe lines.
 
 Example: over
     hello: main.o
@@ -118,13 +117,13 @@ the script
 is reported as
     1: refused 6 Absent
 
-Look with `mkedit rules` or `mkedit vars`. A recipe after a semicolon has no number: `mkedit rules` counts it,
-and no edit reaches it. Edit it by hand.
+List what is there with `mkedit rules`, `mkedit recipes` or `mkedit vars`. A recipe after a semicolon
+has no number: `mkedit rules` counts it, and no edit reaches it. Edit it by hand.
 ";
 
 const ALREADY: &str = "\
-The word stands already in the list of prerequisites, or in the value, to which the command adds
-it, and with `all` in each value of the name.
+The word is already in the list of prerequisites, or in the value, to which the command adds it, and
+with `all` in each value of the name.
 
 Example: over
     hello: main.o
@@ -137,8 +136,8 @@ Nothing has to be done.
 ";
 
 const TAKEN: &str = "\
-The new name is already a target of a rule or of an assignment for targets. Targets on lines that
-are not read inside do not count: `mkedit check` lists these lines.
+The new name is already a target of a rule or of a target-specific assignment. Targets on lines that
+mkedit cannot parse do not count: `mkedit check` lists these lines.
 
 Example: over
     all: hello
@@ -152,7 +151,7 @@ Decide by hand.
 ";
 
 const SHARED_RULE: &str = "\
-The rule to take away has several targets. The report says how many. A target that stands twice
+The rule to remove has several targets. The report says how many. A target that is there twice
 counts twice.
 
 Example: over
@@ -166,8 +165,8 @@ Edit by hand.
 ";
 
 const STRADDLES: &str = "\
-The line of a conditional stands between the rule's line and its last recipe line. `unrule`,
-`recipe` and `recipe-insert` are refused then.
+A conditional directive stands between the rule's line and its last recipe line. `unrule`, `recipe`
+and `recipe-insert` are refused then.
 
 Example: over
     hello:
@@ -185,11 +184,11 @@ refused.
 
 const OPEN_VALUE: &str = "\
 The value to append to has a reference that is not closed, or ends in a lone `$` or a lone
-backslash. The new text would become a part of that reference, or would be read together with that
-byte. With `add`, the value may not end in a fold either. `drop` is refused in both
-cases too; and where the word directly before one that would go ends in a backslash, or in a blank
-that belongs to a `$` or a backslash: what follows could be read together with that end. With `all`
-one such value is enough, if it would be changed.
+backslash. The new text would become part of that reference, or would be read together with that
+byte. With `add`, the value may not end in a fold either. `drop` is refused in both cases too, and
+if the word directly before the one to remove ends in a backslash, or in a blank that belongs to a
+`$` or a backslash: what follows could be read together with that end. With `all`, one such value is
+enough, if it would be changed.
 
 Example: over
     SOURCES = $(wildcard *.c
@@ -198,7 +197,7 @@ the script
 is reported as
     1: refused 11 OpenValue
 
-Give the whole value by `set`.
+Give the whole value with `set`.
 ";
 
 const OPEN_LINE: &str = "\
@@ -212,7 +211,7 @@ the script
 is reported as
     1: refused 12 OpenLine
 
-Mend the last line.
+Fix the last line.
 ";
 
 const OPEN_DEFINE: &str = "\
@@ -226,13 +225,13 @@ the script
 is reported as
     1: refused 13 OpenDefine
 
-Mend the file, or choose another place.
+Fix the file, or choose another place.
 ";
 
 const LEANS: &str = "\
-Below the change stands a line that begins with the recipe prefix, and between the two are only
-blank lines, comments and lines of conditionals. After the change such a line could become a recipe
-line, or cease to be one. The edit is refused even where the line would read the same.
+Below the change stands a line that begins with the recipe prefix, with only blank lines, comments and
+conditional directives between the two. After the change such a line could become a recipe line, or
+cease to be one. The edit is refused even if the line would read the same.
 
 Example: over
     all:
@@ -256,19 +255,19 @@ Move a part of the makefile into a file that it includes.
 ";
 
 const NOTHING_TO_UNDO: &str = "\
-No edit is there to take back, or the depth is used up.
+There is no edit to undo, or the depth is used up.
 
 Example: the script
     undo
 is reported as
     1: refused 16 NothingToUndo
 
-Correct the script, or give a greater depth by `-d`.
+Correct the script, or give a greater depth with `-d`.
 ";
 
 const NOTHING_TO_REDO: &str = "\
-No edit that `undo` took back is there to make again: there was no `undo`, `redo` has made all again,
-or an edit was accepted since. What `cancel` took back cannot be made again.
+There is no edit to redo: there was no `undo`, `redo` has redone everything, or an edit was accepted
+since. What `cancel` undid cannot be redone.
 
 Example: the script
     redo
@@ -279,7 +278,7 @@ Correct the script.
 ";
 
 const GROUP_OPEN: &str = "\
-`undo`, `redo` or `begin` stands in a group.
+`undo`, `redo` or `begin` stands inside a group.
 
 Example: the script
     begin
@@ -298,11 +297,11 @@ Example: the script
 is reported as
     1: refused 19 NoGroup
 
-Take it out.
+Remove it.
 ";
 
 const NO_MEMORY: &str = "\
-No memory was found. A run that meets this ends with the message `mkedit: no memory` and status 3.
+Memory ran out. The run ends with the message `mkedit: no memory` and status 3.
 
 Example: a makefile has 16 MB, and `ulimit -v` leaves less memory than the run needs.
 

@@ -3,13 +3,13 @@
 /// Below the help of the program itself.
 pub(crate) const PROGRAM: &str = "\
 Examples:
-    mkedit edit use-clang config.mk              prints config.mk as the script use-clang edits it
+    mkedit edit use-clang config.mk              runs the script use-clang and prints the result
     mkedit edit --diff use-clang config.mk       prints what would change
     mkedit edit -i use-clang config.mk           changes the file
-    mkedit edit -e 'set CC clang' config.mk      prints it as the command edits it
+    mkedit edit -e 'set CC clang' config.mk      runs one command and prints the result
     mkedit vars config.mk                        lists the assignments of config.mk
 
-`mkedit help COMMAND` has an example of each command, and of each command of a script: `mkedit help set`.
+`mkedit help COMMAND` explains a command, or a command of a script: `mkedit help set`.
 ";
 
 const EDIT_USAGE: &str = "mkedit edit [OPTIONS] SCRIPT [FILE]
@@ -29,22 +29,22 @@ A line of the script is a command, a comment that begins with #, or blank:
     recipe-replace TARGET OLD LINE
     undo    redo    begin    end    cancel                try COMMAND    or COMMAND
 PLACE is bottom, before-var NAME, after-var NAME or before-rule TARGET. OP is one of
-= := ::= :::= ?= += != and SEP one of : and ::. A field with blanks in it stands between double
-quotes, and so does an empty one. Between them \\\" is a quote and \\\\ a backslash; elsewhere each of the
-two is itself. `nth N` before a command picks the N-th of several lines that it could mean. `all` before
-set, append, add or drop means all of them. `try` before an edit: it is no refusal that there is nothing
-to do. `or` before an edit: an alternative of the edit in the line above, for the case that there is
-nothing on which that one is to be made. `mkedit help set` says what `set` does, and so for each word.
-Commands are done in their order, each on what those above it have left.
+= := ::= :::= ?= += != and SEP one of : and ::. Put double quotes around a field that has blanks in it
+or is empty. Between quotes \\\" is a quote and \\\\ a backslash; elsewhere each of the two is itself.
+`nth N` before a command picks the N-th of several lines that it could mean; `all` before set, append,
+add or drop means all of them. With `try` before an edit, having nothing to do is not an error. With `or`
+before an edit, it is made if the edit in the line above finds no line to edit. Commands run in order,
+each on the result of those above it. `mkedit help set` explains `set`, and so for each word.
 
-The text goes to standard output, or to OUT, which may be FILE. Where a command is refused, a line on
-standard error says which one and why, and no text goes out, unless -k is given. `mkedit explain 4`,
-or `mkedit explain NoSuch`, says more on the refusal 4 NoSuch, and what to do. --notes shows the lines
-that are the cause, and also what is wrong with a line of the script that is not a command.
+The result goes to standard output, or to OUT. If a command is refused, a line on standard error says
+which one and why, and nothing is written unless -k is given. `mkedit explain 4` or `mkedit explain
+NoSuch` explains the refusal 4 NoSuch. --notes shows the lines of the makefile that are the cause, and
+what is wrong with a line of the script that is not a command.
 
-Several FILEs may stand with -i, --diff or --check: each is edited by itself. One in which a command is
-refused stays as it was, the others go on, and each line on standard error begins with the name of its
-file. With --summary the last line says how many were changed.
+Several FILEs may follow with -i, --diff or --check; each is edited on its own. If a command is refused,
+its file stays as it was, and the others go on. Each line on standard error begins with the name of its
+file. With --summary the last line says how many were changed. For programs, --report json prints one JSON
+object for each refusal, note and message, and for what became of each FILE; docs/PROTOCOL.md lists the members.
 
 Example: with `CC = gcc # c` in config.mk, and `set CC clang` in use-clang,
     mkedit edit use-clang config.mk
@@ -52,45 +52,45 @@ prints `CC = clang # c`, and
     mkedit edit -i use-clang config.mk
 changes the file. Before that,
     mkedit edit --diff use-clang config.mk
-prints what would change, as a diff that `patch -p1` takes. Without a script,
+prints what would change, as a diff that `patch -p1` accepts. Without a script,
     mkedit edit -e 'set CC clang' -e 'append CC -flto' config.mk
 runs these two commands, as lines 1 and 2.
 
-Status: 0 done, 1 a command was refused, 2 a bad command line or script, 3 a fault of reading,
-writing, a limit or memory.
+Status: 0 done, 1 a command was refused, 2 a bad command line or script, 3 a read or write error, a
+makefile beyond the limits, or no memory.
 ";
 
 const VARS: &str = "\
-A line for each assignment: the number of its line, how many conditionals are open there, and the
-assignment with its folds joined and without its comment.
+Prints one line per assignment: its line number, how many conditionals are open there, and the
+assignment with continued lines joined and without its comment.
 
 Example: with `ifdef DEBUG`, `export CFLAGS += -g  # slow`, `endif` and `all: CC = gcc` in config.mk,
     mkedit vars config.mk
 prints
     2:1: export CFLAGS += -g
     4:0: all: CC = gcc
-and with `--name CC` the second of these lines alone. Where there is no such line it prints nothing, and
-the status is 0. docs/EDITS.md has the members of the objects that --json prints.
+and with `--name CC` only the second of these lines. If there is no such line it prints nothing, and the
+status is 0. docs/EDITS.md lists the members of the objects that --json prints.
 ";
 
 const RULES: &str = "\
-A line for each rule: the number of its line, how many conditionals are open there, the line with its
-folds joined, and how many recipe lines the rule has.
+Prints one line per rule: its line number, how many conditionals are open there, the line with
+continued lines joined, and how many recipe lines the rule has.
 
 Example: with `all: main.o | build ; ld main.o`, a recipe line below it, and `%.o: %.c` in a Makefile,
     mkedit rules Makefile
 prints
     1:0: all: main.o | build [2]
     3:0: %.o: %.c [0]
-and with `--target all` the first of these lines alone. Where there is no such line it prints nothing,
-and the status is 0.
+and with `--target all` only the first of these lines. If there is no such line it prints nothing, and
+the status is 0.
 ";
 
 const RECIPES: &str = "\
-A line for each rule that has recipe lines, with the number of its line, how many conditionals are open
-there, and its targets. Below it a line for each recipe line: the same two numbers, the number of the
-recipe line in the rule, which `recipe-set`, `recipe-del` and `recipe-insert` take, and the command with
-its folds joined. The command behind a `;` in the line of a rule has no such number, and is not listed.
+Prints one line per rule that has recipe lines: its line number, how many conditionals are open there,
+and its targets. Below it stands one line per recipe line: the same two numbers, the number of the recipe
+line in the rule, which `recipe-set`, `recipe-del` and `recipe-insert` take, and the command with
+continued lines joined. A command after a `;` in the line of a rule has no such number and is not listed.
 
 Example: with `all: main.o ; ld main.o`, two recipe lines `strip all` and `ls -l` below it in a Makefile,
     mkedit recipes Makefile
@@ -98,13 +98,13 @@ prints
     1:0: all:
     2:0: [1] strip all
     3:0: [2] ls -l
-With `--target all` it prints nothing of rules that are not for `all`.
+With `--target all` it prints only rules for `all`.
 ";
 
 const CHECK: &str = "\
-A line for each line that no edit and no other query looks into: the number of the line, and `rough`
-for a rule with something in it that is not read, such as a backslash, or `opaque` for any other line.
-Then how many conditionals and defines are still open at the end, where some are.
+Prints one line per line that mkedit cannot parse and never edits: its line number, and `rough` for a
+rule with something in it that mkedit does not read, such as a backslash, or `opaque` for any other line.
+Then come the conditionals and defines that are still open at the end, if there are any.
 
 Example: with `all: a\\ b`, `$(eval $(call rules,all))` and `ifdef DEBUG` in a Makefile,
     mkedit check Makefile
@@ -115,9 +115,9 @@ prints
 ";
 
 const CAVEATS: &str = "\
-A line for each line that make may read otherwise than mkedit does: the number of the line, and what
-make may do with it. Look at these lines before an edit. docs/LANGUAGE.md has what each sentence means,
-and what else make may read otherwise, of which nothing is said here.
+Prints one line per line that make may read differently from mkedit: its line number, and what make may
+do with it. Look at these lines before an edit. docs/LANGUAGE.md says what each sentence means, and what
+else make may read differently without being listed here.
 
 Example: with `all:`, `ifdef DEBUG`, `X = 1`, `endif` and a line of a tab and `Y = 2` in a Makefile,
     mkedit caveats Makefile
@@ -127,10 +127,10 @@ since make skips `X = 1` where DEBUG is not set, and then the tab begins a recip
 ";
 
 const GET: &str = "\
-The value is that of the assignment that the command `set` of a script would change: of the only one of
-NAME, or of the one that --nth says. It has its folds joined, and no comment. A value that is empty gives
-an empty line. Where `set` would be refused for NAME or for its line, `get` is refused too: a line on
-standard error says why, and the status is 1.
+Prints the value of the assignment that the command `set` of a script would change: the only one of NAME,
+or the one that --nth picks. Continued lines are joined, and the comment is left out. An empty value
+gives an empty line. If `set` would be refused for NAME or for its line, so is `get`: a line on standard
+error says why, and the status is 1. `get CC,AR` prints the values of both names, in this order.
 
 Example: with `ifdef DEBUG`, `CC = gcc -g  # slow`, `else`, `CC = gcc`, `endif` and `AR = ar` in config.mk,
     mkedit get AR config.mk
@@ -141,15 +141,15 @@ prints `gcc -g`, and without `--nth 1` it says
 ";
 
 const EXPLAIN: &str = "\
-A command that is refused has a line on standard error, such as
+For each refused command mkedit prints a line on standard error, such as
     3: refused 4 NoSuch
-for line 3 of the script. The number or the name of the refusal is what `explain` takes.
-The number is not the exit status. Status 2 comes with a message in place of a refusal.
+for line 3 of the script. `explain` takes the number or the name of the refusal. The number is not the
+exit status, which is 1.
 
 Example:
     mkedit explain 4
     mkedit explain NoSuch
-both print the cause of this refusal, an example of it and what to do.
+both print the cause of this refusal, an example and what to do.
 ";
 
 const SESSION: &str = "\
@@ -158,9 +158,9 @@ Each line of standard input is a command of a script, as `mkedit help edit` list
     vars NAME    rules TARGET    recipes TARGET    get NAME    nth N get NAME    history
     help    help COMMAND    explain REFUSAL
     write    write!    write FILE    revert    quit    quit!
-Each is answered at once: the lines of an answer, each behind `| `, and then a line `ok`, `refused` with
+Each is answered at once: the lines of an answer, each after `| `, and then a line `ok`, `refused` with
 the number and the name of the refusal, or `fault` with what is wrong. The first line is the version of
-this protocol, which docs/PROTOCOL.md has. FILE changes by `write` and `write!` alone. At a terminal the
+this protocol, which docs/PROTOCOL.md describes. Only `write` and `write!` change FILE. At a terminal the
 replies are sentences, and each edit shows the lines that it changes, in colours. With --json each line of
 an answer is a JSON object.
 

@@ -13,6 +13,7 @@
 //! - `reading`: from the words to the request; `hints`: what words may mean that are not taken.
 //! - `explain`: why a command is refused; `explanations` has the texts.
 //! - `command_help`: what a command of a script does; `command_texts` has the commands and the texts.
+//! - `mistakes`: what is wrong with a line of a script that is no command.
 //! - `progress`: how many of several makefiles are done, at a terminal; how many were changed, at the end.
 #![tactic(auto)]
 
@@ -25,6 +26,7 @@ mod explain;
 mod explanations;
 mod help;
 mod hints;
+mod mistakes;
 mod progress;
 mod reading;
 pub mod request;
@@ -34,10 +36,14 @@ pub use color::has_color;
 pub use command_help::{CommandHelp, asked_command, command_called, put_help};
 pub use explain::{CalledRefusal, NoRefusal, put_explanation, refusal_of};
 pub use explanations::explanation;
+pub use mistakes::{
+    COMMAND_HINT, COMMAND_LINES, EXCHANGED_HINT, ScriptMistake, before_number, is_command,
+    push_mistake, script_mistake,
+};
 pub use progress::{Progress, Summary};
 pub use reading::read_request;
 pub use request::{
-    Backup, Color, EditWords, Form, Input, MAX_DEPTH, Output, Query, QueryWords, Question, Request,
-    Script, SessionWords,
+    Backup, Color, EditWords, Form, Input, MAX_DEPTH, Output, Query, QueryWords, Question, Report,
+    Request, Script, SessionWords,
 };
 pub use utf8::{bad_files, tell_bad_words, words};

@@ -2,14 +2,14 @@
 
 use crate::arguments::{
     BACKUP, CHECK, COLOR, DEPTH, DIFF, EXPRESSION, FILES, FORCE_TEXT, IN_PLACE, JSON, KEEP_GOING,
-    NAME, NEW, NOTES, NTH, OUTPUT, PROTOCOL, REFUSAL, SCRIPT, SESSION_FILE, SUMMARY, TARGET,
-    VARIABLE,
+    NAME, NEW, NOTES, NTH, OUTPUT, PROTOCOL, REFUSAL, REPORT, SCRIPT, SESSION_FILE, SUMMARY,
+    TARGET, VARIABLE,
 };
 use crate::commands::{command_for, program_for};
 use crate::hints::hint;
 use crate::request::{
-    Backup, Color, EditWords, Form, Input, Output, Query, QueryWords, Question, Request, Script,
-    SessionWords,
+    Backup, Color, EditWords, Form, Input, Output, Query, QueryWords, Question, Report, Request,
+    Script, SessionWords,
 };
 use clap::ArgMatches;
 use clap::error::ErrorKind;
@@ -67,6 +67,24 @@ fn color_of(matches: &ArgMatches<'_>) -> Result<Color, Fault> {
         Some(_) => Err(Fault::Invalid(
             "invalid value for '--color <WHEN>': it is auto, always or never",
         )),
+    }
+}
+
+// How refusals and messages of a query are told.
+fn notes_of(matches: &ArgMatches<'_>) -> Report {
+    if matches.get_flag(NOTES.id) {
+        Report::Notes
+    } else {
+        Report::Plain
+    }
+}
+
+// How refusals and messages of a run are told.
+fn report_of(matches: &ArgMatches<'_>) -> Result<Report, Fault> {
+    match matches.get_str(REPORT.id) {
+        None | Some("text") => Ok(notes_of(matches)),
+        Some("json") => Ok(Report::Json),
+        Some(_) => Err(Fault::Invalid("invalid value for '--report <FORM>': it is text or json")),
     }
 }
 
@@ -201,18 +219,15 @@ fn output_of<'a>(matches: &ArgMatches<'a>, files: &[Input<'_>]) -> Result<Output
     }
 }
 
-// Whether a line at the end says how many makefiles were changed: a text that is printed is not compared
-// with its makefile.
+// Whether a line at the end says how many makefiles were changed.
 fn summary_of(matches: &ArgMatches<'_>, output: Output<'_>) -> Result<bool, Fault> {
     let has_summary = matches.get_flag(SUMMARY.id);
-    match output {
-        Output::InPlace(_) | Output::Nowhere => Ok(has_summary),
-        Output::Standard if matches.get_flag(DIFF.id) => Ok(has_summary),
-        _ if has_summary => Err(Fault::Conflict(
+    if has_summary && !output.is_compared(matches.get_flag(DIFF.id)) {
+        return Err(Fault::Conflict(
             "'--summary' may stand beside '--in-place' or '--check', or beside '--diff' without '--output'",
-        )),
-        _ => Ok(false),
+        ));
     }
+    Ok(has_summary)
 }
 
 // What the words of `edit` ask for. Where commands are tried, all of them are.
@@ -225,7 +240,7 @@ fn edit_words<'a>(alloc: Global, matches: &ArgMatches<'a>) -> Result<EditWords<'
     Ok(EditWords {
         keep_going: matches.get_flag(KEEP_GOING.id) || is_check,
         depth,
-        notes: matches.get_flag(NOTES.id),
+        report: report_of(matches)?,
         output,
         is_diff,
         color: color_of(matches)?,
@@ -242,15 +257,15 @@ fn bytes_of<'a>(matches: &ArgMatches<'a>, id: &str) -> Option<&'a [u8]> {
     matches.get_str(id).map(|word| word.as_bytes())
 }
 
-// A question to the makefiles of a command.
+// Questions to the makefiles of a command.
 fn asked<'a, R: Drop>(
     alloc: Global,
-    question: Question<'a>,
+    questions: Vec<Question<'a>>,
     matches: &ArgMatches<'a>,
 ) -> Result<Request<'a, R>, Fault> {
     Ok(Request::Query(QueryWords {
-        question,
-        notes: matches.get_flag(NOTES.id),
+        questions,
+        report: notes_of(matches),
         files: makefiles(alloc, None, matches)?,
     }))
 }
@@ -261,14 +276,30 @@ fn query<'a, R: Drop>(
     query: Query<'a>,
     matches: &ArgMatches<'a>,
 ) -> Result<Request<'a, R>, Fault> {
-    asked(alloc, Question::List(query, form_of(matches)), matches)
+    let questions = [Question::List(query, form_of(matches))].to_vec(alloc)?;
+    asked(alloc, questions, matches)
+}
+
+// The questions for the values of some names: no name has a comma in it, so that commas stand between them.
+fn values<'a>(
+    alloc: Global,
+    nth: Option<u32>,
+    names: &'a [u8],
+    form: Form,
+) -> Result<Vec<Question<'a>>, AllocError> {
+    let mut questions = Vec::new(alloc);
+    for name in names.split(|byte| *byte == b',') {
+        questions.push(Question::Value(nth, name, form))?;
+    }
+    Ok(questions)
 }
 
 // What the words of `get` ask for.
 fn value<'a, R: Drop>(alloc: Global, matches: &ArgMatches<'a>) -> Result<Request<'a, R>, Fault> {
     let nth = nth_of(matches)?;
-    let name = bytes_of(matches, VARIABLE.id).ok_or(Fault::Missing("a NAME is required"))?;
-    asked(alloc, Question::Value(nth, name), matches)
+    let names = bytes_of(matches, VARIABLE.id).ok_or(Fault::Missing("a NAME is required"))?;
+    let questions = values(alloc, nth, names, form_of(matches))?;
+    asked(alloc, questions, matches)
 }
 
 // What the words of `session` ask for.
@@ -326,8 +357,8 @@ where
 /// no refusal, or says no colours; a number of an assignment that is none; several makefiles without
 /// `-i`, without `--check` and without `--diff` to standard output; `-i` beside `-o`, beside `--diff`,
 /// beside `--check` or without the name of a file; `--check` beside `-o`; a suffix that is empty or has
-/// a `/`, or that stands without `-i`; `--summary` where a text is printed; a session over `-`. A query
-/// that `clap` takes fails for want of memory alone.
+/// a `/`, or that stands without `-i`; `--summary` where a text is printed; a report in no form that there is; a session over `-`. A query that `clap` takes fails only if memory runs
+/// out.
 pub fn read_request<'a, R: FromStr + Drop>(
     alloc: Global,
     words: &'a [String],

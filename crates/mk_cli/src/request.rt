@@ -1,4 +1,5 @@
 //! What the words of the command line can ask for.
+ghost use Rattle.std.specs.Prelude.{◌≡◌, ◌≢◌};
 
 /// The greatest depth that the command line takes: how many edits can be undone.
 pub const MAX_DEPTH: u32 = 10_000;
@@ -24,8 +25,8 @@ pub enum Question<'a> {
     /// What a query lists, in this form.
     List(Query<'a>, Form),
     /// The value of the assignment of this name that `set` takes: that with this number, from 1, or the
-    /// only one.
-    Value(Option<u32>, &'a [u8]),
+    /// only one; in this form.
+    Value(Option<u32>, &'a [u8], Form),
 }
 
 /// How an answer is written.
@@ -68,10 +69,44 @@ pub enum Output<'a> {
     Nowhere,
 }
 
+impl Output<'_> {
+    /// Whether a run knows if it changed the makefile: a text that is printed is not compared with it.
+    pub fn is_compared(self, is_diff: bool) -> bool {
+        match self {
+            Output::Standard => is_diff,
+            Output::File(_) => false,
+            Output::InPlace(_) | Output::Nowhere => true,
+        }
+    }
+}
+
 /// Whether an old makefile is kept: what its second name has at its end, if it is. That is not empty,
 /// and has no `/`.
 #[derive(Clone, Copy)]
 pub struct Backup<'a>(pub Option<&'a str>);
+
+/// How refusals and messages are told on standard error.
+#[derive(Clone, Copy, Debug, PartialEq, Eq)]
+pub enum Report {
+    /// In a line each.
+    Plain,
+    /// In a line each, with notes below it.
+    Notes,
+    /// In lines of JSON: in one for each of them, for each note and for each makefile.
+    Json,
+}
+
+impl Report {
+    /// The same, unless plain lines go to a terminal, where they get notes.
+    pub fn at(self, is_terminal: bool) -> Report
+        ensures { self ≢ Report.Plain → result ≡ self }
+    {
+        match self {
+            Report::Plain if is_terminal => Report::Notes,
+            report => report,
+        }
+    }
+}
 
 /// When a diff has colours.
 #[derive(Clone, Copy, Debug, PartialEq, Eq)]
@@ -91,8 +126,8 @@ pub struct EditWords<'a> {
     pub keep_going: bool,
     /// How many edits can be undone.
     pub depth: u32,
-    /// Whether a message has notes below it.
-    pub notes: bool,
+    /// How refusals and messages are told.
+    pub report: Report,
     /// Where the text of each makefile goes.
     pub output: Output<'a>,
     /// Whether the diff of the makefile and the text goes there, in place of the text.
@@ -117,10 +152,10 @@ pub struct EditWords<'a> {
 /// What the words of a query, or of `mkedit get`, say.
 #[derive(Drop)]
 pub struct QueryWords<'a> {
-    /// What is asked.
-    pub question: Question<'a>,
-    /// Whether a message has notes below it.
-    pub notes: bool,
+    /// What each makefile is asked, one or more.
+    pub questions: Vec<Question<'a>>,
+    /// How refusals and messages are told.
+    pub report: Report,
     /// The makefiles, one or more.
     pub files: Vec<Input<'a>>,
 }

@@ -104,10 +104,13 @@ applied_7 = refl
 turned_7 : applied 0 (map turned hunks_7) (codes "A\n" ∷ codes "1\n" ∷ codes "2\n" ∷ codes "3\n" ∷ codes "4\n" ∷ codes "5\n" ∷ codes "6\n" ∷ codes "B\n" ∷ []) ≡ Some (codes "a\n" ∷ codes "1\n" ∷ codes "2\n" ∷ codes "3\n" ∷ codes "4\n" ∷ codes "5\n" ∷ codes "6\n" ∷ codes "b\n" ∷ [])
 turned_7 = refl
 
--- ---- names, as git writes them
+-- ---- names, as `patch` and git read them
 
 space : name_text (codes "a/") (codes "x y") ≡ codes "a/x y\t"
 space = refl
+
+space_at_end : name_text (codes "a/") (codes "x y ") ≡ codes "\"a/x y \""
+space_at_end = refl
 
 quote : name_text (codes "b/") (codes "x\"y") ≡ codes "\"b/x\\042y\""
 quote = refl

@@ -1,6 +1,7 @@
 -- The name of a file in a diff.
 -- Told in docs/EDITS.md, "Running a script".
 use Rattle.std.specs.Prelude.{ℕ, ◌+◌, ◌==◌, if◌then◌else◌, Bool, true, false, ◌||◌, ◌&&◌, not, nat_lt, List, [], ◌∷◌, ◌++◌, codes}
+use Rattle.std.specs.Io.BufRead.{ends_with_byte}
 use Rattle.mk_escape.specs.Escapes.{octal}
 
 -- whether a byte stands between quotes alone, and is written there by its number: a control
@@ -23,11 +24,11 @@ abbrev pub escaped : List ℕ → List ℕ
 escaped [] = []
 escaped (b ∷ t) = (if is_special b then octal b else b ∷ []) ++ escaped t
 
--- a name behind `a/` or `b/`: between quotes if it has a special byte, and with a tab behind it if it
--- has a space
+-- a name behind `a/` or `b/`: between quotes if it has a special byte or ends in a space, and with a tab
+-- behind it if it has another space
 abbrev pub name_text : (side name : List ℕ) → List ℕ
 name_text side name =
-    if has_special name then codes "\"" ++ (side ++ (escaped name ++ codes "\"")) else
+    if has_special name || ends_with_byte 32 name then codes "\"" ++ (side ++ (escaped name ++ codes "\"")) else
     if has_blank name then side ++ (name ++ codes "\t") else
     side ++ name
 

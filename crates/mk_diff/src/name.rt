@@ -1,5 +1,6 @@
 //! The name of a file in a diff.
 ghost use Rattle.std.specs.Prelude.{◌≡◌, ◌<◌, ◌++◌, false, IfOk, IsOkUnless};
+ghost use Rattle.std.specs.Io.BufRead.{ends_with_byte};
 ghost use Rattle.mk_diff.specs.NameTexts.{after_ups, below, dots_after, escaped, has_blank, has_special, is_special, name_text, patch_name};
 
 use crate::text::put;
@@ -9,8 +10,9 @@ use std::alloc::Allocator;
 
 /// Puts a name behind a text, with `a/` or `b/` before it.
 ///
-/// A name with a byte that is special to `patch` or `git apply` stands between quotes. Behind a name
-/// with a blank stands a tab, where they take the name to end.
+/// A name with a byte that is special to `patch` or `git apply`, or with a space at its end, which
+/// `patch` would leave off, stands between quotes. Behind another name with a blank stands a tab, where
+/// they take the name to end.
 ///
 /// # Errors
 ///
@@ -24,7 +26,7 @@ pub(crate) fn put_name<A: Allocator>(
         ≡ text.old.items ++ name_text side.now name.now) }
     ensures fault { IsOkUnless result Fault.NoMemory }
 {
-    if has_special(name) {
+    if has_special(name) || ends_in_blank(name) {
         put(text, b"\"")?;
         put(text, side)?;
         put_escaped(text, name)?;
@@ -68,6 +70,13 @@ fn has_blank(name: &[u8]) -> bool
         }
     }
     false
+}
+
+// Whether a name ends in a space.
+fn ends_in_blank(name: &[u8]) -> bool
+    ensures { result ≡ ends_with_byte 32 name.now }
+{
+    matches!(name, [.., b' '])
 }
 
 // Puts a name behind a text, each special byte by its number.

@@ -23,7 +23,7 @@ pub enum Cause {
     OldFile(ErrorKind),
     /// It is no regular file, and had to be one.
     NotRegular,
-    /// It is not the file that was read, or has other bytes.
+    /// It is not the file that was read, has other bytes, or is locked.
     Changed,
     /// It took no byte of a text.
     TookNothing,
@@ -88,7 +88,10 @@ impl fmt::Display for Cause {
             Cause::NewFile(kind) => ("no new file beside it: ", said_by(kind)),
             Cause::OldFile(kind) => ("the old file is not kept: ", said_by(kind)),
             Cause::NotRegular => ("", "is no regular file"),
-            Cause::Changed => ("", "is another file than was read, or has other bytes"),
+            Cause::Changed => (
+                "",
+                "is another file than was read, has other bytes, or is locked",
+            ),
             Cause::TookNothing => ("", "takes nothing"),
             Cause::TooLong => ("", "more than 16,777,216 bytes"),
             Cause::TooDeep => ("", "more than 256 conditionals are open"),

@@ -26,9 +26,9 @@ impl<D> WithError<D> {
         }
     }
 
-    /// The kind of the last error, if there was one.
-    pub fn error(&self) -> Option<ErrorKind> {
-        self.error
+    /// Whether nobody reads any more what is written.
+    pub fn is_left(&self) -> bool {
+        matches!(self.error, Some(ErrorKind::BrokenPipe))
     }
 
     /// Whether the device took a byte.

@@ -6,7 +6,9 @@
 //!   asked for.
 //! - [`check`]: an object on each line that is not read inside, and on what is open at the end.
 //! - [`caveats`]: an object on each line that make may read otherwise, as far as the lines show it.
+//! - [`value`]: the object on the value of a variable.
 //! - [`push_text_line`]: an object on a line of any text.
+//! - [`Object`]: an object that a caller fills.
 //!
 //! Each line of text is an object (JSON Lines). It says in which file and where the line of the
 //! makefile stands, in which branch of a conditional, and what its parts are. A branch and the rule of recipe
@@ -34,5 +36,6 @@ mod object;
 mod query;
 mod text_line;
 
-pub use query::{caveats, check, recipes, rules, vars};
+pub use object::Object;
+pub use query::{caveats, check, recipes, rules, value, vars};
 pub use text_line::push_text_line;

@@ -15,17 +15,20 @@ use mk_tree::WordTexts;
 use std::alloc::{AllocError, Allocator};
 use std::str::from_utf8;
 
-/// An object that is written behind a text, and ends with its line. A call answers [`AllocError`] if a
-/// growth was refused, and the object is given up then.
+/// An object that is written behind a text, and ends with its line.
+///
+/// # Errors
+///
+/// Each call answers [`AllocError`] if an allocation failed, and the object is given up then.
 #[derive(Drop)]
-pub(crate) struct Object<A: Allocator> {
+pub struct Object<A: Allocator> {
     alloc: A,
     writer: Writer<A>,
 }
 
 impl<A: Allocator + Copy> Object<A> {
     /// Begins an object behind a text.
-    pub(crate) fn begin(alloc: A, text: Vec<u8, A>) -> Result<Object<A>, AllocError>
+    pub fn begin(alloc: A, text: Vec<u8, A>) -> Result<Object<A>, AllocError>
         ensures before { IfOk result (λ object. object.writer.before ≡ text.items) }
         ensures tokens { IfOk result (λ object. object.writer.tokens ≡ begin_object ∷ []) }
     {
@@ -35,7 +38,7 @@ impl<A: Allocator + Copy> Object<A> {
     }
 
     /// Ends the object and its line, and gives the text back.
-    pub(crate) fn end(self) -> Result<Vec<u8, A>, AllocError>
+    pub fn end(self) -> Result<Vec<u8, A>, AllocError>
         ensures text { let object = self.writer.tokens ++ end_object ∷ [] in
             IfOk result (λ text. text.items ≡ self.writer.before ++ print object ++ codes "\n") }
         ensures reads_back { let object = self.writer.tokens ++ end_object ∷ [] in
@@ -74,7 +77,7 @@ impl<A: Allocator + Copy> Object<A> {
     }
 
     /// Puts a member that is a text.
-    pub(crate) fn text(&mut self, name: &str, text: &[u8]) -> Result<(), AllocError>
+    pub fn text(&mut self, name: &str, text: &[u8]) -> Result<(), AllocError>
         ensures before { self.new.writer.before ≡ self.old.writer.before }
         ensures tokens { OnOk result (self.new.writer.tokens
             ≡ self.old.writer.tokens ++ key name.now ∷ text_tokens text.now) }
@@ -84,7 +87,7 @@ impl<A: Allocator + Copy> Object<A> {
     }
 
     /// Puts a member that is an array of texts.
-    pub(crate) fn texts(&mut self, name: &str, words: WordTexts<'_>) -> Result<(), AllocError> {
+    pub fn texts(&mut self, name: &str, words: WordTexts<'_>) -> Result<(), AllocError> {
         self.writer.key(name)?;
         self.writer.begin_array()?;
         for word in words {
@@ -94,19 +97,19 @@ impl<A: Allocator + Copy> Object<A> {
     }
 
     /// Puts a member that is a string.
-    pub(crate) fn string(&mut self, name: &str, text: &str) -> Result<(), AllocError> {
+    pub fn string(&mut self, name: &str, text: &str) -> Result<(), AllocError> {
         self.writer.key(name)?;
         self.writer.string(text)
     }
 
     /// Puts a member that is a number.
-    pub(crate) fn number(&mut self, name: &str, number: usize) -> Result<(), AllocError> {
+    pub fn number(&mut self, name: &str, number: usize) -> Result<(), AllocError> {
         self.writer.key(name)?;
         self.writer.u64(number as u64)
     }
 
     /// Puts a member that is true.
-    pub(crate) fn flag(&mut self, name: &str) -> Result<(), AllocError>
+    pub fn flag(&mut self, name: &str) -> Result<(), AllocError>
         ensures before { self.new.writer.before ≡ self.old.writer.before }
         ensures tokens { OnOk result (self.new.writer.tokens
             ≡ self.old.writer.tokens ++ key name.now ∷ boolean true ∷ []) }

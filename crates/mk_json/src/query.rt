@@ -5,7 +5,7 @@
 //!
 //! ```text
 //! {"file":"config.mk","line":3,"depth":0,"kind":"branch","first":1,"text":"else"}
-//! {"file":"config.mk","line":4,"depth":1,"branch":3,"kind":"opaque"}
+//! {"file":"config.mk","line":4,"depth":1,"branch":3,"kind":"opaque","text":"X"}
 //! ```
 ghost use Rattle.mk_tree.specs.Documents.{IsFaithful};
 
@@ -171,7 +171,7 @@ pub fn recipes<'a, A: Allocator, B: Allocator + Copy>(
 /// Such a line is *rough* if it is the line of a rule, and *opaque* otherwise:
 ///
 /// ```text
-/// {"file":"config.mk","line":3,"depth":0,"kind":"opaque"}
+/// {"file":"config.mk","line":3,"depth":0,"kind":"opaque","text":"$(eval $(call rules,all))"}
 /// {"file":"config.mk","kind":"end","conditionals":2,"defines":0}
 /// ```
 ///
@@ -197,6 +197,7 @@ pub fn check<A: Allocator, B: Allocator + Copy>(
         };
         let mut object = objects.begin(text, position)?;
         object.string("kind", kind)?;
+        object.text("text", line.text())?;
         text = object.end()?;
     }
     let end = doc.end_context();
@@ -243,6 +244,28 @@ pub fn caveats<A: Allocator, B: Allocator + Copy>(
         }
     }
     Ok(text)
+}
+
+/// The line of JSON on the value of the variable of this name:
+///
+/// ```text
+/// {"file":"config.mk","name":"CC","value":"gcc"}
+/// ```
+///
+/// # Errors
+///
+/// [`AllocError`] if an allocation failed.
+pub fn value<B: Allocator + Copy>(
+    alloc: B,
+    file: &[u8],
+    name: &[u8],
+    value: &[u8],
+) -> Result<Vec<u8, B>, AllocError> {
+    let mut object = Object::begin(alloc, Vec::new(alloc))?;
+    object.text("file", file)?;
+    object.text("name", name)?;
+    object.text("value", value)?;
+    object.end()
 }
 
 // The kind of a caveat: a word for its sentence.

@@ -11,7 +11,3 @@ pub mod UnitWalkLemmas
 pub mod StackLemmas
 pub mod StoredLemmas
 mod TakenLemmas
--- Definitions computed
-mod WorkedRows
-mod StoredRows
-mod RandomRows

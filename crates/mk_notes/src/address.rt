@@ -1,10 +1,12 @@
 //! The lines that an edit means.
 
-use crate::text::Notes;
-use mk_edit_language::Edit;
+use crate::line::is_named;
+use crate::text::{MOST_LINES, Notes};
+use memchr::memmem;
+use mk_edit_language::{Edit, ValueChange};
 use mk_edit_parts::address::{Address, address_of};
 use mk_edit_parts::seek::wanted;
-use mk_listing::{Position, RuleLine, assignments_of, rules_for};
+use mk_listing::{Position, RuleLine, numbered, rules_for};
 use mk_tree::Doc;
 use std::alloc::{AllocError, Allocator};
 
@@ -31,15 +33,28 @@ pub(crate) fn number_in(address: Address<'_>) -> Option<u32> {
     }
 }
 
+/// The word that an edit adds to lines, or takes out of them, or the new name of a target.
+pub(crate) fn word_of<A: Allocator>(edit: &Edit<A>) -> Option<&[u8]> {
+    match edit {
+        Edit::AddWord { word, .. }
+        | Edit::RemoveWord { word, .. }
+        | Edit::AddPrereq { word, .. }
+        | Edit::RemovePrereq { word, .. }
+        | Edit::RenameTarget { to: word, .. }
+        | Edit::ChangeValues {
+            change: ValueChange::Add(word) | ValueChange::Remove(word),
+            ..
+        } => Some(word.as_slice()),
+        _ => None,
+    }
+}
+
 /// The line of the number of an address, or the first one that it may mean if it has no number.
 pub(crate) fn line_of<A: Allocator>(doc: &Doc<A>, address: Address<'_>) -> Option<Position> {
-    let passed = wanted(Some(address)).saturating_sub(1);
-    match address {
-        Address::Variable(_, name) => assignments_of(doc, name)
-            .nth(passed)
-            .map(|line| line.position),
-        Address::Rule(..) => line_of_rule(doc, address).map(|line| line.position),
-    }
+    numbered(doc)
+        .filter(|(_, line)| is_named(line, address))
+        .nth(wanted(Some(address)).saturating_sub(1))
+        .map(|(at, _)| at)
 }
 
 /// The rule of the number of an address, or the first one that it may mean if it has no number; none if it
@@ -56,32 +71,46 @@ pub(crate) fn line_of_rule<'a, A: Allocator>(
     }
 }
 
-impl<'a, A: Allocator, B: Allocator> Notes<'a, A, B> {
+/// How many lines have the name of an address.
+pub(crate) fn count_of<A: Allocator>(doc: &Doc<A>, address: Address<'_>) -> u64 {
+    let mut count: u64 = 0;
+    for line in doc.iter() {
+        count = count.saturating_add(u64::from(is_named(line, address)));
+    }
+    count
+}
+
+impl<'a, A: Allocator, B: Allocator + Copy> Notes<'a, A, B> {
     /// Puts the notes on the line of an address, or on all that it may mean if it has no number. Hands
     /// out how many these are.
-    pub(crate) fn meant(&mut self, address: Address<'_>) -> Result<usize, AllocError> {
-        match address {
-            Address::Variable(None, _) | Address::Rule(None, _) => self.candidates(address),
-            _ => {
-                self.line(line_of(self.doc, address))?;
-                Ok(1)
-            }
+    pub(crate) fn meant<C: Allocator>(
+        &mut self,
+        edit: &Edit<C>,
+        address: Address<'_>,
+    ) -> Result<usize, AllocError> {
+        if number_in(address).is_none() {
+            return self.candidates(address, word_of(edit).unwrap_or_default());
         }
+        self.line(line_of(self.doc, address))?;
+        Ok(1)
     }
 
-    /// Puts the notes on all lines of the name of an address. Hands out how many there are.
-    pub(crate) fn candidates(&mut self, address: Address<'_>) -> Result<usize, AllocError> {
+    /// Puts the notes on all lines of the name of an address: on those with a word first, if there are too
+    /// many to be shown. Hands out how many there are.
+    pub(crate) fn candidates(
+        &mut self,
+        address: Address<'_>,
+        word: &[u8],
+    ) -> Result<usize, AllocError> {
         let doc = self.doc;
+        let are_few = count_of(doc, address) <= MOST_LINES as u64;
         let mut count = 0;
-        match address {
-            Address::Variable(_, name) => {
-                for line in assignments_of(doc, name) {
-                    count = self.listed(&[], count, line.position)?;
-                }
-            }
-            Address::Rule(_, target) => {
-                for line in rules_for(doc, target) {
-                    count = self.listed(&[], count, line.position)?;
+        for is_first in [true, false] {
+            for (at, line) in numbered(doc) {
+                if is_named(line, address)
+                    && is_first == (are_few || memmem::find(line.text(), word).is_some())
+                {
+                    count = self.listed(&[], count, at)?;
                 }
             }
         }

@@ -1,13 +1,13 @@
 //! What an edit asks for, in the words of a script.
 
-use crate::address::{meant_by, name_in, number_in};
+use crate::address::{meant_by, name_in, number_in, word_of};
 use crate::part::Part::{Number, Text, Words};
 use crate::text::Notes;
 use mk_edit_language::{Edit, Place, ValueChange};
 use mk_edit_parts::address::address_of;
 use std::alloc::{AllocError, Allocator};
 
-impl<'a, A: Allocator, B: Allocator> Notes<'a, A, B> {
+impl<'a, A: Allocator, B: Allocator + Copy> Notes<'a, A, B> {
     /// Puts the command of an edit with the fields that say what it is about, such as `nth 2 set CC` and
     /// `recipe-set all 3`. What it would write is left out.
     pub(crate) fn asked<C: Allocator>(&mut self, edit: &Edit<C>) -> Result<(), AllocError> {
@@ -43,16 +43,10 @@ impl<'a, A: Allocator, B: Allocator> Notes<'a, A, B> {
         if let Some(address) = meant_by(edit) {
             self.fields(&[name_in(address)])?;
         }
+        if let Some(word) = word_of(edit) {
+            return self.fields(&[word]);
+        }
         match edit {
-            Edit::AddWord { word, .. }
-            | Edit::RemoveWord { word, .. }
-            | Edit::AddPrereq { word, .. }
-            | Edit::RemovePrereq { word, .. }
-            | Edit::RenameTarget { to: word, .. }
-            | Edit::ChangeValues {
-                change: ValueChange::Add(word) | ValueChange::Remove(word),
-                ..
-            } => self.fields(&[word]),
             Edit::SetRecipe { number, .. }
             | Edit::RemoveRecipe { number, .. }
             | Edit::InsertRecipe { number, .. } => self.say(" @", &[Number(u64::from(*number))]),

@@ -24,7 +24,7 @@ impl<'a> Tested<'a> {
     }
 }
 
-impl<'a, A: Allocator, B: Allocator> Notes<'a, A, B> {
+impl<'a, A: Allocator, B: Allocator + Copy> Notes<'a, A, B> {
     /// Puts which rule a field of an edit breaks.
     pub(crate) fn bad_field<C: Allocator>(
         &mut self,

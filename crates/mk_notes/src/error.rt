@@ -5,7 +5,7 @@ use crate::text::Notes;
 use mk_edit_language::{Detail, Edit, Refusal};
 use std::alloc::{AllocError, Allocator};
 
-impl<'a, A: Allocator, B: Allocator> Notes<'a, A, B> {
+impl<'a, A: Allocator, B: Allocator + Copy> Notes<'a, A, B> {
     /// Puts the line on a refusal: where the command stands, what it asks for, what is so, and the refusal as
     /// reports name it.
     pub(crate) fn error<C: Allocator>(
@@ -13,6 +13,9 @@ impl<'a, A: Allocator, B: Allocator> Notes<'a, A, B> {
         edit: Option<&Edit<C>>,
         refusal: Refusal,
     ) -> Result<(), AllocError> {
+        if self.names.is_json {
+            return self.error_object(edit, refusal);
+        }
         self.script_line()?;
         self.say(": error: ", &[])?;
         match edit {
@@ -24,6 +27,31 @@ impl<'a, A: Allocator, B: Allocator> Notes<'a, A, B> {
             None => self.plain_sentence(refusal)?,
         }
         self.named(refusal)
+    }
+
+    // Puts the object on a refusal, with the same parts.
+    fn error_object<C: Allocator>(
+        &mut self,
+        edit: Option<&Edit<C>>,
+        refusal: Refusal,
+    ) -> Result<(), AllocError> {
+        let mut object = self.object("refusal", true)?;
+        object.number("number", usize::from(refusal.number()))?;
+        object.string("name", refusal.name())?;
+        match refusal.detail() {
+            Detail::Count(count) => object.number("detail", count as usize)?,
+            Detail::Field(field) => object.string("detail", field.name())?,
+            Detail::Nothing => {}
+        }
+        match edit {
+            Some(edit) => {
+                self.asked(edit)?;
+                self.member(&mut object, "command")?;
+                self.sentence(edit, refusal)?;
+            }
+            None => self.plain_sentence(refusal)?,
+        }
+        self.end(object)
     }
 
     // Puts a refusal as reports name it, at the end of its line.

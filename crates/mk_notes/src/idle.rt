@@ -1,7 +1,7 @@
 //! The sentences on edits that find nothing to do in their line: the word is there already, or what is to
 //! be changed or taken out is not there.
 
-use crate::address::{line_of_rule, name_in};
+use crate::address::{line_of_rule, name_in, word_of};
 use crate::part::Part::{Count, Number, Text};
 use crate::text::Notes;
 use mk_edit_language::{Edit, ValueChange};
@@ -10,7 +10,7 @@ use mk_listing::RuleLine;
 use mk_tree::Doc;
 use std::alloc::{AllocError, Allocator};
 
-impl<'a, A: Allocator, B: Allocator> Notes<'a, A, B> {
+impl<'a, A: Allocator, B: Allocator + Copy> Notes<'a, A, B> {
     /// Puts what is there, or is not there, where an edit finds nothing to do.
     pub(crate) fn idle<'e, C: Allocator>(
         &mut self,
@@ -39,27 +39,20 @@ impl<'a, A: Allocator, B: Allocator> Notes<'a, A, B> {
         edit: &'e Edit<C>,
         name: &'e [u8],
     ) -> Result<(), AllocError> {
-        let (said, word) = match edit {
-            Edit::AddWord { word, .. } => ("@ has the word @ already", word),
-            Edit::RemoveWord { word, .. } => ("@ has no word @", word),
+        let said = match edit {
+            Edit::AddWord { .. } => "@ has the word @ already",
+            Edit::RemoveWord { .. } => "@ has no word @",
             Edit::ChangeValues {
-                change: ValueChange::Add(word),
+                change: ValueChange::Add(_),
                 ..
-            } => ("each assignment of @ has the word @ already", word),
-            Edit::ChangeValues {
-                change: ValueChange::Remove(word),
-                ..
-            } => ("no assignment of @ has the word @", word),
-            Edit::AddPrereq {
-                order: true,
-                word,
-                ..
-            } => ("@ has the order-only prerequisite @ already", word),
-            Edit::AddPrereq { word, .. } => ("@ depends on @ already", word),
-            Edit::RemovePrereq { word, .. } => ("@ does not depend on @", word),
-            _ => return Ok(()),
+            } => "each assignment of @ has the word @ already",
+            Edit::ChangeValues { .. } => "no assignment of @ has the word @",
+            Edit::AddPrereq { order: true, .. } => "@ has the order-only prerequisite @ already",
+            Edit::AddPrereq { .. } => "@ depends on @ already",
+            _ => "@ does not depend on @",
         };
-        self.say(said, &[Text(name), Text(word)])
+        let word = Text(word_of(edit).unwrap_or_default());
+        self.say(said, &[Text(name), word])
     }
 
     // Puts how many recipe lines a rule has, which are fewer than this.

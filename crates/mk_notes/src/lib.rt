@@ -1,12 +1,11 @@
 //! What is said to a person of the commands of a run, as texts: why one is refused, in a sentence and by the
-//! lines of the makefile that are the cause; why an edit that was made may do nothing in make; and what is
-//! wrong with a line of the script.
+//! lines of the makefile that are the cause; and why an edit that was made may do nothing in make.
 //!
 //! - [`RunNotes`]: the lines on the refusals of a run, and the notes on its edits.
-//! - [`script_mistake`], [`push_mistake`]: the note on a line of a script that is no command.
+//! - [`message_in_json`], [`file_in_json`]: what else a report in JSON says of a run.
 //!
 //! A note is a line of text: the name of a file, mostly the number of a line in it, and what is said of
-//! it. No call promises which notes there are. Stored outputs of the program fix them.
+//! it; or a line of JSON with these parts. No call promises which notes there are. Stored outputs of the program fix them.
 //!
 //! The modules, lowest first:
 //!
@@ -24,8 +23,9 @@
 //! - `tally`: which words of a makefile may stand in several lines.
 //! - `run_notes`: the notes on the edits of a run, and how far they may walk.
 //! - `refused`: the line on a refusal, and the notes below it.
+//! - `new_rule`: the notes on a new rule, and on a new recipe.
 //! - `made`: the notes on an edit that was made.
-//! - `mistakes`: the notes on mistakes in a script.
+//! - `report`: the lines of a report in JSON that are on no command.
 //!
 //! Notes are hints to a reader: a definition of their text would be this code once more.
 #![tactic(auto)]
@@ -39,15 +39,16 @@ mod error;
 mod idle;
 mod line;
 mod made;
-mod mistakes;
+mod new_rule;
 mod open_value;
 mod part;
 mod refused;
+mod report;
 mod run_notes;
 mod sentence;
 mod tally;
 mod text;
 
-pub use mistakes::{ScriptMistake, is_command, push_mistake, script_mistake};
+pub use report::{file_in_json, message_in_json};
 pub use run_notes::RunNotes;
-pub use text::{COMMAND_LINES, Names};
+pub use text::Names;

@@ -2,24 +2,22 @@
 //!
 //! These notes are found in the document as the edit left it: that is the one that an observer
 //! gets. A line below with `+=` or `?=` has no note, since make takes its effect together with the
-//! value above or not at all. Lines in another branch have a note of their own, since make never
-//! reads them together with the line of the edit.
+//! value above or not at all, and neither has one that keeps the value, as `X := $(X) -g` does. Lines
+//! in another branch have a note of their own, since make never reads them together with the line of
+//! the edit.
 
-use crate::address::line_of;
+use crate::address::{line_of, line_of_rule};
 use crate::branch::OtherBranches;
-use crate::line::{gives, gives_anew};
+use crate::line::{gives, gives_anew, may_give};
 use crate::run_notes::{RunNotes, Walks};
 use crate::tally::Tally;
 use crate::text::Notes;
-use mk_class::{Flavor, Separator};
+use mk_class::Flavor;
 use mk_edit_language::{Edit, Place};
-use mk_edit_parts::address::address_of;
-use mk_listing::{Position, RuleLine, numbered, rules_for};
+use mk_edit_parts::address::{Address, address_of};
+use mk_listing::{Position, numbered};
 use mk_tree::{Doc, WordTexts};
 use std::alloc::{AllocError, Allocator};
-
-/// How many targets of a new rule are looked at.
-const MOST_TARGETS: usize = 10;
 
 impl<B: Allocator + Copy> RunNotes<'_, B> {
     /// The notes on an edit that was made, as a text: why it may do nothing in make. Each line begins with
@@ -28,15 +26,19 @@ impl<B: Allocator + Copy> RunNotes<'_, B> {
     ///
     /// | Edit | Notes |
     /// |---|---|
+    /// | each but `RemoveAssign`, `RemoveRule`, `ChangeValues` and `RenameTarget` | where the changed line is in a conditional: that make may skip it, and the line |
     /// | `SetValue`, `AppendValue`, `AddWord`, `RemoveWord` | where the operator is `?=`: that make takes the value only where the variable has none, and the line |
     /// | the same, and `AddAssign` | where the variable is assigned again below, and not in another branch of the same conditional: that it is, and the lines that assign it |
     /// | the same | where it is assigned in another branch of the same conditional: that it is, and the lines that assign it |
-    /// | `AddRule` | for each of its first ten targets that has a recipe in another rule: that it has, and the lines of these rules |
-    /// | `AddRecipe`, `SetRecipe`, `InsertRecipe`, `SetRecipeByText` | the same for the target by which the rule is called |
+    /// | the same, and anywhere in the makefile `RemoveAssign` and `ChangeValues` | where lines below seem to assign it that are not read: that they do, and these lines |
+    /// | `AddRule` | for each of its first ten targets that has a rule with colons of the other kind: that make stops if it reads both, and the lines of these rules |
+    /// | the same | for each other of them that has a recipe in another rule: that it has, and the lines of these rules |
+    /// | the same | where its target may be the default goal now: that it may, and the line of the earlier one |
+    /// | `AddRecipe`, `SetRecipe`, `InsertRecipe`, `SetRecipeByText` | where the target by which the rule is called has a recipe in another rule: that it has, and the lines of these rules |
     ///
-    /// There are no notes on any other edit. A rule with `::` is none of those that are told of, and a
-    /// target with `%` has no notes. A line assigns the variable again if it is a define of its name, or
-    /// an assignment with an operator besides `?=` and `+=`. Of many lines the first ten are told of, each
+    /// A rule with `::` is none of those with a recipe that are told of, and a target with `%` has no notes.
+    /// A line assigns the variable again if it is a define of its name, or an assignment with an operator
+    /// besides `?=` and `+=` whose value does not refer to it. Of many lines the first ten are told of, each
     /// by at most 100 bytes of its text.
     ///
     /// # Errors
@@ -69,74 +71,58 @@ impl<'a, A: Allocator, B: Allocator + Copy> Notes<'a, A, B> {
         walks: &mut Walks,
         edit: &Edit<C>,
     ) -> Result<(), AllocError> {
-        match edit {
-            Edit::SetValue { name, .. }
-            | Edit::AppendValue { name, .. }
-            | Edit::AddWord { name, .. }
-            | Edit::RemoveWord { name, .. } => {
-                if tally.may_vary(name) && walks.may_walk(self)? {
-                    self.value(edit, name, false)?;
-                }
+        if !tally.may_have_notes(edit) || !walks.may_walk(self)? {
+            return Ok(());
+        }
+        let changed = changed_line(self.doc, edit);
+        if let Some(at) = changed {
+            self.on_line(at, matches!(edit, Edit::AddAssign { .. }))?;
+        }
+        match (edit, changed) {
+            (Edit::AddRule { targets, .. }, _) => self.new_rule(tally, edit, targets, changed),
+            (Edit::AddAssign { name, .. }, Some(at)) => self.assigned(name, at),
+            (Edit::RemoveAssign { name, .. } | Edit::ChangeValues { name, .. }, _) => {
+                self.unread(name, 0)
             }
-            Edit::AddAssign { name, place, .. } => {
-                if tally.may_vary(name) && walks.may_walk(self)? {
-                    self.value(edit, name, matches!(place, Place::AfterVar { .. }))?;
+            _ => match (address_of(edit), changed) {
+                (Some(Address::Variable(_, name)), Some(at)) => self.assigned(name, at),
+                (Some(Address::Rule(nth, target)), _) if has_new_recipe(edit) => {
+                    self.other_recipes(nth.unwrap_or(1), target)
                 }
-            }
-            Edit::AddRule { targets, .. } => {
-                for target in WordTexts::new(targets).take(MOST_TARGETS) {
-                    if tally.has_rules(target) && walks.may_walk(self)? {
-                        self.other_rules(0, target)?;
-                    }
-                }
-            }
-            Edit::AddRecipe { nth, target, .. }
-            | Edit::SetRecipe { nth, target, .. }
-            | Edit::InsertRecipe { nth, target, .. }
-            | Edit::SetRecipeByText { nth, target, .. } => {
-                if tally.has_rules(target) && walks.may_walk(self)? {
-                    self.other_rules(nth.unwrap_or(1), target)?;
-                }
-            }
-            _ => {}
+                _ => Ok(()),
+            },
+        }
+    }
+
+    // Puts the notes on the changed line itself: whether it is in a conditional, and whether its operator is
+    // `?=`, if it was there before.
+    fn on_line(&mut self, at: Position, is_new: bool) -> Result<(), AllocError> {
+        let assignment = self.doc.get(at.index).and_then(|line| line.assignment());
+        let default = assignment.filter(|it| matches!(it.flavor(), Flavor::Conditional) && !is_new);
+        if at.conditionals > 0 {
+            self.script(&[b"this change is in a conditional, and make may skip it"])?;
+        }
+        if let Some(it) = &default {
+            self.script(&[
+                b"make takes this value only where ",
+                it.name(),
+                b" has none",
+            ])?;
+        }
+        if default.is_some() || at.conditionals > 0 {
+            self.line(Some(at))?;
         }
         Ok(())
     }
 
-    // Puts the notes on an edit that has given a variable a value in the line of its address, or in a new
-    // line at that address, maybe below it.
-    fn value<C: Allocator>(
-        &mut self,
-        edit: &Edit<C>,
-        name: &[u8],
-        is_below: bool,
-    ) -> Result<(), AllocError> {
-        let Some(at) = address_of(edit).and_then(|address| line_of(self.doc, address)) else {
-            return Ok(());
-        };
-        if !matches!(edit, Edit::AddAssign { .. }) {
-            self.default_value(name, at)?;
-        }
-        self.assigned(name, at, at.index.saturating_add(usize::from(is_below)))
-    }
-
-    // Puts the note on the changed value of the assignment at a position, if its operator is `?=`.
-    fn default_value(&mut self, name: &[u8], at: Position) -> Result<(), AllocError> {
-        let assignment = self.doc.get(at.index).and_then(|line| line.assignment());
-        if !assignment.is_some_and(|it| matches!(it.flavor(), Flavor::Conditional)) {
-            return Ok(());
-        }
-        self.script(&[b"make takes this value only where ", name, b" has none"])?;
-        self.line(Some(at))
-    }
-
-    // Puts the notes on the other lines that assign a variable. An edit has given it a value in the branch
-    // of the line at a position; the line that it has changed or put in has the index `own`.
-    fn assigned(&mut self, name: &[u8], at: Position, own: usize) -> Result<(), AllocError> {
+    // Puts the notes on the other lines that assign a variable to which an edit has given a value in the line
+    // at a position.
+    fn assigned(&mut self, name: &[u8], own: Position) -> Result<(), AllocError> {
         let doc = self.doc;
-        let others = OtherBranches::of(doc, at);
+        let own_index = own.index;
+        let others = OtherBranches::of(doc, own);
         let again = numbered(doc).filter_map(|(at, line)| {
-            let is_here = at.index > own && !others.has(at.index);
+            let is_here = at.index > own_index && !others.has(at.index);
             (is_here && gives_anew(line, name)).then_some(at)
         });
         let said = b" is assigned again below, and make may take that value";
@@ -146,32 +132,72 @@ impl<'a, A: Allocator, B: Allocator + Copy> Notes<'a, A, B> {
         });
         let said = b" is assigned in another branch too, and make may take that value";
         self.lines(&[name, said], elsewhere)?;
-        Ok(())
+        self.unread(name, own_index)
     }
 
-    // Puts the notes on the rules for a target that have a recipe, besides the one of the number `own`,
-    // from 1. The number of a new rule is 0.
-    fn other_rules(&mut self, own: u32, target: &[u8]) -> Result<(), AllocError> {
-        if target.contains(&b'%') {
-            return Ok(());
-        }
-        let doc = self.doc;
-        let mut count = 0;
-        for line in rules_for(doc, target) {
-            if line.nth != own && has_recipe_alone(&line) {
-                let said = &[target, b" has a recipe in another rule"];
-                count = self.listed(said, count, line.position)?;
-            }
-        }
-        self.end_list(count).map(|_| ())
+    // Puts the notes on the lines from an index on that seem to assign a variable and are not read.
+    fn unread(&mut self, name: &[u8], from: usize) -> Result<(), AllocError> {
+        let found = numbered(self.doc).filter_map(|(at, line)| {
+            (at.index >= from && may_give(line, name)).then_some(at)
+        });
+        let said = b" has more assignments, in lines that mkedit cannot parse";
+        self.lines(&[name, said], found).map(|_| ())
     }
 }
 
-// Whether a rule has a recipe, and make takes one such rule for a target: it takes each with `::`.
-fn has_recipe_alone<A: Allocator>(line: &RuleLine<'_, A>) -> bool {
-    let is_double = matches!(
-        line.rule.separator(),
-        Separator::DoubleColon | Separator::GroupedDoubleColon
-    );
-    !is_double && (line.rule.inline_recipe().is_some() || line.recipe_lines().next().is_some())
+// Whether an edit has put a line into a recipe, or has changed one.
+fn has_new_recipe<A: Allocator>(edit: &Edit<A>) -> bool {
+    matches!(
+        edit,
+        Edit::AddRecipe { .. }
+            | Edit::SetRecipe { .. }
+            | Edit::InsertRecipe { .. }
+            | Edit::SetRecipeByText { .. }
+    )
+}
+
+// The line that an edit has changed or put in, or that of the rule of which it has taken a recipe line out;
+// none if it has taken its line out, put one in at the end, or changed several.
+fn changed_line<A: Allocator, B: Allocator>(doc: &Doc<A>, edit: &Edit<B>) -> Option<Position> {
+    let address = address_of(edit)?;
+    match edit {
+        Edit::RemoveAssign { .. } | Edit::RemoveRule { .. } => None,
+        Edit::AddAssign { place, .. } | Edit::AddRule { place, .. } => {
+            let index = line_of(doc, address)?.index;
+            let new = match place {
+                Place::AfterVar { .. } => index.saturating_add(1),
+                _ if fits_own_place(edit) => index,
+                _ => index.saturating_sub(1),
+            };
+            numbered(doc).nth(new).map(|(at, _)| at)
+        }
+        Edit::SetRecipe { number, .. } => {
+            let number = *number;
+            line_of_rule(doc, address)?
+                .recipe_lines()
+                .find(|it| it.number == number)
+                .map(|it| it.position)
+        }
+        Edit::SetRecipeByText { line, .. } => {
+            let rule = line_of_rule(doc, address)?;
+            let mut found = rule.recipe_lines().filter(|it| it.text == line.as_slice());
+            match (found.next(), found.next()) {
+                (Some(it), None) => Some(it.position),
+                _ => None,
+            }
+        }
+        _ => line_of(doc, address),
+    }
+}
+
+// Whether the new line of an edit fits the address of the line before which it was put in.
+fn fits_own_place<A: Allocator>(edit: &Edit<A>) -> bool {
+    match (edit, address_of(edit)) {
+        (Edit::AddAssign { name, .. }, Some(Address::Variable(_, other))) => name.as_slice()
+            == other,
+        (Edit::AddRule { targets, .. }, Some(Address::Rule(_, other))) => {
+            WordTexts::new(targets).any(|target| target == other)
+        }
+        _ => false,
+    }
 }

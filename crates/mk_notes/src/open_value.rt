@@ -15,7 +15,7 @@ use mk_listing::assignments_of;
 use mk_tree::{Doc, WordTexts};
 use std::alloc::{AllocError, Allocator};
 
-impl<'a, A: Allocator, B: Allocator> Notes<'a, A, B> {
+impl<'a, A: Allocator, B: Allocator + Copy> Notes<'a, A, B> {
     /// Puts how the value ends that an edit would change, or the word before one that would go.
     pub(crate) fn open_value<'e, C: Allocator>(
         &mut self,

@@ -20,7 +20,7 @@ pub(crate) enum Part<'a> {
     Count(u64, &'a str),
 }
 
-impl<'a, A: Allocator, B: Allocator> Notes<'a, A, B> {
+impl<'a, A: Allocator, B: Allocator + Copy> Notes<'a, A, B> {
     /// Puts a sentence, or a piece of one, with these parts for each `@` in it, in their order.
     pub(crate) fn say(&mut self, sentence: &str, parts: &[Part<'_>]) -> Result<(), AllocError> {
         let mut parts = parts.iter();

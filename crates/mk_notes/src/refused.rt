@@ -3,7 +3,7 @@
 //! The numbers of lines are those of the document as it stands when the edit is refused: after
 //! accepted edits no other number would say where the next command looks.
 
-use crate::address::{line_of, meant_by};
+use crate::address::{count_of, line_of, meant_by, name_in};
 use crate::line::{has_target, is_hidden, is_near};
 use crate::open_value::is_open_to;
 use crate::run_notes::RunNotes;
@@ -37,8 +37,8 @@ impl<C: Allocator + Copy> RunNotes<'_, C> {
     /// | `OpenDefine` | the line that begins the define |
     /// | `Leans` | the first line below the change that begins with the recipe prefix |
     ///
-    /// There are no notes on any other refusal. Of many lines the first ten are told of, each by at most
-    /// 100 bytes of its text.
+    /// There are no notes on any other refusal. Of many lines ten are told of, those with the word of the
+    /// edit before others, each by at most 100 bytes of its text.
     ///
     /// # Errors
     ///
@@ -60,9 +60,31 @@ impl<C: Allocator + Copy> RunNotes<'_, C> {
         }
         Ok(notes.into_text())
     }
+
+    /// The notes on an edit behind `try` that is passed over, since there is no line of its name: the lines
+    /// of names that are spelled alike. They are as those of [`RunNotes::refused`].
+    ///
+    /// # Errors
+    ///
+    /// [`AllocError`] if a growth was refused.
+    pub fn passed_over<A: Allocator, B: Allocator>(
+        &mut self,
+        line: u64,
+        doc: &Doc<A>,
+        edit: &Edit<B>,
+    ) -> Result<Vec<u8, C>, AllocError> {
+        let mut notes = Notes::new(self.alloc, self.names, line, doc);
+        if let Some(address) = meant_by(edit) {
+            if self.refused.may_walk(&mut notes)? && count_of(doc, address) == 0 {
+                let said = b"; did you mean one of these?";
+                notes.near(address, &[b"`try` finds no ", name_in(address), said])?;
+            }
+        }
+        Ok(notes.into_text())
+    }
 }
 
-impl<'a, A: Allocator, C: Allocator> Notes<'a, A, C> {
+impl<'a, A: Allocator, C: Allocator + Copy> Notes<'a, A, C> {
     // Puts the notes on a refusal of an edit.
     fn on_refusal<B: Allocator>(
         &mut self,
@@ -94,11 +116,11 @@ impl<'a, A: Allocator, C: Allocator> Notes<'a, A, C> {
             Refusal::Ambiguous(_) => self.ambiguous(edit, address),
             Refusal::NoSuch => self.missing(address),
             Refusal::Straddles => {
-                self.meant(address)?;
+                self.meant(edit, address)?;
                 self.line(conditional_below(self.doc, address))
             }
             Refusal::Absent | Refusal::Already | Refusal::SharedRule(_) | Refusal::OpenValue => self
-                .meant(address)
+                .meant(edit, address)
                 .map(|_| ()),
             _ => Ok(()),
         }
@@ -111,7 +133,7 @@ impl<'a, A: Allocator, C: Allocator> Notes<'a, A, C> {
         edit: &Edit<B>,
         address: Address<'_>,
     ) -> Result<(), AllocError> {
-        let count = self.meant(address)?;
+        let count = self.meant(edit, address)?;
         if count < 2 {
             return Ok(());
         }
@@ -129,7 +151,7 @@ impl<'a, A: Allocator, C: Allocator> Notes<'a, A, C> {
 
     // Puts the notes on an address that fits no line.
     fn missing(&mut self, address: Address<'_>) -> Result<(), AllocError> {
-        let count = self.candidates(address)?;
+        let count = self.candidates(address, b"")?;
         if count == 0 {
             return self.elsewhere(address);
         }
@@ -140,8 +162,7 @@ impl<'a, A: Allocator, C: Allocator> Notes<'a, A, C> {
     // Puts the notes on what is there in the place of a name that no line has.
     fn elsewhere(&mut self, address: Address<'_>) -> Result<(), AllocError> {
         let doc = self.doc;
-        let near = numbered(doc).filter_map(|(at, line)| is_near(line, address).then_some(at));
-        if self.lines(&[], near)? > 0 {
+        if self.near(address, &[])? > 0 {
             self.script(&[b"did you mean one of these?"])?;
         }
         let hidden = numbered(doc).filter_map(|(at, line)| is_hidden(line, address).then_some(at));
@@ -149,6 +170,14 @@ impl<'a, A: Allocator, C: Allocator> Notes<'a, A, C> {
             self.script(&[b"no edit looks at these lines"])?;
         }
         Ok(())
+    }
+
+    // Puts the notes on the lines of names that are spelled alike, below what is said of them. Hands out
+    // how many there are.
+    fn near(&mut self, address: Address<'_>, said: &[&[u8]]) -> Result<usize, AllocError> {
+        let near = numbered(self.doc);
+        let near = near.filter_map(|(at, line)| is_near(line, address).then_some(at));
+        self.lines(said, near)
     }
 
     // Puts the notes on the lines for a target.
@@ -173,7 +202,7 @@ impl<'a, A: Allocator, C: Allocator> Notes<'a, A, C> {
             }
         }
         if self.end_list(count)? == 0 {
-            self.candidates(Address::Variable(None, name))?;
+            self.candidates(Address::Variable(None, name), b"")?;
         }
         Ok(())
     }

@@ -8,12 +8,16 @@ use std::alloc::{AllocError, Allocator};
 /// makefile of 1,000 lines.
 const MOST_WALKED: usize = 1_000_000;
 
+/// How many bytes count as one line in a makefile that has fewer lines: a walk reads the bytes.
+const BYTES_OF_LINE: usize = 100;
+
 /// Makes the notes on the edits of a run over one makefile, one edit after the other.
 ///
 /// Notes are found by walks over the makefile. An edit that was made needs none where the makefile has
-/// one line alone for its variable or target. The other edits that were made have 1,000,000 lines in all
-/// to walk over, and so have the refused ones; a makefile counts once for each edit. After that a note
-/// says that further ones are left out. So the notes of a run take time linear in its text and its edits.
+/// neither conditionals nor opaque lines, and one line alone for its variable or target. The other edits
+/// that were made have 1,000,000 lines in all to walk over, and so have the refused ones; a makefile counts
+/// once for each edit, by its lines or by each 100 bytes. After that a note says that further ones are left
+/// out. So the notes of a run take time linear in its text and its edits.
 #[derive(Drop)]
 pub struct RunNotes<'a, A: Allocator> {
     pub(crate) alloc: A,
@@ -59,12 +63,13 @@ impl Walks {
 
     /// Whether the notes on one more edit may walk over its makefile. The first time that they may not, a
     /// note says so.
-    pub(crate) fn may_walk<A: Allocator, B: Allocator>(
+    pub(crate) fn may_walk<A: Allocator, B: Allocator + Copy>(
         &mut self,
         notes: &mut Notes<'_, A, B>,
     ) -> Result<bool, AllocError> {
         if self.are_left() {
-            self.left = self.left.saturating_sub(notes.doc.len().max(1));
+            let lines = notes.doc.len().max(notes.doc.size() / BYTES_OF_LINE);
+            self.left = self.left.saturating_sub(lines.max(1));
             return Ok(true);
         }
         if !self.is_told {

@@ -3,18 +3,18 @@
 //! A sentence tells the count, the word or the line that it is about. Where that takes a walk over the
 //! makefile and no more may be taken, it is a shorter one, which is true all the same.
 
-use crate::address::{meant_by, name_in, number_in};
+use crate::address::{count_of, meant_by, name_in, number_in};
 use crate::line::hides_prefix;
 use crate::part::Part::{Count, Makefile, Number, Text, Times, Words};
 use crate::text::Notes;
 use mk_class::is_reserved_word;
 use mk_edit_language::{Edit, Refusal};
 use mk_edit_parts::address::Address;
-use mk_listing::{assignments_of, numbered, rules_for};
-use mk_tree::{Doc, WordTexts};
+use mk_listing::numbered;
+use mk_tree::WordTexts;
 use std::alloc::{AllocError, Allocator};
 
-impl<'a, A: Allocator, B: Allocator> Notes<'a, A, B> {
+impl<'a, A: Allocator, B: Allocator + Copy> Notes<'a, A, B> {
     /// Puts what is so, where an edit is refused.
     pub(crate) fn sentence<C: Allocator>(
         &mut self,
@@ -168,24 +168,6 @@ impl<'a, A: Allocator, B: Allocator> Notes<'a, A, B> {
             ),
         }
     }
-}
-
-// How many lines have the name of an address.
-fn count_of<A: Allocator>(doc: &Doc<A>, address: Address<'_>) -> u64 {
-    let mut count: u64 = 0;
-    match address {
-        Address::Variable(_, name) => {
-            for _ in assignments_of(doc, name) {
-                count = count.saturating_add(1);
-            }
-        }
-        Address::Rule(_, target) => {
-            for _ in rules_for(doc, target) {
-                count = count.saturating_add(1);
-            }
-        }
-    }
-    count
 }
 
 // The first target of an edit that is the name of a directive.

@@ -1,7 +1,10 @@
 //! Which words of a makefile stand in several lines, so that most edits need no walk for their notes.
 
+use crate::address::meant_by;
+use crate::line::is_doubtful;
 use mk_class::Flavor;
-use mk_edit_language::Edit;
+use mk_edit_language::{Edit, Place};
+use mk_edit_parts::address::Address;
 use mk_index::bucket::hash_of;
 use mk_tree::{Doc, WordTexts};
 use std::alloc::{AllocError, Allocator};
@@ -24,6 +27,8 @@ enum Use {
 pub(crate) struct Tally<A: Allocator> {
     /// The counts, by use and hash.
     counts: BTreeMap<u64, u8, A>,
+    /// Whether make may read another text than the lines that are counted.
+    is_doubtful: bool,
 }
 
 impl<A: Allocator + Copy> Tally<A> {
@@ -35,8 +40,10 @@ impl<A: Allocator + Copy> Tally<A> {
     pub(crate) fn of<B: Allocator>(alloc: A, doc: &Doc<B>) -> Result<Tally<A>, AllocError> {
         let mut tally = Tally {
             counts: BTreeMap::new(alloc),
+            is_doubtful: false,
         };
         for line in doc.iter() {
+            tally.is_doubtful = tally.is_doubtful || is_doubtful(line);
             if let Some(name) = line.define() {
                 tally.add(Use::Variable, name, 1)?;
             }
@@ -78,15 +85,35 @@ impl<A: Allocator + Copy> Tally<A> {
         }
     }
 
-    /// Whether the variable of this name may have another value than that of one line: several lines give
-    /// it one, or one by `?=`.
-    pub(crate) fn may_vary(&self, name: &[u8]) -> bool {
-        self.count(Use::Default, name) > 0 || self.count(Use::Variable, name) > 1
+    /// Whether an edit that was made may have notes. In a makefile of which make reads each line it has none
+    /// if its line is the only one of the name, and is no rule with lines below it.
+    pub(crate) fn may_have_notes<B: Allocator>(&self, edit: &Edit<B>) -> bool {
+        if self.is_doubtful {
+            return true;
+        }
+        match edit {
+            Edit::AddAssign { name, .. } => self.may_vary(name),
+            Edit::AddRule { place, targets, .. } => {
+                !matches!(place, Place::Bottom)
+                    || WordTexts::new(targets).any(|target| self.has_rules(target))
+            }
+            _ => match meant_by(edit) {
+                Some(Address::Variable(_, name)) => self.may_vary(name),
+                Some(Address::Rule(_, target)) => self.has_rules(target),
+                None => false,
+            },
+        }
     }
 
     /// Whether several rules may have this target.
     pub(crate) fn has_rules(&self, target: &[u8]) -> bool {
         self.count(Use::Target, target) > 1
+    }
+
+    // Whether the variable of this name may have another value than that of one line: several lines give
+    // it one, or one by `?=`.
+    fn may_vary(&self, name: &[u8]) -> bool {
+        self.count(Use::Default, name) > 0 || self.count(Use::Variable, name) > 1
     }
 
     // How many lines use a word so, or more; 255 stands for any greater number.

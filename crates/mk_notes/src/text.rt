@@ -1,35 +1,35 @@
 //! The text of the notes.
+//!
+//! It is lines of text, or an object of JSON for each of them: then what is said is gathered, and becomes a
+//! member of the object.
 ghost use Rattle.std.specs.Iterator.{IsFinite};
 
 use crate::branch::BranchStart;
 use crate::line::{after_blanks, kind};
+use mk_cli::before_number;
 use mk_escape::{Layout, TextSink, write_escaped};
+use mk_json::Object;
+use mk_lines::sink::write_all;
 use mk_listing::Position;
-use mk_tree::Doc;
+use mk_tree::{Doc, Line};
 use std::alloc::{AllocError, Allocator};
+use std::mem;
 
 /// How many lines a list shows at most.
-const MOST_LINES: usize = 10;
+pub(crate) const MOST_LINES: usize = 10;
 
 /// How many bytes of a line's text a note shows at most.
 const MOST_BYTES: usize = 100;
 
-/// What the lines of the command line are called, where they are the script.
-pub const COMMAND_LINES: &str = "-e";
-
-/// What makefile and script are called in notes.
+/// What makefile and script are called in notes, and the form of these.
 #[derive(Clone, Copy)]
 pub struct Names<'a> {
     /// What the makefile is called.
     pub makefile: &'a str,
     /// What the script is called.
     pub script: &'a str,
-}
-
-/// What stands between the name of a script and the number of a line in it. `-e` is no file: its lines are
-/// those of all `-e` together, and an editor is to open none.
-pub(crate) fn before_number(script: &str) -> &'static str {
-    if script == COMMAND_LINES { " " } else { ":" }
+    /// Whether notes are lines of JSON.
+    pub is_json: bool,
 }
 
 /// The notes on an edit, behind each other. Each call that puts a note fails with [`AllocError`] if a
@@ -40,31 +40,80 @@ pub(crate) struct Notes<'a, A: Allocator, B: Allocator> {
     pub doc: &'a Doc<A>,
     /// Whether a sentence may walk over these lines.
     pub walks: bool,
-    names: Names<'a>,
+    /// What makefile and script are called, and the form of the notes.
+    pub names: Names<'a>,
+    alloc: B,
     // The number of the line of the script, from 1.
     line: u64,
+    // The lines of text; or what was said for the next member of an object.
     text: TextSink<B>,
+    // The lines of JSON.
+    json: Vec<u8, B>,
 }
 
-impl<'a, A: Allocator, B: Allocator> Notes<'a, A, B> {
+impl<'a, A: Allocator, B: Allocator + Copy> Notes<'a, A, B> {
     /// No notes yet.
     pub(crate) fn new(alloc: B, names: Names<'a>, line: u64, doc: &'a Doc<A>) -> Notes<'a, A, B> {
         Notes {
             doc,
             walks: false,
             names,
+            alloc,
             line,
             text: TextSink::new(alloc),
+            json: Vec::new(alloc),
         }
     }
 
     /// The text of the notes.
     pub(crate) fn into_text(self) -> Vec<u8, B> {
-        self.text.text
+        if self.names.is_json {
+            self.json
+        } else {
+            self.text.text
+        }
+    }
+
+    /// Begins an object on the makefile, or on the line of the script.
+    pub(crate) fn object(
+        &mut self,
+        kind: &str,
+        is_on_script: bool,
+    ) -> Result<Object<B>, AllocError> {
+        let lines = mem::replace(&mut self.json, Vec::new(self.alloc));
+        let mut object = Object::begin(self.alloc, lines)?;
+        object.string("kind", kind)?;
+        object.string("file", self.names.makefile)?;
+        if is_on_script {
+            object.string("script", self.names.script)?;
+            object.number("line", self.line as usize)?;
+        }
+        Ok(object)
+    }
+
+    /// Puts what was said into an object as a member, if anything was.
+    pub(crate) fn member(&mut self, object: &mut Object<B>, name: &str) -> Result<(), AllocError> {
+        let said = mem::replace(&mut self.text, TextSink::new(self.alloc)).text;
+        if said.is_empty() {
+            return Ok(());
+        }
+        object.text(name, said.as_slice())
+    }
+
+    /// Ends an object, whose sentence is what was said.
+    pub(crate) fn end(&mut self, mut object: Object<B>) -> Result<(), AllocError> {
+        self.member(&mut object, "sentence")?;
+        self.json = object.end()?;
+        Ok(())
     }
 
     /// Puts a note on the line of the script.
     pub(crate) fn script(&mut self, said: &[&[u8]]) -> Result<(), AllocError> {
+        if self.names.is_json {
+            let object = self.object("note", true)?;
+            self.push(said)?;
+            return self.end(object);
+        }
         self.script_line()?;
         self.push(&[b": note: "])?;
         self.push(said)?;
@@ -86,12 +135,30 @@ impl<'a, A: Allocator, B: Allocator> Notes<'a, A, B> {
         let Some(line) = self.doc.get(at.index) else {
             return Ok(());
         };
+        if self.names.is_json {
+            return self.line_object(at, line);
+        }
         self.place(self.names.makefile, ":", at.number as u64)?;
         self.push(&[b": note: "])?;
         self.excerpt(line.text())?;
-        self.push(&[kind(line).as_bytes()])?;
+        if let Some(said) = kind(line) {
+            self.push(&[b"   (", said.as_bytes(), b")"])?;
+        }
         self.branch(at)?;
         self.push(&[b"\n"])
+    }
+
+    // Puts the object on a line of the makefile, with the same parts.
+    fn line_object(&mut self, at: Position, line: &Line<A>) -> Result<(), AllocError> {
+        let mut object = self.object("note", false)?;
+        object.number("line", at.number)?;
+        self.excerpt(line.text())?;
+        self.member(&mut object, "text")?;
+        if let Some(start) = BranchStart::of(self.doc, at) {
+            object.number("branch", start.line.number)?;
+        }
+        self.push(&[kind(line).unwrap_or("").as_bytes()])?;
+        self.end(object)
     }
 
     /// Puts the notes on some lines of the makefile: on the first ten, and how many more there are. Before
@@ -134,8 +201,14 @@ impl<'a, A: Allocator, B: Allocator> Notes<'a, A, B> {
         if count > MOST_LINES {
             let mut digits = itoa::Buffer::new();
             let more = digits.format(count - MOST_LINES).as_bytes();
-            self.makefile()?;
-            self.push(&[b": note: and ", more, b" more\n"])?;
+            if self.names.is_json {
+                let object = self.object("note", false)?;
+                self.push(&[b"and ", more, b" more"])?;
+                self.end(object)?;
+            } else {
+                self.makefile()?;
+                self.push(&[b": note: and ", more, b" more\n"])?;
+            }
         }
         Ok(count)
     }
@@ -160,9 +233,13 @@ impl<'a, A: Allocator, B: Allocator> Notes<'a, A, B> {
         self.front(after_blanks(text))
     }
 
-    /// Puts the front of a text.
+    /// Puts the front of a text; that of a long one ends between two characters of UTF-8.
     pub(crate) fn front(&mut self, text: &[u8]) -> Result<(), AllocError> {
-        match text.split_at_checked(MOST_BYTES) {
+        let end = [MOST_BYTES, MOST_BYTES - 1, MOST_BYTES - 2]
+            .into_iter()
+            .find(|end| !matches!(text.get(*end), Some(0x80..=0xBF)))
+            .unwrap_or(MOST_BYTES - 3);
+        match text.split_at_checked(end) {
             Some((front, rest)) if !rest.is_empty() => self.push(&[front, b"..."]),
             _ => self.push(&[text]),
         }
@@ -188,14 +265,16 @@ impl<'a, A: Allocator, B: Allocator> Notes<'a, A, B> {
         Ok(())
     }
 
-    // Puts a text, its control characters escaped.
+    // Puts a text, its control characters escaped: JSON escapes them in its own way.
     fn escape(&mut self, text: &[u8], layout: Layout) -> Result<(), AllocError> {
         if self.text.is_failed {
             return Err(AllocError);
         }
-        match write_escaped(&mut self.text, text, layout) {
-            Ok(()) => Ok(()),
-            Err(_) => Err(AllocError),
-        }
+        let put = if self.names.is_json {
+            write_all(&mut self.text, text)
+        } else {
+            write_escaped(&mut self.text, text, layout)
+        };
+        put.map_err(|_| AllocError)
     }
 }

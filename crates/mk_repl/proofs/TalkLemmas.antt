@@ -42,7 +42,7 @@ ends (Some xs) (Some ys) lines h e = h ∙ ap (λ t. lines ++ physical_lines t) 
 pub says-kept : (a b c : Option (List ℕ)) (Says : List ℕ → Type 0) → SaysOut a b Says → Keeps b c → SaysOut a c Says
 says-kept a b c Says (text, is_out, says) kept = (text, Appends-kept a b c text is_out kept, says)
 
-module _ {L : Type 0} (rejects : L → List ℕ → Type 0) (handles : L → List ℕ → List ℕ → After → L → Type 0) where
+module _ {L : Type 0} (rejects : L → List ℕ → L → Type 0) (handles : L → List ℕ → List ℕ → After → L → Type 0) where
   goes-over-more : (lines : List (List ℕ)) (a b c : L) (replies reply line : List ℕ) → GoesOver rejects handles lines a replies b
       → IsReplied rejects handles line b reply GoesOn c → GoesOver rejects handles (lines ++ line ∷ []) a (replies ++ reply) c
   goes-over-more [] a b c replies reply line (none, same) next =
@@ -66,7 +66,7 @@ module _ {L : Type 0} (rejects : L → List ℕ → Type 0) (handles : L → Lis
       → ((told : List ℕ) × LosesLine y z told × IsReplied rejects handles told b reply after c)
       ⊎ (IsAtEnd y × (reply ≡ []) × (after ≡ Ends) × (c ≡ b))
   replied y z line b c reply after line_read.Line was says = inl (line, was.0, inl (was.1, says))
-  replied y z line b c reply after line_read.TooLong was says = inl (was.0, was.1, inr (was.2, says.0, says.1, says.2))
+  replied y z line b c reply after line_read.TooLong was says = inl (was.0, was.1, inr (was.2, says.0, says.1))
   replied y z line b c reply after line_read.End was says = inr (was.0, says.0, says.1, says.2)
 
   -- the reply, of the same line and the same end

@@ -2,6 +2,7 @@
 pub mod AnswerLines
 pub mod InputLines
 pub mod QueryTexts
+pub mod Quits
 pub mod Replies
 pub mod Requests
 pub mod Reverted

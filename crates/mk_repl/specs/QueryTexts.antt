@@ -39,7 +39,8 @@ IsSaid said text = IfSome said (λ wanted. text ≡ wanted)
 abbrev pub has_prefix : Question → Bool
 has_prefix (question.List query form.Text) = true
 has_prefix (question.List query form.Json) = false
-has_prefix (question.Value nth name) = true
+has_prefix (question.Value nth name form.Text) = true
+has_prefix (question.Value nth name form.Json) = false
 
 -- a value and the end of its line; nothing where there is a refusal
 abbrev value_line : Result (List ℕ) Refusal → List ℕ
@@ -54,12 +55,13 @@ refusal_in (Err refusal) = Some refusal
 abbrev pub answer_text : Question → List ℕ → Option (List ℕ)
 answer_text (question.List query form.Text) text = query_text query (document_lines text)
 answer_text (question.List query form.Json) text = None
-answer_text (question.Value nth name) text = Some (value_line (looked_up text nth name.now))
+answer_text (question.Value nth name form.Text) text = Some (value_line (looked_up text nth name.now))
+answer_text (question.Value nth name form.Json) text = None
 
 -- the refusal of a question, if it is refused
 abbrev pub answer_refusal : Question → List ℕ → Option Refusal
 answer_refusal (question.List query form) text = None
-answer_refusal (question.Value nth name) text = refusal_in (looked_up text nth name.now)
+answer_refusal (question.Value nth name form) text = refusal_in (looked_up text nth name.now)
 
 -- what is printed of what is found for a question in the lines of a makefile
 abbrev pub found_text : {B : Type 0} → Found B → List LocatedLine → Option (List ℕ)

@@ -1,6 +1,6 @@
 -- Lines that are read and answered, one after the other. A handler of the type L says what it says
--- before the first line, what it replies to a line that is too long, and what handling a line comes to:
--- before it, the line, the reply, whether the talk goes on, and after it.
+-- before the first line, what a line that is too long comes to: before it, the reply, and after it; and
+-- what handling a line comes to: before it, the line, the reply, whether the talk goes on, and after it.
 -- Told in docs/PROTOCOL.md, "Lines" and "Replies".
 use Rattle.std.specs.Prelude.{◌≡◌, ◌⊎◌, ℕ, List, [], ◌∷◌, ◌++◌, Option, IfSome, codes}
 use Rattle.std.specs.Io.KnownBytes.{Appends}
@@ -27,21 +27,20 @@ SaysOut before after Says = (text : List ℕ) × Appends before after text × Sa
 abbrev pub BeginsWith : (bytes : Option (List ℕ)) → (lines rest : List (List ℕ)) → Type 0
 BeginsWith bytes lines rest = IfSome bytes (λ text. physical_lines text ≡ lines ++ rest)
 
-module _ {L : Type 0} (rejects : L → List ℕ → Type 0)
+module _ {L : Type 0} (rejects : L → List ℕ → L → Type 0)
     (handles : L → List ℕ → List ℕ → After → L → Type 0) where
   -- what was read gets this reply; at the end of the source there is none
   abbrev pub IsReadReplied : read.LineRead → (line : List ℕ) → (old : L) → (reply : List ℕ) → After
       → (new : L) → Type 0
   IsReadReplied line_read.Line line old reply after new = handles old line reply after new
-  IsReadReplied line_read.TooLong line old reply after new =
-      rejects old reply × (after ≡ GoesOn) × (new ≡ old)
+  IsReadReplied line_read.TooLong line old reply after new = rejects old reply new × (after ≡ GoesOn)
   IsReadReplied line_read.End line old reply after new = (reply ≡ []) × (after ≡ Ends) × (new ≡ old)
 
   -- a line gets this reply: the handler's, or that on a line that is too long
   abbrev pub IsReplied : (line : List ℕ) → (old : L) → (reply : List ℕ) → After → (new : L) → Type 0
   IsReplied line old reply after new =
       (IsShort line × handles old line reply after new)
-      ⊎ (IsLong line × rejects old reply × (after ≡ GoesOn) × (new ≡ old))
+      ⊎ (IsLong line × rejects old reply new × (after ≡ GoesOn))
 
   -- lines, one after the other, get these replies, and the talk goes on after each of them
   abbrev pub GoesOver : List (List ℕ) → (old : L) → (replies : List ℕ) → (new : L) → Type 0
@@ -73,7 +72,7 @@ module _ {L : Type 0} (rejects : L → List ℕ → Type 0)
     pub replies_are : replies ≡ before ++ reply
 
 -- A talk over the bytes of a source: this went out, the greeting first.
-abbrev pub IsTalk : {L : Type 0} → (greets rejects : L → List ℕ → Type 0)
+abbrev pub IsTalk : {L : Type 0} → (greets : L → List ℕ → Type 0) → (rejects : L → List ℕ → L → Type 0)
     → (handles : L → List ℕ → List ℕ → After → L → Type 0)
     → (bytes : Option (List ℕ)) → (old : L) → (out : List ℕ) → (new : L) → Type 0
 IsTalk greets rejects handles bytes old out new =

@@ -1,14 +1,15 @@
 //! The replies of a makefile that is open, by the protocol.
-ghost use Rattle.std.specs.Prelude.{◌≡◌, ◌⊎◌, false, true, Err, IfErr, IfOk, IsOkAnd, OnOk, is_ok};
+ghost use Rattle.std.specs.Prelude.{◌≡◌, ◌⊎◌, false, true, Err, IfErr, IfOk, IsOkAnd, Ok, OnOk, Some, is_ok};
 ghost use Rattle.mk_repl.specs.AnswerLines.{answer_lines};
-ghost use Rattle.mk_repl.specs.Requests.{request_in};
+ghost use Rattle.mk_repl.specs.Quits.{IsLeftBy, IsWarned, MayQuit, left_with};
+ghost use Rattle.mk_repl.specs.Requests.{Word, request_in};
 ghost use Rattle.mk_repl.specs.Talks.{SaysOut, greeting, too_long};
 ghost use Rattle.mk_repl.specs.SessionReplies.{IsHandled, IsOtherAnswered, IsReplyTo, answer_text};
 
 use crate::not_done::{NotDone, put_fault};
 use crate::server::Server;
 use crate::{
-    After, Executed, Handler, answer_lines, read_request, write_greeting, write_reply,
+    After, Executed, Handler, RequestWord, answer_lines, read_request, write_greeting, write_reply,
     write_too_long,
 };
 use mk_lines::sink::write_parts;
@@ -57,6 +58,13 @@ impl Server<'_> {
             IsOtherAnswered (request_in line.now) self.old.opened self.old.session.shown reply after
             self.new.session.shown)) }
         ensures opened { self.new.opened ≡ self.old.opened }
+        ensures quit { result ≡ Ok After.Ends → request_in line.now ≡ Some (Word RequestWord.Quit)
+            → MayQuit self.old.is_warned (left_with self.old.opened self.old.written)
+            self.new.session.shown.text }
+        ensures left { IsLeftBy self.old.opened (request_in line.now) self.new.session.shown.text
+            self.old.written self.new.written }
+        ensures warned { self.new.is_warned ≡ true
+            → request_in line.now ≡ Some (Word RequestWord.Quit) }
         ensures fault { IfErr result (λ fault. (fault ≡ Fault.Write) × (W.failed out.new ≡ true)) }
         ensures works { OnOk result (W.failed out.new ≡ false) }
     {
@@ -76,7 +84,11 @@ impl Server<'_> {
         ensures said { IfOk result (λ after. SaysOut (W.contents out.old) (W.contents out.new) (λ reply.
             IsHandled line.now self.old.opened self.old.session.shown reply after
             self.new.session.shown
+            × IsWarned (request_in line.now) reply self.old.is_warned self.new.is_warned
             × (self.new.opened ≡ self.old.opened))) }
+        ensures quit { result ≡ Ok After.Ends → request_in line.now ≡ Some (Word RequestWord.Quit)
+            → MayQuit self.old.is_warned (left_with self.old.opened self.old.written)
+            self.new.session.shown.text }
         ensures fault { IfErr result (λ fault. (fault ≡ Fault.Write) × (W.failed out.new ≡ true)) }
         ensures works { OnOk result (W.failed out.new ≡ false) }
     {
@@ -92,17 +104,20 @@ impl Server<'_> {
 impl Handler for Server<'_> {
     ghost greets = { λ _ text. text ≡ greeting };
 
-    ghost rejects = { λ _ reply. reply ≡ too_long };
+    ghost rejects = { λ old reply new. (reply ≡ too_long) × (new.session ≡ old.session)
+        × (new.opened ≡ old.opened) × (new.written ≡ old.written) × (new.is_warned ≡ false) };
 
     ghost handles = { λ old line reply after new.
         IsHandled line old.opened old.session.shown reply after new.session.shown
+        × IsWarned (request_in line) reply old.is_warned new.is_warned
         × (new.opened ≡ old.opened) };
 
     fn greet<W: ByteSink>(&self, out: &mut W) -> Result<(), Fault> {
         write_greeting(out)
     }
 
-    fn reject<W: ByteSink>(&self, out: &mut W) -> Result<(), Fault> {
+    fn reject<W: ByteSink>(&mut self, out: &mut W) -> Result<(), Fault> {
+        self.forget_quit();
         write_too_long(out)
     }
 

@@ -78,8 +78,11 @@ pub fn found_for<'a, A: Allocator, B: Allocator + Copy>(
     match question {
         Question::List(query, Form::Text) => Ok(Found::Lines(query)),
         Question::List(query, Form::Json) => Ok(Found::Json(json_lines(alloc, query, file, doc)?)),
-        Question::Value(nth, name) => match get(doc, nth, name) {
-            Ok(value) => Ok(Found::Value(value)),
+        Question::Value(nth, name, form) => match get(doc, nth, name) {
+            Ok(value) => match form {
+                Form::Text => Ok(Found::Value(value)),
+                Form::Json => Ok(Found::Json(json::value(alloc, file.as_bytes(), name, value)?)),
+            },
             Err(refusal) => Err(Unanswered::Refused(refusal)),
         },
     }

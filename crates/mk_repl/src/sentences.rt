@@ -2,9 +2,8 @@
 
 use crate::line_length;
 use crate::not_done::NotDone;
-use mk_cli::explanation;
+use mk_cli::{ScriptMistake, explanation, script_mistake};
 use mk_escape::TextSink;
-use mk_notes::{ScriptMistake, script_mistake};
 use mk_run::write_refusal;
 use mk_script::MistakeCause;
 use mk_session::Refusal;

@@ -1,12 +1,16 @@
 //! A makefile that is open, and what it answers to requests.
-ghost use Rattle.std.specs.Prelude.{◌≡◌, IfOk, IsSomeAnd, OnErr, OnOk, Some, is_ok, option_and_then};
+ghost use Rattle.std.specs.Prelude.{◌≡◌, IfOk, List, OnOk, Some, [], false, true, is_ok, option_and_then};
+ghost use Rattle.mk_diff.specs.HunkTexts.{diff_text};
+ghost use Rattle.mk_diff.specs.Hunks.{Hunk, IsDiff};
+ghost use Rattle.mk_diff.specs.NameTexts.{patch_name};
+ghost use Rattle.mk_lines.specs.PhysicalLines.{physical_lines};
 ghost use Rattle.mk_repl.specs.AnswerLines.{lines_between};
-ghost use Rattle.mk_repl.specs.Replies.{IsLineExecuted};
+ghost use Rattle.mk_repl.specs.Replies.{IsLineExecuted, reply_to};
 ghost use Rattle.mk_repl.specs.Requests.{Of, Word, asked_of};
-ghost use Rattle.mk_repl.specs.declared.request.RequestOf.TheVariants as of;
 ghost use Rattle.mk_session.specs.Sessions.{seen_opened};
 ghost use Rattle.mk_tree.specs.Documents.{document_lines};
 ghost use Rattle.mk_repl.specs.QueryTexts.{query_text};
+ghost use Rattle.mk_repl.specs.Quits.{IsLeft, MayQuit, left_with};
 ghost use Rattle.mk_repl.specs.SessionForms.{in_form};
 ghost use Rattle.mk_repl.specs.SessionReplies.{HasAnswer, IsRequestDone, IsReverted, after_request, answer_in, answer_text, is_quit};
 
@@ -134,7 +138,9 @@ impl<'a> Server<'a> {
     }
 
     /// The bytes that the makefile was left with.
-    pub fn left(&self) -> &[u8] {
+    pub fn left(&self) -> &[u8]
+        ensures { result.now ≡ left_with self.now.opened self.now.written }
+    {
         match &self.written {
             Some(text) => text.as_slice(),
             None => self.opened.text.as_slice(),
@@ -162,7 +168,12 @@ impl<'a> Server<'a> {
     }
 
     // What has changed since the text was opened.
-    fn diff(&self) -> Result<Vec<u8>, NotDone> {
+    fn diff(&self) -> Result<Vec<u8>, NotDone>
+        ensures { IfOk result (λ text. (hunks : List Hunk)
+            × IsDiff (physical_lines self.now.opened.text.items)
+            (physical_lines self.now.session.shown.text) hunks
+            × (text.items ≡ diff_text (patch_name self.now.opened.name.now) hunks)) }
+    {
         let text = self.text()?;
         let name = patch_name(self.opened.name.as_bytes());
         match diff(
@@ -305,9 +316,8 @@ impl<'a> Server<'a> {
     fn write_text(&mut self) -> Result<(), NotDone>
         ensures session { self.new.session ≡ self.old.session }
         ensures opened { self.new.opened ≡ self.old.opened }
-        ensures written { OnOk result (IsSomeAnd self.new.written
-            (λ text. text.items ≡ self.old.session.shown.text)) }
-        ensures unwritten { OnErr result (self.new.written ≡ self.old.written) }
+        ensures left { IsLeft self.old.opened (Word RequestWord.WriteAnyway) (is_ok result)
+            self.new.session.shown.text self.old.written self.new.written }
     {
         let text = self.put_text()?;
         self.note_written(text);
@@ -318,9 +328,8 @@ impl<'a> Server<'a> {
     fn write_if_left(&mut self) -> Result<(), NotDone>
         ensures session { self.new.session ≡ self.old.session }
         ensures opened { self.new.opened ≡ self.old.opened }
-        ensures written { OnOk result (IsSomeAnd self.new.written
-            (λ text. text.items ≡ self.old.session.shown.text)) }
-        ensures unwritten { OnErr result (self.new.written ≡ self.old.written) }
+        ensures left { IsLeft self.old.opened (Word RequestWord.Write) (is_ok result)
+            self.new.session.shown.text self.old.written self.new.written }
     {
         let text = self.put_if_left()?;
         self.note_written(text);
@@ -331,6 +340,8 @@ impl<'a> Server<'a> {
     fn write_to(&mut self, file: &[u8]) -> Result<(), NotDone>
         ensures session { self.new.session ≡ self.old.session }
         ensures opened { self.new.opened ≡ self.old.opened }
+        ensures left { IsLeft self.old.opened (Of RequestOf.Write file.now) (is_ok result)
+            self.new.session.shown.text self.old.written self.new.written }
     {
         let Ok(file) = from_utf8(file) else {
             return Err(NotDone::CannotWrite);
@@ -346,6 +357,7 @@ impl<'a> Server<'a> {
     fn revert(&mut self) -> Result<(), NotDone>
         ensures reverted { IsReverted self.old.opened.text.items self.old.session.shown self.new.session.shown result }
         ensures opened { self.new.opened ≡ self.old.opened }
+        ensures written { self.new.written ≡ self.old.written }
     {
         let reverted = revert(
             self.rt.alloc(),
@@ -364,7 +376,10 @@ impl<'a> Server<'a> {
     }
 
     // Whether all changes are in the makefile, or the request before was a `quit` that was not done.
-    fn quit(&self) -> Result<(), NotDone> {
+    fn quit(&self) -> Result<(), NotDone>
+        ensures { OnOk result (MayQuit self.now.is_warned (left_with self.now.opened self.now.written)
+            self.now.session.shown.text) }
+    {
         if self.is_warned {
             return Ok(());
         }
@@ -396,6 +411,10 @@ impl<'a> Server<'a> {
         ensures done { IsRequestDone (Word word) self.old.opened self.old.session.shown
             self.new.session.shown (answer_text result) }
         ensures opened { self.new.opened ≡ self.old.opened }
+        ensures quit { word ≡ RequestWord.Quit → OnOk result (MayQuit self.old.is_warned
+            (left_with self.old.opened self.old.written) self.new.session.shown.text) }
+        ensures left { IsLeft self.old.opened (Word word) (is_ok result) self.new.session.shown.text
+            self.old.written self.new.written }
     {
         match word {
             RequestWord::Diff => return self.in_form(self.diff()?),
@@ -421,6 +440,8 @@ impl<'a> Server<'a> {
             (answer_text result) }
         ensures session { self.new.session ≡ self.old.session }
         ensures opened { self.new.opened ≡ self.old.opened }
+        ensures left { IsLeft self.old.opened (Of of word.now) (is_ok result)
+            self.new.session.shown.text self.old.written self.new.written }
     {
         match of {
             RequestOf::Explain => self.in_form(self.explain(word)?),
@@ -441,6 +462,11 @@ impl<'a> Server<'a> {
         ensures done { IsRequestDone (asked_of request.entry) self.old.opened self.old.session.shown
             self.new.session.shown (answer_text result) }
         ensures opened { self.new.opened ≡ self.old.opened }
+        ensures quit { asked_of request.entry ≡ Word RequestWord.Quit → OnOk result
+            (MayQuit self.old.is_warned (left_with self.old.opened self.old.written)
+            self.new.session.shown.text) }
+        ensures left { IsLeft self.old.opened (asked_of request.entry) (is_ok result)
+            self.new.session.shown.text self.old.written self.new.written }
     {
         match request {
             Request::Print(from, to) => self.in_form(self.print(from, to)?),
@@ -455,6 +481,8 @@ impl<'a> Server<'a> {
         ensures executed { IsLineExecuted line.now self.old.session.shown self.new.session.shown result }
         ensures opened { self.new.opened ≡ self.old.opened }
         ensures written { self.new.written ≡ self.old.written }
+        ensures warned { self.new.is_warned ≡ true
+            → (reply_to result ≡ []) × (self.old.is_warned ≡ true) }
         ensures name { self.new.opened.name ≡ self.old.opened.name }
     {
         let mut made = EditMade(false);
@@ -472,6 +500,8 @@ impl<'a> Server<'a> {
     pub(crate) fn forget_quit(&mut self)
         ensures session { self.new.session ≡ self.old.session }
         ensures opened { self.new.opened ≡ self.old.opened }
+        ensures written { self.new.written ≡ self.old.written }
+        ensures warned { self.new.is_warned ≡ false }
     {
         self.is_warned = false;
     }
@@ -494,6 +524,12 @@ impl<'a> Server<'a> {
             self.new.session.shown (answer_text result.answer) }
         ensures opened { self.new.opened ≡ self.old.opened }
         ensures after { result.after ≡ after_request (asked_of request.entry) (is_ok result.answer) }
+        ensures quit { asked_of request.entry ≡ Word RequestWord.Quit → OnOk result.answer
+            (MayQuit self.old.is_warned (left_with self.old.opened self.old.written)
+            self.new.session.shown.text) }
+        ensures left { IsLeft self.old.opened (asked_of request.entry) (is_ok result.answer)
+            self.new.session.shown.text self.old.written self.new.written }
+        ensures warned { self.new.is_warned ≡ true → asked_of request.entry ≡ Word RequestWord.Quit }
     {
         let answer = self.done(request);
         self.is_warned = matches!(request, Request::Word(RequestWord::Quit));

@@ -28,8 +28,9 @@ pub trait Handler {
     // What the handler says before the first line. The default says nothing of it.
     ghost greets: { Self → List ℕ → Type 0 } = { λ _ _. ⊤ };
 
-    // The reply to a line that is too long. The default says nothing of it.
-    ghost rejects: { Self → List ℕ → Type 0 } = { λ _ _. ⊤ };
+    // What a line that is too long comes to: the handler before it, the reply, and the handler after it.
+    // The default says nothing.
+    ghost rejects: { Self → List ℕ → Self → Type 0 } = { λ _ _ _. ⊤ };
 
     // What handling a line comes to: the handler before it, the line, the reply, whether the talk goes
     // on, and the handler after it. The default says nothing.
@@ -51,10 +52,10 @@ pub trait Handler {
     /// # Errors
     ///
     /// [`Fault::Write`] if the sink failed.
-    fn reject<W: ByteSink>(&self, out: &mut W) -> Result<(), Fault>
+    fn reject<W: ByteSink>(&mut self, out: &mut W) -> Result<(), Fault>
         requires { W.failed out.old ≡ false }
         ensures turned { OnOk result (SaysOut (W.contents out.old) (W.contents out.new)
-            (rejects self.now)) }
+            (λ reply. rejects self.old reply self.new)) }
         ensures works { OnOk result (W.failed out.new ≡ false) };
 
     /// Replies to a line, of which the last may have no line feed, and says whether the talk goes on.

@@ -256,7 +256,8 @@ impl Handler for Terminal<'_> {
         self.put_prompt(b"", out)
     }
 
-    fn reject<W: ByteSink>(&self, out: &mut W) -> Result<(), Fault> {
+    fn reject<W: ByteSink>(&mut self, out: &mut W) -> Result<(), Fault> {
+        self.server.forget_quit();
         self.put_prompt(TOO_LONG, out)
     }
 

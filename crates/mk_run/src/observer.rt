@@ -37,6 +37,12 @@ pub trait Observer<A: Allocator> {
     /// of the edit's line in the script, from 1.
     fn accepted(&mut self, line: u64, edit: &Edit<A>, session: &Session<A>)
         ensures told { told self.new ≡ told self.old };
+
+    /// Is told of an edit behind `try` that is passed over, since there is no line on which it is to be
+    /// made. The number is that of the edit's line in the script, from 1. The default does nothing.
+    fn passed_over(&mut self, _line: u64, _edit: &Edit<A>, _session: &Session<A>)
+        ensures told { told self.new ≡ told self.old }
+    {}
 }
 
 impl<A: Allocator> Observer<A> for () {
@@ -57,6 +63,12 @@ impl<A: Allocator, T: Observer<A>> Observer<A> for Option<T> {
     fn accepted(&mut self, line: u64, edit: &Edit<A>, session: &Session<A>) {
         if let Some(observer) = self {
             observer.accepted(line, edit, session);
+        }
+    }
+
+    fn passed_over(&mut self, line: u64, edit: &Edit<A>, session: &Session<A>) {
+        if let Some(observer) = self {
+            observer.passed_over(line, edit, session);
         }
     }
 }

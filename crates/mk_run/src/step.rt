@@ -140,7 +140,12 @@ fn execute_try<A: Allocator + Copy, T: Observer<A>>(
 {
     match apply(session, tried, observer) {
         Ok(()) => Ok(()),
-        Err(refusal) if is_missing(refusal) || is_met(refusal) => Ok(()),
+        Err(refusal) if is_missing(refusal) || is_met(refusal) => {
+            if is_missing(refusal) {
+                observer.passed_over(tried.line, &tried.edit, session);
+            }
+            Ok(())
+        }
         Err(refusal) => Err(RefusedCommand {
             line: tried.line,
             refusal,

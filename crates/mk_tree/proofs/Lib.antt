@@ -17,8 +17,3 @@ pub mod Reading
 pub mod WalkLemmas
 -- Lemmas on the views of lines
 mod PartLemmas
--- Definitions computed
-mod WorkedRows
-mod ChangeRows
-mod WorkedReadings
-mod RandomReadings

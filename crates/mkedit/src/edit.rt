@@ -12,13 +12,12 @@ use crate::exchanged::{tell_script, with_exchanged};
 use crate::input::{open_script, script_name};
 use crate::run::{Run, run_over, run_with_notes};
 use crate::several::edit_each;
-use mk_cli::{EditWords, Input, Summary};
+use mk_cli::{EditWords, Input, Report, Summary, script_mistake};
 use mk_fs::{Stream, WithError};
 use mk_history::history::is_bad_depth;
 use mk_lines::sink::write_all;
 use mk_lines::source::read_all;
 use mk_lines::{StdSink, StdSource};
-use mk_notes::script_mistake;
 use mk_run::{Outcome, Step, read_script, status};
 use std::alloc::Global;
 use std::process::ExitCode;
@@ -34,7 +33,7 @@ fn end_of_script<'a>(
     outcome: Outcome,
 ) -> End<'a> {
     match outcome {
-        Outcome::NotACommand(line) if words.notes => {
+        Outcome::NotACommand(line) if words.report != Report::Plain => {
             let mistake = script_mistake(script_name(&words.script), text, line);
             with_exchanged(rt, words, End::of(outcome).with_mistake(mistake))
         }
@@ -72,8 +71,9 @@ fn read_steps<'a>(
     }
 }
 
-// The steps of the script, and the makefile if there is one alone. The script is opened first, then this
-// makefile; where one of the two cannot be opened, nothing is read. Or how the run ends before it begins.
+// The steps of the script, and the makefile if there is one alone; a report in JSON tells one as it tells
+// several. The script is opened first, then this makefile; where one of the two cannot be opened, nothing is
+// read. Or how the run ends before it begins.
 fn ready<'a>(
     rt: &HostRuntime,
     words: &EditWords<'a>,
@@ -82,7 +82,9 @@ fn ready<'a>(
 {
     let script = open_script(rt, &words.script)?;
     let alone = match words.files.as_slice() {
-        [file] => Some((*file, open_makefile(rt, words.output, *file)?)),
+        [file] if words.report != Report::Json => {
+            Some((*file, open_makefile(rt, words.output, *file)?))
+        }
         _ => None,
     };
     let steps = read_steps(rt, words, script)?;
@@ -93,7 +95,7 @@ fn ready<'a>(
 pub fn edit<'a>(rt: &'a HostRuntime, words: &EditWords<'a>) -> ExitCode {
     let (steps, alone) = match ready(rt, words) {
         Ok(ready) => ready,
-        Err(end) => return ended(rt, &end, words.notes),
+        Err(end) => return ended(rt, &end, words.report),
     };
     if tell_script(rt, words) {
         return ExitCode::from(BAD_COMMAND_LINE);
@@ -102,24 +104,17 @@ pub fn edit<'a>(rt: &'a HostRuntime, words: &EditWords<'a>) -> ExitCode {
     let Some((file, makefile)) = alone else {
         return edit_each(rt, words, run);
     };
-    let end = if words.notes {
+    let mut errors = StdSink::new(rt.stderr());
+    let end = if words.report == Report::Plain {
+        run_over(rt, words, run, file, makefile, &mut errors, &mut ())
+    } else {
         let (end, said) = run_with_notes(rt, words, run, file, makefile);
-        match write_all(&mut StdSink::new(rt.stderr()), said.as_slice()) {
+        match write_all(&mut errors, said.as_slice()) {
             Ok(()) => end,
             Err(fault) => End::from(fault),
         }
-    } else {
-        run_over(
-            rt,
-            words,
-            run,
-            file,
-            makefile,
-            &mut StdSink::new(rt.stderr()),
-            &mut (),
-        )
     };
-    let code = ended(rt, &end, words.notes);
+    let code = ended(rt, &end, words.report);
     if words.has_summary {
         let mut summary = Summary::new();
         summary.add(status(&end.outcome), end.effect != Effect::Unchanged);

@@ -1,18 +1,20 @@
 //! How the program ends: a message on standard error, and the status.
-ghost use Rattle.std.specs.Prelude.{◌≡◌, ◌≢◌, ◌++◌, [], IfErr, OnOk, false, if◌then◌else◌, max, string_bytes};
+ghost use Rattle.std.specs.Prelude.{◌≡◌, ◌≢◌, ◌++◌, [], IfErr, OnOk, false, if◌then◌else◌, max};
 ghost use Rattle.std.specs.Io.KnownBytes.{Appends};
 ghost use Rattle.std.specs.Process.{exit_status};
 ghost use Rattle.clap.specs.Values.{kind_of};
 ghost use Rattle.clap.specs.declared.error.kind.ErrorKind.TheVariants.{DisplayHelp, DisplayVersion};
 ghost use Rattle.mk_lines.specs.Device.{AppendsPrefix, Writes};
+ghost use Rattle.mk_repl.specs.QueryTexts.{query_outcome};
 ghost use Rattle.mk_run.specs.Outcome.{outcome_of, status_of};
 ghost use Rattle.mkedit.specs.EndMessages.{end_message};
 
-use mk_escape::{Layout, shown_name, write_escaped, write_name};
-use mk_fs::{Cause, SystemFault};
+use mk_cli::{COMMAND_HINT, Report, ScriptMistake, is_command, push_mistake};
+use mk_escape::{Layout, TextSink, shown_name, write_escaped, write_name};
+use mk_fs::{Cause, SystemFault, WithError};
 use mk_lines::sink::write_all;
 use mk_lines::{ByteSink, Fault, StdSink};
-use mk_notes::{ScriptMistake, is_command, push_mistake};
+use mk_notes::message_in_json;
 use mk_run::{Outcome, message, status};
 use std::alloc::{AllocError, Global};
 use std::process::ExitCode;
@@ -118,20 +120,30 @@ impl<'a> End<'a> {
     }
 
     // The notes on its fault and on its mistake.
-    fn notes(&self, alloc: Global) -> Result<String, AllocError> {
+    fn notes(&self, alloc: Global) -> Result<Vec<u8>, AllocError> {
         let mut notes = String::new(alloc);
         if let Some(fault) = self.fault {
             let name = &shown_name(alloc, fault.name)?;
             let cause = fault.cause;
             writeln!(notes, "{name}: note: {cause}")?;
             if is_command(fault.name) {
-                writeln!(notes, "{name}: note: -e goes before a command")?;
+                writeln!(notes, "{name}: note: {COMMAND_HINT}")?;
             }
         }
         if let Some(found) = &self.mistake {
             push_mistake(alloc, &mut notes, found)?;
         }
-        Ok(notes)
+        Ok(notes.into_bytes())
+    }
+
+    // The line of JSON on its message; nothing if it has none.
+    fn in_json(&self, alloc: Global) -> Result<Vec<u8>, AllocError> {
+        let mut message = TextSink::new(alloc);
+        let _ = put_message(self, &mut message);
+        if message.text.is_empty() {
+            return Ok(message.text);
+        }
+        message_in_json(alloc, message.text.as_slice(), self.fault, self.mistake)
     }
 }
 
@@ -153,16 +165,19 @@ impl<'a> From<SystemFault<'a>> for End<'a> {
     }
 }
 
-/// The notes on an end, where there are notes; nothing where memory ends.
-pub fn notes_on(alloc: Global, end: &End<'_>, notes: bool) -> String
-    ensures { notes ≡ false → string_bytes result ≡ [] }
+/// What a report of this form says of an end: the notes below its message, or the message as a line of JSON.
+/// Nothing where memory ends.
+pub fn notes_on(alloc: Global, end: &End<'_>, form: Report) -> Vec<u8>
+    ensures { form ≡ Report.Plain → result.items ≡ [] }
 {
-    if !notes {
-        return String::new(alloc);
-    }
-    match end.notes(alloc) {
-        Ok(notes) => notes,
-        Err(_) => String::new(alloc),
+    let said = match form {
+        Report::Plain => Ok(Vec::new(alloc)),
+        Report::Notes => end.notes(alloc),
+        Report::Json => end.in_json(alloc),
+    };
+    match said {
+        Ok(said) => said,
+        Err(_) => Vec::new(alloc),
     }
 }
 
@@ -211,14 +226,19 @@ fn told<W: ByteSink>(end: &End<'_>, notes: &[u8], errors: &mut W) -> ExitCode
     ExitCode::from(status(&end.outcome))
 }
 
-/// Puts the message on an end out on standard error, with the notes on its fault and on its mistake
-/// where there are notes, and answers its status. A fault of the message changes no status.
-pub fn ended(rt: &HostRuntime, end: &End<'_>, notes: bool) -> ExitCode
+/// Puts the message on an end out on standard error in a report of this form, with the notes on its fault
+/// and on its mistake where there are notes, and answers its status. A fault of the message changes no
+/// status.
+pub fn ended(rt: &HostRuntime, end: &End<'_>, form: Report) -> ExitCode
     ensures { exit_status result ≡ status_of end.now.outcome }
 {
-    let below = notes_on(rt.alloc(), end, notes);
+    let notes = notes_on(rt.alloc(), end, form);
     let mut errors = StdSink::new(rt.stderr());
-    told(end, below.as_bytes(), &mut errors)
+    if form == Report::Json {
+        let _ = write_all(&mut errors, notes.as_slice());
+        return ExitCode::from(status(&end.outcome));
+    }
+    told(end, notes.as_slice(), &mut errors)
 }
 
 /// The greatest of some statuses.
@@ -252,12 +272,24 @@ impl Statuses {
     }
 }
 
-/// Says how a print on standard output ended, and answers its status.
-pub fn printed(rt: &HostRuntime, print: Result<(), Fault>) -> ExitCode
-    ensures done { OnOk print (exit_status result ≡ 0) }
-    ensures fault { IfErr print (λ fault. exit_status result ≡ status_of (outcome_of fault)) }
+/// How a query or a help ends whose print ended so. Where nobody reads the output any more, it is done.
+pub fn query_outcome(outcome: Outcome, is_left: bool) -> Outcome
+    ensures { result ≡ query_outcome outcome is_left }
 {
-    ended(rt, &End::of_print(print), false)
+    match outcome {
+        Outcome::Write if is_left => Outcome::Done,
+        outcome => outcome,
+    }
+}
+
+/// Says how a print on standard output ended, and answers its status.
+pub fn printed(rt: &HostRuntime, print: Result<(), Fault>, is_left: bool) -> ExitCode
+    ensures done { OnOk print (exit_status result ≡ 0) }
+    ensures fault { IfErr print (λ fault. exit_status result
+        ≡ status_of (query_outcome (outcome_of fault) is_left)) }
+{
+    let outcome = End::of_print(print).outcome;
+    ended(rt, &End::of(query_outcome(outcome, is_left)), Report::Plain)
 }
 
 // Writes the text of what clap answered, which may have words of the command line in it, and flushes it
@@ -281,8 +313,7 @@ pub fn answered(rt: &HostRuntime, answer: &clap::Error) -> ExitCode
         let _ = put_answer(rt.alloc(), answer, &mut StdSink::new(rt.stderr()));
         return ExitCode::from(BAD_COMMAND_LINE);
     }
-    printed(
-        rt,
-        put_answer(rt.alloc(), answer, &mut StdSink::new(rt.stdout())),
-    )
+    let mut out = WithError::new(rt.stdout());
+    let print = put_answer(rt.alloc(), answer, &mut StdSink::new(&mut out));
+    printed(rt, print, out.is_left())
 }

@@ -6,11 +6,10 @@
 ghost use Rattle.std.specs.Prelude.{◌≡◌, false};
 
 use crate::ending::End;
-use mk_cli::{EditWords, Input, Script};
+use mk_cli::{EditWords, Input, Script, ScriptMistake};
 use mk_escape::write_name;
 use mk_fs::{is_regular, open};
 use mk_lines::{ByteSource, StdSink, StdSource};
-use mk_notes::ScriptMistake;
 use mk_run::read_script;
 use std::alloc::Allocator;
 

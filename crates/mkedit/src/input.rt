@@ -2,9 +2,9 @@
 ghost use Rattle.std.specs.Prelude.{◌≡◌};
 ghost use Rattle.mkedit.specs.Destinations.{input_name, name_of};
 
-use mk_cli::{EditWords, Input, Script};
+use mk_cli::{COMMAND_LINES, EditWords, Input, Report, Script};
 use mk_fs::{STANDARD_INPUT, Stream, SystemFault, open};
-use mk_notes::{COMMAND_LINES, Names};
+use mk_notes::Names;
 
 /// Opens an input to be read.
 ///
@@ -62,10 +62,11 @@ pub fn script_name<'a>(script: &Script<'a>) -> &'a str {
     }
 }
 
-/// What the words call the script and this makefile in notes.
+/// What the words call the script and this makefile in notes, and the form of these.
 pub fn names_of<'a>(words: &EditWords<'a>, file: Input<'a>) -> Names<'a> {
     Names {
         makefile: input_name(file),
         script: script_name(&words.script),
+        is_json: words.report == Report::Json,
     }
 }

@@ -12,8 +12,6 @@
 //! - `session`: a makefile that is edited step by step, by [`mk_repl`].
 #![tactic(auto)]
 
-ghost use Rattle.std.specs.Prelude.{◌≡◌, true};
-
 mod destination;
 mod diff;
 mod edit;
@@ -29,42 +27,37 @@ mod several;
 
 use ending::{BAD_COMMAND_LINE, End, answered, ended, printed};
 use mk_cli::{
-    CalledRefusal, Request, asked_command, bad_files, put_explanation, put_help, read_request,
-    tell_bad_words, words,
+    CalledRefusal, Report, Request, asked_command, bad_files, put_explanation, put_help,
+    read_request, tell_bad_words, words,
 };
+use mk_fs::WithError;
 use mk_lines::StdSink;
 use mk_run::Outcome;
 use std::io::IsTerminal;
 use std::process::ExitCode;
 
-// Whether messages have notes: where they are asked for, and at a terminal.
-fn has_notes(rt: &HostRuntime, asked: bool) -> bool
-    ensures { asked ≡ true → result ≡ true }
-{
-    asked || rt.stderr().is_terminal()
-}
-
 // Does what the command line asks for.
 fn done(rt: &HostRuntime, words: &[String]) -> ExitCode {
     let bad_words = tell_bad_words(rt, words);
     if let Some(command) = asked_command(words) {
-        return printed(rt, put_help(command, &mut StdSink::new(rt.stdout())));
+        let mut out = WithError::new(rt.stdout());
+        let print = put_help(command, &mut StdSink::new(&mut out));
+        return printed(rt, print, out.is_left());
     }
     match read_request(rt.alloc(), words) {
         Ok(request) if bad_files(&request) < bad_words => ExitCode::from(BAD_COMMAND_LINE),
         Ok(Request::Edit(mut words)) => {
-            words.notes = has_notes(rt, words.notes);
+            words.report = words.report.at(rt.stderr().is_terminal());
             edit::edit(rt, &words)
         }
-        Ok(Request::Query(words)) => {
-            let notes = has_notes(rt, words.notes);
-            query::ask(rt, words.question, words.files.as_slice(), notes)
+        Ok(Request::Query(mut words)) => {
+            words.report = words.report.at(rt.stderr().is_terminal());
+            query::ask(rt, &words)
         }
         Ok(Request::Explain(CalledRefusal(refusal))) => {
-            printed(
-                rt,
-                put_explanation(&refusal, &mut StdSink::new(rt.stdout())),
-            )
+            let mut out = WithError::new(rt.stdout());
+            let print = put_explanation(&refusal, &mut StdSink::new(&mut out));
+            printed(rt, print, out.is_left())
         }
         Ok(Request::Session(words)) => session::session(rt, words),
         Err(error) => answered(rt, &error),
@@ -74,6 +67,6 @@ fn done(rt: &HostRuntime, words: &[String]) -> ExitCode {
 fn main(rt: HostRuntime) -> ExitCode {
     match words(&rt) {
         Ok(words) => done(&rt, words.as_slice()),
-        Err(_) => ended(&rt, &End::of(Outcome::NoMemory), false),
+        Err(_) => ended(&rt, &End::of(Outcome::NoMemory), Report::Plain),
     }
 }

@@ -51,4 +51,10 @@ impl<A: Allocator, B: Allocator + Copy> Observer<A> for NotesKept<'_, B> {
             self.keep(text.as_slice());
         }
     }
+
+    fn passed_over(&mut self, line: u64, edit: &Edit<A>, session: &Session<A>) {
+        if let Ok(text) = self.notes.passed_over(line, session.doc(), edit) {
+            self.keep(text.as_slice());
+        }
+    }
 }

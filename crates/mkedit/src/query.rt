@@ -1,11 +1,11 @@
 //! `mkedit vars`, `mkedit rules`, `mkedit recipes`, `mkedit check` and `mkedit caveats`: what a
 //! makefile has, a line for each thing, for a person or as JSON; and `mkedit get`: the value of a
-//! variable.
+//! variable, or of several, each of which is a question of its own.
 //!
 //! If nobody reads the output to its end, as below `head`, a query is done; a run is not, since
 //! half of a makefile is never what is wanted. No name stands before a line of JSON: it would be no
 //! JSON then, and each object has the name in it.
-ghost use Rattle.std.specs.Prelude.{◌≡◌, ◌↔◌, ◌<◌, ◌+◌, ◌||◌, ◌⊎◌, ℕ, List, IsTrue, IfSome, OnOk, Err, None, Some, false, true, length, if◌then◌else◌, is_ok, option_map};
+ghost use Rattle.std.specs.Prelude.{◌≡◌, ◌↔◌, ◌<◌, ◌+◌, ◌||◌, ◌⊎◌, ℕ, List, IsTrue, IfSome, OnOk, Err, None, Some, false, true, length, is_ok};
 ghost use Rattle.std.specs.Io.KnownBytes.{Appends};
 ghost use Rattle.mk_lines.specs.Limits.{max_text};
 ghost use Rattle.mk_lines.specs.Device.{AppendsPrefix};
@@ -14,16 +14,14 @@ ghost use Rattle.mk_tree.specs.Documents.{IsFaithful, IsTooDeep};
 ghost use Rattle.mk_edit_language.specs.declared.refusal.Refusal.{Refusal};
 ghost use Rattle.mk_run.specs.Report.{refusal_text};
 ghost use Rattle.mk_run.specs.RunEnds.{PutsOut, PutsOutIf, ReadsOnce};
-ghost use Rattle.mk_repl.specs.QueryTexts.{IsSaid, answer_refusal, answer_text, found_text, has_prefix, query_outcome};
-ghost use Rattle.mkedit.specs.Destinations.{name_of};
+ghost use Rattle.mk_repl.specs.QueryTexts.{IsSaid, answer_refusal, answer_text, found_text, has_prefix};
 
-use crate::ending::{Effect, End, Statuses, ended};
+use crate::ending::{Effect, End, Statuses, query_outcome};
 use crate::input::{input_name, name_of, open_input};
-use crate::several::{Told, put_named, tell_named, tell_unopened};
-use mk_cli::{Form, Input, Progress, Question};
-use mk_escape::{Layout, escaped, shown_text};
-use mk_fs::{STANDARD_OUTPUT, SystemFault, WithError};
-use mk_lines::sink::write_all;
+use crate::several::{Told, put_named, tell_end, tell_named};
+use mk_cli::{Form, Input, Progress, QueryWords, Question};
+use mk_escape::{shown_name, shown_text};
+use mk_fs::{STANDARD_OUTPUT, Stream, WithError};
 use mk_lines::source::{BUFFER, MAX_TEXT, read_all};
 use mk_lines::{ByteSink, ByteSource, Fault, StdSink, StdSource};
 use mk_repl::{Found, Unanswered, found_for, put_found};
@@ -31,7 +29,7 @@ use mk_run::{Outcome, write_refusal};
 use mk_session::{Refusal, Session};
 use mk_tree::Doc;
 use std::alloc::{Allocator, Global};
-use std::io::{ErrorKind, IsTerminal};
+use std::io::IsTerminal;
 use std::mem;
 use std::process::ExitCode;
 
@@ -206,14 +204,12 @@ fn put_shown<W: ByteSink>(
     requires { W.failed out.old ≡ false }
 {
     let answer = shown_text(alloc, answer, shown.is_terminal)?;
-    match shown.prefix {
-        Some(name) if shown.is_terminal => {
-            let name = escaped(alloc, name.as_bytes(), Layout::Escaped)?;
-            put_named(alloc, name.as_slice(), answer.as_slice(), b"", out)?;
-        }
-        Some(name) => put_named(alloc, name.as_bytes(), answer.as_slice(), b"", out)?,
-        None => write_all(out, answer.as_slice())?,
-    }
+    let before = match shown.prefix {
+        Some(name) if shown.is_terminal => format!(in alloc; "{}:", shown_name(alloc, name)?)?,
+        Some(name) => format!(in alloc; "{name}:")?,
+        None => String::new(alloc),
+    };
+    put_named(alloc, before.as_bytes(), answer.as_slice(), b"", out)?;
     ByteSink::flush(out)
 }
 
@@ -244,16 +240,6 @@ fn print_shown<R: ByteSource, W: ByteSink, P: ByteSink>(
     }
 }
 
-// How a query ends whose print ended so. Where nobody reads the output any more, the query is done.
-fn query_outcome(outcome: Outcome, is_left: bool) -> Outcome
-    ensures { result ≡ query_outcome outcome is_left }
-{
-    match outcome {
-        Outcome::Write if is_left => Outcome::Done,
-        outcome => outcome,
-    }
-}
-
 // How a query of one makefile ended, and whether nobody reads the output any more.
 #[derive(Clone, Copy)]
 struct Asked<'a> {
@@ -269,7 +255,7 @@ fn end_of_query<'a, R, W>(
     makefile: &WithError<R>,
     out: &WithError<W>,
 ) -> Asked<'a> {
-    let is_left = matches!(out.error(), Some(ErrorKind::BrokenPipe));
+    let is_left = out.is_left();
     let end = End::of(query_outcome(outcome, is_left))
         .with_fault(makefile.fault(name))
         .with_limit(name);
@@ -282,18 +268,30 @@ fn end_of_query<'a, R, W>(
     }
 }
 
-// Opens a makefile, and answers what it is asked for on standard output. Where there is a prefix, each
-// line of the answer gets it. A refusal is told on the sink.
-fn ask_one<'a, P: ByteSink>(
+// Whether the name of the makefile stands before each line of an answer where several are asked: a line of
+// JSON has it in it.
+fn has_prefix(question: Question<'_>) -> bool
+    ensures { result ≡ has_prefix question.entry }
+{
+    match question {
+        Question::List(_, Form::Text) | Question::Value(_, _, Form::Text) => true,
+        Question::List(_, Form::Json) | Question::Value(_, _, Form::Json) => false,
+    }
+}
+
+// Answers what a makefile that is open is asked for, on standard output. Where there is a prefix, each line
+// of the answer gets it. A refusal is told on the sink.
+fn ask_open<'a, P: ByteSink>(
     rt: &HostRuntime,
     question: Question<'_>,
     prefix: Option<&str>,
     file: Input<'a>,
+    stream: Stream<'_>,
     report: &mut P,
-) -> Result<Asked<'a>, SystemFault<'a>>
+) -> Asked<'a>
     requires { P.failed report.old ≡ false }
 {
-    let mut makefile = WithError::new(open_input(rt, file)?);
+    let mut makefile = WithError::new(stream);
     let mut out = WithError::new(rt.stdout());
     let mut source = StdSource::new(&mut makefile);
     let mut sink = StdSink::new(&mut out);
@@ -308,56 +306,88 @@ fn ask_one<'a, P: ByteSink>(
     } else {
         print(alloc, question, name, &mut source, &mut sink, report)
     };
-    Ok(end_of_query(outcome, input_name(file), &makefile, &out))
+    end_of_query(outcome, input_name(file), &makefile, &out)
 }
 
-// What stands before each line of an answer where several makefiles are asked: the name of the makefile,
-// which a line of JSON has in it.
-fn prefix_of<'a>(question: Question<'_>, file: Input<'a>) -> Option<&'a str>
-    ensures { option_map (λ name. name.now) result
-        ≡ (if has_prefix question.entry then Some (name_of file.entry) else None) }
-{
-    match question {
-        Question::List(_, Form::Json) => None,
-        Question::List(_, Form::Text) | Question::Value(_, _) => Some(name_of(file)),
-    }
-}
-
-// Answers what one of several makefiles is asked for, and says how that ended. What is said of a refusal
-// is gathered in memory.
-fn ask_named(
+// Answers one of the things that an open makefile is asked for, and says how that ended. The name is that of
+// the makefile where there are several. What is said of a refusal is gathered in memory, and names the variable
+// where there are several.
+fn ask_one<'e>(
     rt: &HostRuntime,
-    question: Question<'_>,
+    words: &QueryWords<'e>,
+    question: Question<'e>,
     progress: &mut Progress<'_>,
-    file: Input<'_>,
-    notes: bool,
+    file: Input<'e>,
+    name: Option<&'e str>,
+    stream: Stream<'_>,
 ) -> Told {
+    let prefix = name.filter(|_| has_prefix(question));
+    let variable = match question {
+        Question::Value(_, name, _) if words.questions.len() > 1 => Some(name),
+        _ => None,
+    };
+    let names = [name.map(|name| name.as_bytes()), variable];
     let mut report = Vec::new(rt.alloc());
     let mut lines = StdSink::new(&mut report);
-    let asked = match ask_one(rt, question, prefix_of(question, file), file, &mut lines) {
-        Ok(asked) => asked,
-        Err(fault) => return tell_unopened(rt, progress, fault, notes),
-    };
+    let asked = ask_open(rt, question, prefix, file, stream, &mut lines);
     let end = asked.end.kept(lines.failed());
     Told {
-        status: tell_named(rt, progress, file, b"", &mut report, &end, notes),
+        status: tell_named(rt, progress, &names, b"", &mut report, &end, words.report),
         effect: Effect::Unchanged,
         is_left: asked.is_left,
     }
 }
 
-// Answers what several makefiles are asked for, in turn, until nobody reads the output any more.
-fn ask_each(
+// Answers all that a makefile is asked for, and says how that ended. For several questions it is read into
+// memory first, since standard input can be read but once.
+fn ask_all<'e>(
     rt: &HostRuntime,
-    question: Question<'_>,
-    files: &[Input<'_>],
-    notes: bool,
-) -> ExitCode {
-    let mut progress = Progress::new(rt, files.len(), true);
+    words: &QueryWords<'e>,
+    progress: &mut Progress<'_>,
+    file: Input<'e>,
+) -> Told {
+    let name = (words.files.len() > 1).then_some(name_of(file));
+    let stream = match open_input(rt, file) {
+        Ok(stream) => stream,
+        Err(fault) => return tell_end(rt, progress, &[], &End::from(fault), words.report),
+    };
+    if let [question] = words.questions.as_slice() {
+        return ask_one(rt, words, *question, progress, file, name, stream);
+    }
+    let mut makefile = WithError::new(stream);
+    let text = match read_all(rt.alloc(), &mut StdSource::new(&mut makefile)) {
+        Ok(text) => text,
+        Err(fault) => {
+            let called = input_name(file);
+            let end = End::from(fault)
+                .with_fault(makefile.fault(called))
+                .with_limit(called);
+            let names = [name.map(|name| name.as_bytes())];
+            return tell_end(rt, progress, &names, &end, words.report);
+        }
+    };
+    let mut all = Told {
+        status: 0,
+        effect: Effect::Unchanged,
+        is_left: false,
+    };
+    for question in &words.questions {
+        let stream = Stream::Text(text.as_slice());
+        let told = ask_one(rt, words, *question, progress, file, name, stream);
+        all.status = all.status.max(told.status);
+        all.is_left = all.is_left || told.is_left;
+    }
+    all
+}
+
+/// Answers what the makefiles are asked for, on standard output, and answers the status. Where nobody
+/// reads that to its end, it ends as where all was read.
+pub fn ask<'e>(rt: &HostRuntime, words: &QueryWords<'e>) -> ExitCode {
+    let mut progress = Progress::new(rt, words.files.len(), true);
     let mut statuses = Statuses::new();
-    for (done, file) in files.iter().enumerate() {
+    for (done, file) in words.files.iter().enumerate() {
         progress.show(done);
-        let told = ask_named(rt, question, &mut progress, *file, notes);
+        let told = ask_all(rt, words, &mut progress, *file);
         statuses.add(told.status);
         if told.is_left {
             break;
@@ -365,17 +395,4 @@ fn ask_each(
     }
     progress.wipe();
     statuses.code()
-}
-
-/// Answers what the makefiles are asked for, on standard output, and answers the status. Where nobody
-/// reads that to its end, it ends as where all was read.
-pub fn ask(rt: &HostRuntime, question: Question<'_>, files: &[Input<'_>], notes: bool) -> ExitCode {
-    let [file] = files else {
-        return ask_each(rt, question, files, notes);
-    };
-    let end = match ask_one(rt, question, None, *file, &mut StdSink::new(rt.stderr())) {
-        Ok(asked) => asked.end,
-        Err(fault) => End::from(fault),
-    };
-    ended(rt, &end, notes)
 }

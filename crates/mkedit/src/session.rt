@@ -4,7 +4,7 @@ ghost use Rattle.std.specs.Prelude.{◌≡◌, false};
 ghost use Rattle.mk_repl.specs.SessionForms.{is_by_protocol};
 
 use crate::ending::{End, ended};
-use mk_cli::{Form, SessionWords, has_color};
+use mk_cli::{Form, Report, SessionWords, has_color};
 use mk_fs::{Cause, STANDARD_OUTPUT, SystemFault, WithError, open};
 use mk_lines::source::read_all;
 use mk_lines::{ByteSink, ByteSource, Fault, StdSink, StdSource};
@@ -93,5 +93,5 @@ pub fn session<'a>(rt: &'a HostRuntime, words: SessionWords<'a>) -> ExitCode {
         Ok(server) => talk(rt, words, server),
         Err(end) => end,
     };
-    ended(rt, &end, rt.stderr().is_terminal())
+    ended(rt, &end, Report::Plain.at(rt.stderr().is_terminal()))
 }

@@ -1,6 +1,9 @@
 //! Several makefiles: each is a run, or a query, by itself.
 //!
 //! What is said of a makefile is gathered in memory, so that each line can get the makefile's name.
+//! Behind the name stand a colon and a blank: a report has the numbers of lines of the script, and editors
+//! take `Makefile:3:` for line 3 of the makefile. That is what the lines of a query mean, so they have no
+//! blank there.
 //!
 //! They are done one after the other: the program is allowed no threads (the file HANDLES), and
 //! `xargs -P` runs several processes.
@@ -11,29 +14,29 @@ ghost use Rattle.mk_session.specs.Sessions.{IsBadDepth};
 ghost use Rattle.mkedit.specs.NamedLines.{named_lines};
 
 use crate::destination::open_makefile;
-use crate::ending::{Effect, End, Statuses, UNWANTED_CHANGE, ended, notes_on, put_message};
-use crate::input::name_of;
+use crate::ending::{Effect, End, Statuses, UNWANTED_CHANGE, notes_on, put_message};
+use crate::input::{input_name, name_of};
 use crate::named::named_lines;
 use crate::run::{Run, run_over, run_with_notes};
-use mk_cli::{EditWords, Input, Output, Progress, Summary};
+use mk_cli::{EditWords, Input, Output, Progress, Report, Summary};
 use mk_escape::{Layout, escaped};
-use mk_fs::{Cause, SystemFault};
+use mk_fs::Cause;
 use mk_lines::sink::write_all;
 use mk_lines::{ByteSink, Fault, StdSink};
+use mk_notes::file_in_json;
 use mk_run::{Outcome, status};
-use std::alloc::{Allocator, Global};
+use std::alloc::Allocator;
 use std::io::{ErrorKind, IsTerminal};
 use std::process::ExitCode;
 
-/// Writes what is said of a makefile: some lines, each with the makefile's name before it, and below them
-/// notes.
+/// Writes what is said of a makefile: some lines, each with a text before it, and below them notes.
 ///
 /// # Errors
 ///
 /// [`Fault::NoMemory`], and nothing is out; or [`Fault::Write`], and a prefix is out.
 pub fn put_named<A, W>(
     alloc: A,
-    name: &[u8],
+    before: &[u8],
     lines: &[u8],
     notes: &[u8],
     out: &mut W,
@@ -43,12 +46,12 @@ where
     W: ByteSink,
     requires { W.failed out.old ≡ false }
     ensures whole { OnOk result (Appends (W.contents out.old) (W.contents out.new)
-        (named_lines name.now lines.now ++ notes.now)) }
+        (named_lines before.now lines.now ++ notes.now)) }
     ensures prefix { AppendsPrefix (W.contents out.old) (W.contents out.new)
-        (named_lines name.now lines.now ++ notes.now) }
+        (named_lines before.now lines.now ++ notes.now) }
     ensures works { OnOk result (W.failed out.new ≡ false) }
 {
-    let mut named = named_lines(alloc, name, lines)?;
+    let mut named = named_lines(alloc, before, lines)?;
     named.extend_from_slice(notes)?;
     write_all(out, named.as_slice())
 }
@@ -60,40 +63,46 @@ fn keep_message(end: &End<'_>, report: &mut Vec<u8>) -> Outcome {
     end.kept(lines.failed()).outcome
 }
 
-// Writes what is said of a makefile to standard error: a text as it is, then some lines with the name as
-// messages show it, then notes.
+// Writes what is said of a makefile to standard error: a text as it is, then some lines with these names
+// before each, as messages show them, then notes.
 fn put_told(
     rt: &HostRuntime,
-    file: Input<'_>,
+    names: &[Option<&[u8]>],
     said: &[u8],
     lines: &[u8],
     notes: &[u8],
 ) -> Result<(), Fault> {
-    let name = escaped(rt.alloc(), name_of(file).as_bytes(), Layout::Escaped)?;
+    let mut before = Vec::new(rt.alloc());
+    for name in names.iter().flatten() {
+        before.extend_from_slice(&escaped(rt.alloc(), name, Layout::Escaped)?)?;
+        before.extend_from_slice(b": ")?;
+    }
     let mut errors = StdSink::new(rt.stderr());
     write_all(&mut errors, said)?;
-    put_named(rt.alloc(), name.as_slice(), lines, notes, &mut errors)
+    put_named(rt.alloc(), before.as_slice(), lines, notes, &mut errors)
 }
 
-/// Says on standard error how a run over one of several makefiles, or a query of it, ended, and answers
-/// its status: a text as it is, and the report with the makefile's name before each line. Where something
-/// is said, the line on the progress is wiped before. Where it cannot be said, the status is that of the
-/// fault.
+/// Says on standard error how a run over a makefile, or a query of it, ended, and answers its status: a
+/// text as it is, and the report with the names of what it is about before each line. Where something is
+/// said, the line on the progress is wiped before. Where it cannot be said, the status is that of the fault.
 pub fn tell_named(
     rt: &HostRuntime,
     progress: &mut Progress<'_>,
-    file: Input<'_>,
+    names: &[Option<&[u8]>],
     said: &[u8],
     report: &mut Vec<u8>,
     end: &End<'_>,
-    notes: bool,
+    form: Report,
 ) -> u8 {
-    let outcome = keep_message(end, report);
-    let notes = notes_on(rt.alloc(), end, notes);
+    let outcome = match form {
+        Report::Json => end.outcome,
+        Report::Plain | Report::Notes => keep_message(end, report),
+    };
+    let notes = notes_on(rt.alloc(), end, form);
     if !(said.is_empty() && report.is_empty() && notes.is_empty()) {
         progress.wipe();
     }
-    match put_told(rt, file, said, report.as_slice(), notes.as_bytes()) {
+    match put_told(rt, names, said, report.as_slice(), notes.as_slice()) {
         Ok(()) => status(&outcome),
         Err(fault) => status(&Outcome::from(fault)),
     }
@@ -110,18 +119,18 @@ pub struct Told {
     pub is_left: bool,
 }
 
-/// Says that one of several makefiles cannot be opened. The message has its name at its end.
-pub fn tell_unopened(
+/// Says how a run over a makefile, or a query of it, ended that has done nothing: where it cannot be opened,
+/// the message has its name at its end, and no name is before it.
+pub fn tell_end(
     rt: &HostRuntime,
     progress: &mut Progress<'_>,
-    fault: SystemFault<'_>,
-    notes: bool,
+    names: &[Option<&[u8]>],
+    end: &End<'_>,
+    form: Report,
 ) -> Told {
-    progress.wipe();
-    let end = End::from(fault);
-    ended(rt, &end, notes);
+    let mut report = Vec::new(rt.alloc());
     Told {
-        status: status(&end.outcome),
+        status: tell_named(rt, progress, names, b"", &mut report, end, form),
         effect: Effect::Unchanged,
         is_left: false,
     }
@@ -148,29 +157,42 @@ fn edit_one<'a>(
 {
     let makefile = match open_makefile(rt, words.output, file) {
         Ok(makefile) => makefile,
-        Err(fault) => return tell_unopened(rt, progress, fault, words.notes),
+        Err(fault) => return tell_end(rt, progress, &[], &End::from(fault), words.report),
     };
     let mut report = Vec::new(rt.alloc());
-    let (end, said) = if words.notes {
-        run_with_notes(rt, words, run, file, makefile)
-    } else {
+    let (end, said) = if words.report == Report::Plain {
         let mut lines = StdSink::new(&mut report);
         let end = run_over(rt, words, run, file, makefile, &mut lines, &mut ());
         (end.kept(lines.failed()), Vec::new(rt.alloc()))
+    } else {
+        run_with_notes(rt, words, run, file, makefile)
     };
     Told {
         status: tell_named(
             rt,
             progress,
-            file,
+            &[Some(name_of(file).as_bytes())],
             said.as_slice(),
             &mut report,
             &end,
-            words.notes,
+            words.report,
         ),
         effect: end.effect,
         is_left: is_left(words, &end),
     }
+}
+
+// Says in a line of JSON what became of a makefile.
+fn put_became(
+    rt: &HostRuntime,
+    words: &EditWords<'_>,
+    file: Input<'_>,
+    told: Told,
+) -> Result<(), Fault> {
+    let is_compared = words.output.is_compared(words.is_diff);
+    let is_changed = is_compared.then_some(told.effect != Effect::Unchanged);
+    let line = file_in_json(rt.alloc(), input_name(file), told.status, is_changed)?;
+    write_all(&mut StdSink::new(rt.stderr()), line.as_slice())
 }
 
 /// Runs over each of several makefiles in turn. Each makefile is a run by itself: where one ends early,
@@ -183,6 +205,7 @@ pub fn edit_each<'a>(rt: &'a HostRuntime, words: &EditWords<'a>, run: Run<'_>) -
     let mut progress = Progress::new(rt, files.len(), is_printing);
     let mut statuses = Statuses::new();
     let mut summary = Summary::new();
+    let is_json = words.report == Report::Json;
     for (done, file) in files.iter().enumerate() {
         progress.show(done);
         let told = edit_one(rt, words, run, &mut progress, *file);
@@ -191,12 +214,18 @@ pub fn edit_each<'a>(rt: &'a HostRuntime, words: &EditWords<'a>, run: Run<'_>) -
             statuses.add(UNWANTED_CHANGE);
         }
         summary.add(told.status, told.effect != Effect::Unchanged);
+        if is_json {
+            progress.wipe();
+            if let Err(fault) = put_became(rt, words, *file, told) {
+                statuses.add(status(&Outcome::from(fault)));
+            }
+        }
         if told.is_left {
             break;
         }
     }
     progress.wipe();
-    if words.has_summary || rt.stderr().is_terminal() {
+    if !is_json && (words.has_summary || rt.stderr().is_terminal()) {
         summary.show(rt);
     }
     statuses.code()

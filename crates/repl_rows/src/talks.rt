@@ -55,7 +55,7 @@ impl Handler for Echo {
         write_greeting(out)
     }
 
-    fn reject<W: ByteSink>(&self, out: &mut W) -> Result<(), Fault> {
+    fn reject<W: ByteSink>(&mut self, out: &mut W) -> Result<(), Fault> {
         write_too_long(out)
     }
 

@@ -7,7 +7,7 @@ use crate::fault::Cause;
 use crate::with_error::WithError;
 use mk_lines::StdSource;
 use std::fs;
-use std::fs::File;
+use std::fs::{File, TryLockError};
 use std::io::{ErrorKind, Seek, SeekFrom};
 use std::os::unix::fs::MetadataExt;
 use std::path::PathBuf;
@@ -55,12 +55,13 @@ fn is_named(rt: &HostRuntime, path: &PathBuf, file: &File) -> Result<bool, Cause
 }
 
 /// Looks whether what is expected stands under the makefile's path. Where that is the file that was
-/// read, the answer has the comparison.
+/// read, it is locked until it is closed, so that no other run replaces it after that; and the answer
+/// has the comparison. A file system without locks is no fault.
 ///
 /// # Errors
 ///
-/// [`Cause::Changed`] where the path names another file, or the file has other bytes; or what the
-/// system said where that cannot be known.
+/// [`Cause::Changed`] where the path names another file, or the file has other bytes or is locked by
+/// another program; or what the system said where that cannot be known.
 pub fn look(
     rt: &HostRuntime,
     makefile: &PathBuf,
@@ -71,6 +72,9 @@ pub fn look(
     let Expected::AsRead(read) = expected else {
         return Ok(None);
     };
+    if let Err(TryLockError::WouldBlock) = read.file.try_lock() {
+        return Err(Cause::Changed);
+    }
     match compare(read)? {
         Some(same) if is_named(rt, makefile, read.file)? => Ok(Some(same)),
         _ => Err(Cause::Changed),

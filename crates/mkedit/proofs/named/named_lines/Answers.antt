@@ -8,5 +8,5 @@ lines-preserved g c =
     let n = c.line_length.result in
     let line : c.split_at.result.0.now ≡ take n rest = search rules in
     let after : c.split_at.result.1.now ≡ drop n rest = search rules in
-    named-step _ c.lines.named.items c.push_named.new.named.items c.args.name.now rest c.split_at.result.0.now c.split_at.result.1.now n
+    named-step _ c.lines.named.items c.push_named.new.named.items c.args.before.now rest c.split_at.result.0.now c.split_at.result.1.now n
     c.line_length.ensures.line c.lines.invariant line after c.in_ok-push_named.ensures

@@ -5,7 +5,7 @@ use Rattle.mkedit.proofs.named.named_lines.Given as goal
 
 abbrev pub invariant-lines : goal.invariant-lines
 invariant-lines g l =
-    named_lines l.name l.text ≡ l.named.items ++ named_lines l.name l.rest
+    named_lines l.before l.text ≡ l.named.items ++ named_lines l.before l.rest
 
 abbrev pub decreases-lines : goal.decreases-lines
 decreases-lines g l = length l.rest

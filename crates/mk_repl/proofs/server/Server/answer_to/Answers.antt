@@ -1,4 +1,4 @@
-use Rattle.std.proofs.Common.{◌≡◌, ◌∙◌, rules}
+use Rattle.std.proofs.Common.{◌≡◌, ◌∙◌, inl, rules}
 use Rattle.std.proofs.lemmas.Result.{IfOk-weaker}
 use Rattle.mk_repl.specs.declared.answer.Executed.TheVariants.{NoCommand}
 use Rattle.mk_repl.specs.Replies.{IsLineExecuted}
@@ -10,5 +10,5 @@ returns-then-eq-clause-said g c =
     let opened : c.execute-executed.new.self.opened ≡ c.args.self.now.opened = c.execute-executed.ensures.opened in
     let executed : IsLineExecuted c.args.line.now c.args.self.now.session.shown c.execute-executed.new.self.session.shown NoCommand = rw came at c.execute-executed.ensures.executed in
     IfOk-weaker c.answer_other.result _ _
-    (λ after said. (said.0, said.1, ((NoCommand, c.execute-executed.new.self.session.shown, executed, rw opened at said.2), c.answer_other.ensures.opened ∙ opened)))
+    (λ after said. (said.0, said.1, ((NoCommand, c.execute-executed.new.self.session.shown, executed, rw opened at said.2), (λ warned. inl (c.answer_other.ensures.warned warned)), c.answer_other.ensures.opened ∙ opened)))
     c.answer_other.ensures.said

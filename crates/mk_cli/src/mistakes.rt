@@ -1,11 +1,19 @@
 //! The note on a line of a script that is no command: where in the line a mistake is, and what is wrong.
 
-use crate::text::before_number;
 use mk_escape::shown_name;
 use mk_script::table::command_form;
 use mk_script::{Mistake, MistakeCause, mistake_at, nearest_at};
 use std::alloc::{AllocError, Global};
 use std::fmt;
+
+/// What the lines of the command line are called, where they are the script.
+pub const COMMAND_LINES: &str = "-e";
+
+/// What stands between the name of a script and the number of a line in it. `-e` is no file: its lines are
+/// those of all `-e` together, and an editor is to open none.
+pub fn before_number(script: &str) -> &'static str {
+    if script == COMMAND_LINES { " " } else { ":" }
+}
 
 // What the table of commands calls a whole command, where it is the field of another one.
 const COMMAND: &str = "COMMAND";
@@ -71,6 +79,12 @@ fn usual_command(text: &[u8], line: u64) -> Option<&'static str> {
     }
 }
 
+/// What may be meant where a name begins with a command.
+pub const COMMAND_HINT: &str = "-e goes before a command";
+
+/// What may be meant where the makefile is a script, and the script is none.
+pub const EXCHANGED_HINT: &str = "did you swap SCRIPT and FILE?";
+
 /// Whether a name begins with a command: somebody may have left out `-e` before it.
 pub fn is_command(name: &str) -> bool {
     match name.split_once(' ') {
@@ -133,7 +147,7 @@ pub fn push_mistake(
         let makefile = shown_name(alloc, makefile)?;
         writeln!(
             notes,
-            "{script}: note: this is not a script, but {makefile} is: did you swap SCRIPT and FILE?"
+            "{script}: note: this is not a script, but {makefile} is: {EXCHANGED_HINT}"
         )?;
     }
     Ok(())

@@ -13,7 +13,7 @@ use Rattle.mk_class.specs.declared.assignment.Flavor.TheVariants.{Recursive, Sim
 use Rattle.mk_class.specs.declared.assignment.Modifier.TheVariants.{Override, Export, Private}
 use Rattle.mk_class.specs.declared.rule.Separator.TheVariants.{SingleColon, GroupedDoubleColon}
 use Rattle.mk_class.specs.declared.context.RuleFlag.TheVariants.{Off, Rule, Unknown}
-use Rattle.mk_class.proofs.ClassNames.{class_names, contexts}
+use Rattle.mk_reading_rows.proofs.ClassNames.{class_names, contexts}
 
 -- ---- classes, line by line
 

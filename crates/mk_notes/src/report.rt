@@ -1,0 +1,72 @@
+//! The lines of a report in JSON that are on no command: the message on how a run ended, and what became of a
+//! makefile.
+
+use mk_cli::{COMMAND_HINT, EXCHANGED_HINT, ScriptMistake, is_command};
+use mk_fs::SystemFault;
+use mk_json::Object;
+use std::alloc::{AllocError, Global};
+
+/// The line of JSON on a message, and on the fault and the mistake that it is about. The message is as it
+/// goes out elsewhere, behind `mkedit: ` and with a line feed at its end.
+///
+/// # Errors
+///
+/// [`AllocError`] if an allocation failed.
+pub fn message_in_json(
+    alloc: Global,
+    message: &[u8],
+    fault: Option<SystemFault<'_>>,
+    mistake: Option<ScriptMistake<'_>>,
+) -> Result<Vec<u8>, AllocError> {
+    let mut object = Object::begin(alloc, Vec::new(alloc))?;
+    object.string("kind", "message")?;
+    if let Some(fault) = fault {
+        object.string("file", fault.name)?;
+    }
+    if let Some(found) = mistake {
+        object.string("script", found.script)?;
+        object.number("line", found.line as usize)?;
+        object.number("column", found.mistake.column)?;
+    }
+    let said = message.strip_prefix(b"mkedit: ").unwrap_or(message);
+    object.text("sentence", said.trim_ascii_end())?;
+    if let Some(fault) = fault {
+        object.string("cause", &format!(in alloc; "{}", fault.cause)?)?;
+        if is_command(fault.name) {
+            object.string("hint", COMMAND_HINT)?;
+        }
+    }
+    if let Some(found) = mistake {
+        object.string("cause", &format!(in alloc; "{found}")?)?;
+        if found.exchanged.is_some() {
+            object.string("hint", EXCHANGED_HINT)?;
+        }
+    }
+    object.end()
+}
+
+/// The line of JSON on what became of a makefile whose run ended with this status. Whether the makefile was
+/// changed is not known where the text is printed.
+///
+/// # Errors
+///
+/// [`AllocError`] if an allocation failed.
+pub fn file_in_json(
+    alloc: Global,
+    file: &str,
+    status: u8,
+    is_changed: Option<bool>,
+) -> Result<Vec<u8>, AllocError> {
+    let became = match (status, is_changed) {
+        (0, Some(true)) => "changed",
+        (0, Some(false)) => "unchanged",
+        (0, None) => "printed",
+        (1, _) => "refused",
+        _ => "failed",
+    };
+    let mut object = Object::begin(alloc, Vec::new(alloc))?;
+    object.string("kind", "file")?;
+    object.string("file", file)?;
+    object.string("result", became)?;
+    object.end()
+}
