@@ -5,6 +5,8 @@
 #                   (tools/build); what rt says is in crates/mkedit/out/build.log. The program,
 #                   crates/mkedit/out/bin/mkedit, has the C library in it where the machine has a
 #                   static one, so that it starts sooner (tools/link)
+#   make lib        proves and builds the library for C in crates/mkedit_c/out/lib: libmkedit.a, and where
+#                   there is a C compiler libmkedit.so too (tools/library); include/mkedit.h declares it
 #   make demo       shows scripts at work, one that is refused, and the queries; the program that it
 #                   shows is built in a minute, with checks while it runs and without proofs
 #                   (tools/try), and is not the one of make: crates/mkedit/out/tried/mkedit
@@ -25,15 +27,17 @@
 #                   what is said of refusals and commands, the manual pages, and what one has to
 #                   believe (tools/texts)
 #   make dist       packs a release, mkedit-VERSION-x86_64-linux.tar.gz with its SHA-256 beside it, into
-#                   the folder $(DIST): the program, the manual pages, the completions, and what a user
-#                   reads; the same bytes each time (tools/dist)
-#   make deb        packs the same as a Debian package; MAINTAINER='NAME <ADDRESS>' says who is
-#                   asked about it (tools/deb)
+#                   the folder $(DIST): the program, the manual pages, the completions, the package for
+#                   Python, what a user reads, and the library for C, where make lib has built it; the
+#                   same bytes each time (tools/dist)
+#   make deb        packs the program and what belongs to it as a Debian package; MAINTAINER='NAME
+#                   <ADDRESS>' says who is asked about it (tools/deb)
 #   make install    puts the program into $(DESTDIR)$(PREFIX)/bin, and the manual pages and the
-#                   completions of bash, zsh and fish where each belongs
+#                   completions of bash, zsh and fish where each belongs; and the library, its header
+#                   and what pkg-config asks for, where make lib has built it
 #   make uninstall  takes away what make install puts there
-#                   (PREFIX, BINDIR, MANDIR, BASHCOMPDIR, ZSHCOMPDIR and FISHCOMPDIR say where,
-#                   and DESTDIR stands before each)
+#                   (PREFIX, BINDIR, LIBDIR, INCLUDEDIR, MANDIR, BASHCOMPDIR, ZSHCOMPDIR and
+#                   FISHCOMPDIR say where, and DESTDIR stands before each)
 #   make bench      compares its time and memory with those of cat and sed and with what is aimed
 #                   at, draws into bench/data/speed.svg how its time grows, and measures the reading
 #                   of lines, and edits of a large makefile; then many edits of each kind, which it
@@ -44,10 +48,12 @@
 #
 # It is written for POSIX.1-2024 make, which GNU make 4 reads as well.
 .POSIX:
-.PHONY: all demo test check hostile judge soak fuzz rows texts dist deb install uninstall bench clean
+.PHONY: all lib demo test check hostile judge soak fuzz rows texts dist deb install install-lib uninstall bench clean
 
 PREFIX ?= /usr/local
 BINDIR ?= $(PREFIX)/bin
+LIBDIR ?= $(PREFIX)/lib
+INCLUDEDIR ?= $(PREFIX)/include
 MANDIR ?= $(PREFIX)/share/man
 BASHCOMPDIR ?= $(PREFIX)/share/bash-completion/completions
 ZSHCOMPDIR ?= $(PREFIX)/share/zsh/site-functions
@@ -58,6 +64,8 @@ EDITS ?= 10000
 PROGRAM = crates/mkedit/out/bin/mkedit
 # The same program as rt links it: it loads the C library when it starts.
 BUILT = crates/mkedit/out/mkedit
+# The folder of the library for C.
+LIBRARY = crates/mkedit_c/out/lib
 # The same program without proofs, with checks while it runs.
 TRIED = crates/mkedit/out/tried/mkedit
 BENCH = crates/mk_bench/out/mk_bench
@@ -69,6 +77,12 @@ all: $(PROGRAM)
 $(PROGRAM): crates.txt HANDLES tools/build tools/link $(SOURCES)
 	@tools/build mkedit
 	@tools/link $(BUILT) $@
+
+lib: $(LIBRARY)/libmkedit.a
+
+$(LIBRARY)/libmkedit.a: crates.txt HANDLES tools/archive tools/build tools/library $(SOURCES)
+	@tools/build mkedit_c
+	@tools/library crates/mkedit_c/out/libmkedit_c.a $(LIBRARY)
 
 $(TRIED): crates.txt tools/try $(SOURCES)
 	@tools/try $@
@@ -125,13 +139,28 @@ install: $(PROGRAM)
 	install -m 644 completions/mkedit.bash "$(DESTDIR)$(BASHCOMPDIR)/mkedit"
 	install -m 644 completions/mkedit.zsh "$(DESTDIR)$(ZSHCOMPDIR)/_mkedit"
 	install -m 644 completions/mkedit.fish "$(DESTDIR)$(FISHCOMPDIR)/mkedit.fish"
+	@test ! -f $(LIBRARY)/libmkedit.a || $(MAKE) -s install-lib
+
+# The library, which make lib has built.
+install-lib:
+	install -d "$(DESTDIR)$(INCLUDEDIR)" "$(DESTDIR)$(LIBDIR)/pkgconfig"
+	install -m 644 include/mkedit.h "$(DESTDIR)$(INCLUDEDIR)/mkedit.h"
+	install -m 644 $(LIBRARY)/libmkedit.a "$(DESTDIR)$(LIBDIR)/libmkedit.a"
+	sed -e 's|@LIBDIR@|$(LIBDIR)|' -e 's|@INCLUDEDIR@|$(INCLUDEDIR)|' packaging/mkedit.pc.in \
+		>"$(DESTDIR)$(LIBDIR)/pkgconfig/mkedit.pc"
+	chmod 644 "$(DESTDIR)$(LIBDIR)/pkgconfig/mkedit.pc"
+	test ! -f $(LIBRARY)/libmkedit.so.0 || { \
+		install -m 755 $(LIBRARY)/libmkedit.so.0 "$(DESTDIR)$(LIBDIR)/libmkedit.so.0" && \
+		ln -sf libmkedit.so.0 "$(DESTDIR)$(LIBDIR)/libmkedit.so"; }
 
 # The folders stay, since others may use them.
 uninstall:
 	rm -f "$(DESTDIR)$(BINDIR)/mkedit" "$(DESTDIR)$(MANDIR)/man1/mkedit.1"
 	rm -f "$(DESTDIR)$(MANDIR)/man5/mkedit-script.5"
 	rm -f "$(DESTDIR)$(BASHCOMPDIR)/mkedit" "$(DESTDIR)$(ZSHCOMPDIR)/_mkedit"
-	rm -f "$(DESTDIR)$(FISHCOMPDIR)/mkedit.fish"
+	rm -f "$(DESTDIR)$(FISHCOMPDIR)/mkedit.fish" "$(DESTDIR)$(INCLUDEDIR)/mkedit.h"
+	rm -f "$(DESTDIR)$(LIBDIR)/libmkedit.a" "$(DESTDIR)$(LIBDIR)/libmkedit.so"
+	rm -f "$(DESTDIR)$(LIBDIR)/libmkedit.so.0" "$(DESTDIR)$(LIBDIR)/pkgconfig/mkedit.pc"
 
 $(BENCH): crates.txt HANDLES tools/build $(SOURCES)
 	@tools/build mk_bench

@@ -1,4 +1,4 @@
-"""What a release holds: the program, the manual pages, the completions, and what a user reads."""
+"""What a release holds: the program, the manual pages, the completions, the libraries, and what a user reads."""
 
 import os
 import re
@@ -21,6 +21,13 @@ PLACED = {
 }
 # What a user reads. It has the same place in a release, so that one document finds the other.
 READ = ("README.md", "CHANGELOG.md", *(f"docs/{it}.md" for it in ("GUIDE", "EDITS", "COOKBOOK", "LANGUAGE")))
+# The library for C as `make lib` builds it, its places below PREFIX, and what has a place beside it.
+LIBRARY = TOP / "crates/mkedit_c/out/lib"
+BUILT = {"libmkedit.a": "lib/libmkedit.a", "libmkedit.so.0": "lib/libmkedit.so.0"}
+HEADER, FOR_PKG_CONFIG = "include/mkedit.h", "lib/pkgconfig/mkedit.pc"
+FOLDERS = {b"@LIBDIR@": b"/usr/local/lib", b"@INCLUDEDIR@": b"/usr/local/include"}
+# The package for Python, which stands in a release as a folder that pip installs.
+PYTHON, IN_PYTHON = "clients/python", ("README.md", "pyproject.toml", "mkedit/*")
 # The time of each file where nothing says another: the first second of 2000.
 EPOCH = 946_684_800
 VERSION = re.compile(r"mkedit (\d+\.\d+\.\d+)( .*)?\n")
@@ -79,6 +86,23 @@ def time():
 def installed(program):
     """What is installed of a release, by its places below PREFIX."""
     return [Packed(PROGRAM, program_at(program), True)] + [Packed(it, read(name)) for name, it in PLACED.items()]
+
+
+def library():
+    """The library for C with its header, by its places below PREFIX; nothing where `make lib` has built none."""
+    found = [Packed(it, (LIBRARY / name).read_bytes()) for name, it in BUILT.items() if (LIBRARY / name).is_file()]
+    if not found:
+        return []
+    said = read("packaging/mkedit.pc.in")
+    for name, folder in FOLDERS.items():
+        said = said.replace(name, folder)
+    return [*found, Packed(HEADER, read(HEADER)), Packed(FOR_PKG_CONFIG, said)]
+
+
+def python():
+    """The package for Python."""
+    files = (path for it in IN_PYTHON for path in (TOP / PYTHON).glob(it) if path.is_file())
+    return [Packed(f"python/{it.relative_to(TOP / PYTHON)}", it.read_bytes()) for it in files]
 
 
 def told():

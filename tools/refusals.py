@@ -5,6 +5,7 @@ and what to do, with an empty line between the three. The numbers, and whether a
 with a refusal, stand in the definitions, RefusalTexts.antt.
 """
 
+import json
 import re
 import textwrap
 from pathlib import Path
@@ -27,6 +28,7 @@ ESCAPED = {"\\": "\\", '"': '"', "t": "\t", "n": "\n"}
 WIDTH = 100
 CODE = re.compile(r"``.+?``|`[^`]+`")
 OF_EXAMPLE = re.compile(r"In the example .*?\. ")
+FIRST = re.compile(r".*?\.(?= |$)")
 
 PARTS = re.compile(r"(.*?)\n\nExample: (.*?)\n\n(.*?)\n", re.S)
 EXAMPLE = re.compile(r"(?:over\n(.*?)\n)?the script\n(.*?)\nis reported as\n(.*)", re.S)
@@ -109,6 +111,17 @@ def entries(found):
         name = f"`{it.name}` *{it.detail}*" if it.detail else f"`{it.name}`"
         advice = OF_EXAMPLE.sub("", it.advice)
         yield from entry(f"- **{it.number} {name}**: {it.cause} *Fix:* {advice}")
+
+
+def sentences(found):
+    """The entries of a dictionary in Python: the first sentence on each refusal, by its name."""
+    for it in found:
+        first = FIRST.match(it.cause)[0]
+        lines = textwrap.wrap(first, WIDTH, drop_whitespace=False, break_long_words=False, break_on_hyphens=False)
+        if len(lines) == 1:
+            yield f'    "{it.name}": {json.dumps(first)},'
+        else:
+            yield from (f'    "{it.name}": (', *(f"        {json.dumps(line)}" for line in lines), "    ),")
 
 
 def items(found):

@@ -5,7 +5,7 @@
 
 `rt ci` proves every crate with its tests, has the prover refuse each must-fail edit, and runs the tests and
 the programs. Here an edit that does not apply or compile is a failure too. `rt ci` leaves the program, which
-is then linked as `make` links it, and tested. The quick test is of the program that `tools/try` builds, which
+is then linked as `make` links it, and tested; so is the library for C. The quick test is of the program that `tools/try` builds, which
 checks itself while it runs. It leaves out tests that take minutes over that program.
 
 A part that fails does not end the run. A part without its counts is one failure. The last line is the sum,
@@ -24,6 +24,7 @@ from tests import TOP
 from tests.lib.checks import BUILT
 
 PROVED, TRIED = "crates/mkedit/out/mkedit", "crates/mkedit/out/tried/mkedit"
+ARCHIVE, LIBRARY = (f"crates/mkedit_c/out/{it}" for it in ("libmkedit_c.a", "lib"))
 COUNTS = re.compile(r"(\d+) passed, (\d+) failed\n?")
 # What rt ci says of a must-fail edit that does not apply or compile. It fails nothing there, and shows nothing.
 BAD_EDIT = ": BAD EDIT: "
@@ -78,6 +79,8 @@ def proved(command):
     start, built = time.time(), TOP / PROVED
     yield run(" ".join(command), *command)
     is_new = built.is_file() and built.stat().st_mtime >= start
+    if is_new and not subprocess.run(["tools/archive", ".", "mkedit_c"], cwd=TOP).returncode:
+        subprocess.run(["tools/library", ARCHIVE, LIBRARY], cwd=TOP)
     yield program(BUILT, is_new and not subprocess.run(["tools/link", PROVED, BUILT], cwd=TOP).returncode)
 
 

@@ -20,7 +20,7 @@ from .listed import listed, with_below
 
 NO_CODE = re.compile(r"""\bb?r(#*)"[\s\S]*?"\1|b?'(?:\\[\s\S]|[^'\\])'|"(?:\\[\s\S]|[^"\\])*"|//[^\n]*""")
 ITEM = re.compile(
-    r"^(?P<indent> *)(?P<pub>pub )?(?:pub\([^)]*\) )?(?:(?:unsafe|const|default) )*"
+    r"^(?P<indent> *)(?P<pub>pub )?(?:pub\([^)]*\) )?(?:(?:unsafe|const|default|extern) +)*"
     r"(?P<kind>fn|struct|enum|trait|impl|mod|use|ghost|const|static|type)\b",
     re.M,
 )

@@ -454,13 +454,14 @@ def recipes_text(text, only=None):
     return out
 
 
-def check_text(text):
-    """What `mkedit check` prints."""
+def check_text(text, has_texts=False):
+    """What `mkedit check` prints; for a person it has the texts of the lines."""
     lines, end = read(text)
     out = b""
     for line in lines:
         if line.kind in ("Rough", "Opaque"):
-            out += b"%d: %s\n" % (line.number, line.kind.lower().encode())
+            out += b"%d: %s" % (line.number, line.kind.lower().encode())
+            out += b": " + joined(line.raw)[0] + b"\n" if has_texts else b"\n"
     out += b"end: conditionals %d\n" % end.conditionals if end.conditionals else b""
     return out + (b"end: defines %d\n" % end.defines if end.defines else b"")
 

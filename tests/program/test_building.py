@@ -18,6 +18,18 @@ mkdir -p crates/mkedit/out && cp {names}/program crates/mkedit/out/mkedit
 test -e {names}/kept && test ! -e crates/mkedit/src/again || : >crates/mkedit/out/mkedit.o
 exit $(cat {names}/status)
 """
+# Of a static library rt ci proves it, and the toolchain builds it then over the libraries that rt ci has built.
+CI_OF_LIBRARY = """
+test "$*" = ci && test "$(ls crates | tr '\\n' ' ')" = "api low " || exit 99
+cat {names}/said >&2
+mkdir -p crates/low/out/rlib/low.rlib
+exit $(cat {names}/status)
+"""
+RATTLE = """#!/bin/sh
+case "$*" in *"--extern low=/"*"/low.rlib"*) ;; *) exit 98 ;; esac
+while test "$1" != -o; do shift; done
+echo made >"$2"
+"""
 # rt try runs the program in a folder of its own, and removes it.
 TRY = """
 test "$1 $2 $3" = "try -- vars" || exit 99
@@ -98,6 +110,17 @@ class Building(RoomCase):
         self.assert_ran(lines, shown, 3, "tools/build", "mkedit")
         self.assertEqual(self.run_words("make").status, 2)
         self.assertFalse((self.top / BUILT).exists() or (self.top / PROGRAM).exists())
+
+    def test_a_static_library_is_built_once_it_is_proved(self):
+        self.rt(CI_OF_LIBRARY, "rt: low proved\nrt: api proved\n")
+        (self.top / "crates.txt").write_text(CRATES + "api staticlib: low memchr\n")
+        (self.top / "crates/api/src").mkdir(parents=True)
+        (self.names.parent / "bin").mkdir()
+        (self.names.parent / "bin/rattle").write_text(RATTLE)
+        (self.names.parent / "bin/rattle").chmod(0o755)
+        lines = "building api: what rt says goes to crates/api/out/build.log\nlow proved, 1 of 2\napi proved, 2 of 2\n"
+        self.assert_ran(f"{lines}built crates/api/out/libapi.a in N s\n", "", 0, "tools/build", "api")
+        self.assertEqual((self.top / "crates/api/out/libapi.a").read_text(), "made\n")
 
     def test_the_program_that_rt_tries_is_kept(self):
         self.rt(TRY, "")

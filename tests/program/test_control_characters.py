@@ -29,12 +29,13 @@ class ControlCharacters(RoomCase):
             return all_shown(user, program), got
 
     def test_a_terminal_is_shown_numbers_and_a_file_gets_the_bytes(self):
-        queries = [["vars"], ["rules"], ["recipes"], ["check"], ["caveats"], ["get", "V", "--nth", "2"]]
+        queries = [["vars"], ["rules"], ["recipes"], ["check", "--notes"], ["caveats"], ["get", "V", "--nth", "2"]]
         edit = ["edit", "--diff", "--color=never", "-e", "nth 1 append V b"]
         for words in [*queries, edit]:
             plain = self.room.run(*words, "hostile").stdout
             shown, _ = self.at_terminal(*words, "hostile")
             self.assertEqual(shown, plain.replace(RAW, SHOWN), words)
+        self.assertEqual(self.at_terminal("check", "hostile")[0], self.at_terminal("check", "--notes", "hostile")[0])
         for words in (["vars"], ["recipes"], ["get", "V", "--nth", "2"], edit):
             self.assertIn(RAW, self.room.run(*words, "hostile").stdout)
 

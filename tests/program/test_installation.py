@@ -17,6 +17,14 @@ PLACES = {
     "share/zsh/site-functions/_mkedit": "completions/mkedit.zsh",
     "share/fish/vendor_completions.d/mkedit.fish": "completions/mkedit.fish",
 }
+# What is installed where `make lib` has built the library, and the names of files there that stand for it.
+OF_LIBRARY = {
+    "include/mkedit.h",
+    "lib/libmkedit.a",
+    "lib/libmkedit.so",
+    "lib/libmkedit.so.0",
+    "lib/pkgconfig/mkedit.pc",
+}
 # Folders of one's own, each with the files that go there.
 FOLDERS = {
     "BINDIR": ("mkedit",),
@@ -38,7 +46,7 @@ class Installation(RoomCase):
         """Runs make, which may not fail or build something."""
         kept = ("PATH", "HOME", "TMPDIR", "LC_ALL")
         environment = {it: os.environ[it] for it in kept if it in os.environ}
-        given = {"PROGRAM": self.room.program.path, "DESTDIR": self.root, **variables}
+        given = {"PROGRAM": self.room.program.path, "DESTDIR": self.root, "LIBRARY": "none", **variables}
         words = ["make", target, *(f"{name}={value}" for name, value in given.items())]
         how = {"cwd": TOP, "env": environment, "timeout": SECONDS}
         ran = subprocess.run(words, capture_output=True, text=True, **how)
@@ -75,6 +83,34 @@ class Installation(RoomCase):
         self.assert_installed(f"chosen/{name.lower()} 1/{file}" for name, file in placed)
         self.make("uninstall", **chosen)
         self.assert_installed(())
+
+    def test_the_library_is_installed_where_it_was_built(self):
+        folder = self.room.folder / "lib"
+        folder.mkdir()
+        for name in ("libmkedit.a", "libmkedit.so.0"):
+            (folder / name).write_text(name)
+        where = {"LIBRARY": folder, "PREFIX": "/usr", "LIBDIR": "/usr/lib/x"}
+        self.make("install", **where)
+        wanted = {it.replace("lib/", "lib/x/", 1) if it.startswith("lib/") else it for it in OF_LIBRARY}
+        self.assert_installed({f"usr/{it}" for it in {*PLACES, *wanted}})
+        self.assertEqual((self.root / "usr/lib/x/libmkedit.so").read_text(), "libmkedit.so.0")
+        said = (self.root / "usr/lib/x/pkgconfig/mkedit.pc").read_text()
+        self.assertEqual(said.splitlines()[:2], ["libdir=/usr/lib/x", "includedir=/usr/include"])
+        self.make("uninstall", **where)
+        self.assert_installed(())
+
+    def test_each_file_with_a_version_has_that_of_the_program(self):
+        version = self.room.run("--version").stdout.split()[1].decode()
+        number = sum(int(it) * unit for it, unit in zip(version.split("."), (10_000, 100, 1)))
+        for name, line in {
+            "include/mkedit.h": f"#define MKEDIT_VERSION {number} ",
+            "crates/mkedit_c/src/lib.rt": f"const VERSION: u32 = {number};",
+            "packaging/mkedit.pc.in": f"Version: {version}\n",
+            "clients/python/pyproject.toml": f'version = "{version}"\n',
+            "clients/python/mkedit/__init__.py": f'__version__ = "{version}"\n',
+            "clients/python/mkedit/texts.py": f"VERSION = {number // 100}\n",
+        }.items():
+            self.assertIn(line, (TOP / name).read_text(), name)
 
     def test_an_installed_program_runs(self):
         self.make("install", PREFIX="/usr/local")

@@ -119,6 +119,32 @@ class LargeEdits(RoomCase):
         script = b"".join(b"assign bottom " + it for it in new)
         self.assert_few_walks(lines, script, b"".join(lines + new))
 
+    def test_edits_that_count_lines_need_no_long_walks(self):
+        """Two thousand edits that count lines of one name or of one rule, or pass over blank ones.
+
+        A walk over all lines of the name for each edit, or one way down the tree of lines for each line that
+        it passes, would take twenty times as long as one edit, and more.
+        """
+        first = [b"V%d = a\n" % it for it in range(250_000)]
+        named, recipe, blank = [b"N = a\n"] * 40_000, [b"\tc\n"] * 16_000, [b"\n"] * 5_000
+        lines = [*first, *named, b"long:\n", *recipe, b"gap:\n", *blank]
+        self.room.write("large", b"".join(lines))
+        below_named, below_long = len(first) + len(named) + 1, len(lines) - len(blank)
+        numbers = {
+            b"nth %d set N b\n": (len(first), 20, b"N = b\n"),
+            b"recipe-set long %d d\n": (below_named, 8, b"\td\n"),
+        }
+        for command, (begin, step, line) in numbers.items():
+            with self.subTest(command):
+                after, script = list(lines), b""
+                for it in range(0, 2_000 * step, step):
+                    after[begin + it] = line
+                    script += command % (it + 1)
+                self.assert_few_walks(lines, script, b"".join(after))
+        with self.subTest("recipe"):
+            after = [*lines[:below_long], *[b"\tc\n"] * 2_000, *blank]
+            self.assert_few_walks(lines, b"recipe gap c\n" * 2_000, b"".join(after))
+
     def test_edits_of_one_target_in_turn_need_few_walks(self):
         """Four times as many edits take at most ten times as long.
 

@@ -56,7 +56,8 @@ TAKEN = [
 ]
 for query, answer in ANSWERS.items():
     line = answer.decode().split("\n")[0]
-    TAKEN.append((0, line, None, f"{query} queried | {query} --notes queried"))
+    noted = f"{line}: $(call it)" if query == "check" else line
+    TAKEN += [(0, line, None, f"{query} queried"), (0, noted, None, f"{query} --notes queried")]
     TAKEN.append((0, IN_JSON, None, f"{query} --json queried | {query} queried - --json --notes"))
 
 # A message, what stands in it for {}, and the command lines that it refuses.

@@ -40,13 +40,13 @@ class Queries(RoomCase):
                     given = ast.literal_eval(unescape(row["reading"]).decode("latin-1"))
                     self.assertEqual(reading.reading(unescape(row["makefile"])), given)
 
-    def assert_answers(self, query):
+    def assert_answers(self, query, *options, **how):
         """The answer to a query over each makefile has to be that of the reading."""
         for text, name in makefiles().items():
-            with self.subTest(f"{query}, {name}"):
+            with self.subTest(f"{query}, {options}, {name}"):
                 self.room.write("Makefile", text)
-                wanted = Outcome(reading.QUERIES[query](text), b"", 0)
-                self.assert_run(wanted, query, "Makefile")
+                wanted = Outcome(reading.QUERIES[query](text, **how), b"", 0)
+                self.assert_run(wanted, query, *options, "Makefile")
 
     def assert_answers_alone(self, query):
         """So has the answer to a query that is asked for a name or target of each makefile."""
@@ -78,6 +78,7 @@ class Queries(RoomCase):
 
     def test_check(self):
         self.assert_answers("check")
+        self.assert_answers("check", "--notes", has_texts=True)
 
     def test_caveats(self):
         self.assert_answers("caveats")

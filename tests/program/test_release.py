@@ -19,8 +19,11 @@ from tests.lib.rooms import EDITED, RoomCase
 from tests.program.test_installation import PLACES
 
 # Where each file of the repository stands in the archive, below its folder; None is the program.
+PYTHON, BUILT = TOP / "clients/python", TOP / "crates/mkedit_c/out/lib"
 ARCHIVE = {
     **PLACES,
+    **{f"python/{it}": f"clients/python/{it}" for it in ("README.md", "pyproject.toml", "mkedit/py.typed")},
+    **{f"python/mkedit/{it.name}": f"clients/python/mkedit/{it.name}" for it in (PYTHON / "mkedit").glob("*.py")},
     "README.md": "README.md",
     "CHANGELOG.md": "CHANGELOG.md",
     "docs/GUIDE.md": "docs/GUIDE.md",
@@ -28,6 +31,10 @@ ARCHIVE = {
     "docs/COOKBOOK.md": "docs/COOKBOOK.md",
     "docs/LANGUAGE.md": "docs/LANGUAGE.md",
 }
+# Where the library for C stands there, if `make lib` has built it; the file for pkg-config is made of another.
+if (BUILT / "libmkedit.a").exists():
+    ARCHIVE |= {f"lib/{it.name}": f"crates/mkedit_c/out/lib/{it.name}" for it in BUILT.iterdir() if it.name != "libmkedit.so"}
+    ARCHIVE |= {"include/mkedit.h": "include/mkedit.h", "lib/pkgconfig/mkedit.pc": "packaging/mkedit.pc.in"}
 # What Debian installs.
 INSTALLED = {
     "usr/bin/mkedit",
@@ -91,7 +98,10 @@ class Releases(RoomCase):
         wanted = {f"{folder}/{it}": self.program.path if name is None else TOP / name for it, name in ARCHIVE.items()}
         self.assertEqual({*files}, {*wanted})
         for name, source in wanted.items():
-            self.assertTrue(files[name] == source.read_bytes(), f"{name} has other bytes")
+            content = source.read_bytes()
+            if name.endswith(".pc"):
+                content = content.replace(b"@LIBDIR@", b"/usr/local/lib").replace(b"@INCLUDEDIR@", b"/usr/local/include")
+            self.assertTrue(files[name] == content, f"{name} has other bytes")
         self.assertEqual([it.name for it in members], sorted(it.name for it in members))
         self.assertEqual({(it.uid, it.gid, it.uname, it.gname) for it in members}, {(0, 0, "root", "root")})
         self.assertEqual({it.mtime for it in members}, {TIME})
@@ -111,6 +121,17 @@ class Releases(RoomCase):
             archive.extractall(self.out)
         self.room.program = Program(next(self.out.glob("*/bin/mkedit")))
         self.assert_run(EDITED, "edit", "script", "Makefile")
+
+    def test_the_package_for_python_out_of_the_archive_edits(self):
+        with tarfile.open(self.packed("dist")) as archive:
+            archive.extractall(self.out)
+        [top] = self.out.glob("mkedit-*/")
+        words = [sys.executable, "-B", "-c", "import mkedit; print(mkedit.edit('CC = gcc\\n', 'set CC clang\\n'))"]
+        path = f"{top / 'bin'}:{os.environ['PATH']}"
+        for library in ("", str(top / "lib/libmkedit.so.0")):
+            environment = {"PATH": path, "PYTHONPATH": str(top / "python"), "MKEDIT_LIBRARY": library}
+            ran = subprocess.run(words, env=environment, capture_output=True, timeout=SECONDS)
+            self.assertEqual((ran.stdout, ran.stderr), (b"b'CC = clang\\n'\n", b""))
 
     def test_make_packs_both(self):
         self.room.copy_program()

@@ -13,6 +13,9 @@ from .errors import BadReply, Ended, Error, Fault, Refused, TimedOut
 from .found import Assignment, Condition, Found, Line, RecipeLine, Rule, Step
 from .places import BOTTOM, Place, after_var, before_rule, before_var
 from .session import Session, open
+from .texts import assignments, edit
+
+__version__ = "0.1.0"
 
 __all__ = [
     "BOTTOM",
@@ -32,7 +35,9 @@ __all__ = [
     "Step",
     "TimedOut",
     "after_var",
+    "assignments",
     "before_rule",
     "before_var",
+    "edit",
     "open",
 ]

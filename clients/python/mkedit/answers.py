@@ -6,6 +6,8 @@ ValueError here.
 
 import re
 from base64 import b64decode
+from collections import Counter
+from dataclasses import replace
 from typing import Any, Dict, Iterator, List, Tuple
 
 from .found import Assignment, Condition, Line, RecipeLine, Rule, Step
@@ -54,8 +56,9 @@ def placed(found: List[Members]) -> Iterator[Tuple[Members, Dict[str, Any]]]:
             yield it, {"file": text_in(it["file"]), "line": line, "depth": depth, "conditions": outer}
 
 
-def assignment(it: Members, place: Dict[str, Any]) -> Assignment:
-    """An object of `vars`."""
+def assignment(it: Members, place: Dict[str, Any], counts: "Counter[str]") -> Assignment:
+    """An object of `vars`, below so many assignments of each name."""
+    counts[text_in(it["name"])] += "targets" not in it
     return Assignment(
         **place,
         modifiers=texts_in(it["modifiers"]),
@@ -64,19 +67,23 @@ def assignment(it: Members, place: Dict[str, Any]) -> Assignment:
         value=text_in(it["value"]),
         targets=texts_in(it["targets"]) if "targets" in it else None,
         separator=text_in(it["separator"]) if "separator" in it else None,
+        nth=counts[text_in(it["name"])] if "targets" not in it else None,
     )
 
 
-def rule(it: Members, place: Dict[str, Any]) -> Rule:
-    """An object of `rules`."""
+def rule(it: Members, place: Dict[str, Any], counts: "Counter[str]") -> Rule:
+    """An object of `rules`, below so many rules for each target."""
+    targets = texts_in(it["targets"])
+    counts.update({*targets})
     return Rule(
         **place,
-        targets=texts_in(it["targets"]),
+        targets=targets,
         separator=text_in(it["separator"]),
         prerequisites=texts_in(it["prerequisites"]),
         order_only=texts_in(it["order_only"]),
         pattern=text_in(it["pattern"]) if "pattern" in it else None,
         inline_recipe=text_in(it["inline_recipe"]) if "inline_recipe" in it else None,
+        nth=counts[targets[0]],
     )
 
 
@@ -107,12 +114,19 @@ def text(found: List[Members]) -> str:
 
 def assignments(found: List[Members]) -> List[Assignment]:
     """The answer to `vars`."""
-    return [assignment(*it) for it in placed(found)]
+    counts: Counter[str] = Counter()
+    return [assignment(*it, counts) for it in placed(found)]
 
 
 def rules(found: List[Members]) -> List[Rule]:
     """The answer to `rules`."""
-    return [rule(*it) for it in placed(found)]
+    counts: Counter[str] = Counter()
+    return [rule(*it, counts) for it in placed(found)]
+
+
+def rules_for(found: List[Members]) -> List[Rule]:
+    """The answer to `rules` of one target."""
+    return [replace(it, nth=nth) for nth, it in enumerate(rules(found), 1)]
 
 
 def recipe_lines(found: List[Members]) -> List[RecipeLine]:

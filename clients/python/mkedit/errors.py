@@ -13,6 +13,59 @@ A bad argument raises ValueError or TypeError before anything is sent.
 from typing import Union
 
 
+# What is so where a command is refused.
+SENTENCES = {
+    # made by tools/texts: refusals
+    "BadArgument": "A field is not what it has to be.",
+    "Reserved": (
+        "The variable is `.RECIPEPREFIX`, in PLACE too, or a target is one of these words: `ifeq`, `ifneq`, "
+        "`ifdef`, `ifndef`, `else`, `endif`, `define`, `endef`, `undefine`, `include`, `-include`, "
+        "`sinclude`, `load`, `-load`, `export`, `unexport`, `override`, `private` or `vpath`."
+    ),
+    "RecipePrefix": (
+        "The file sets `.RECIPEPREFIX` in a way that mkedit does not read: in a conditional, with a modifier "
+        "such as `export`, by `define`, with `+=`, `?=`, `!=` or `:::=`, or to a byte that cannot be a "
+        "prefix, such as the `$` of a reference."
+    ),
+    "NoSuch": "No assignment or rule has this name, or there is no N-th of them.",
+    "Ambiguous": (
+        "Several assignments or several rules have this name, and neither `nth` nor `all` says which are "
+        "meant."
+    ),
+    "Absent": (
+        "The word to remove is no prerequisite of the rule, or no word of the value, and with `all` of no "
+        "value of the name; the rule has no K-th recipe line, or none whose text is OLD."
+    ),
+    "Already": (
+        "The word is already in the list of prerequisites, or in the value, to which the command adds it, and"
+        " with `all` in each value of the name."
+    ),
+    "Taken": "The new name is already a target of a rule or of a target-specific assignment.",
+    "SharedRule": "The rule to remove has several targets.",
+    "Straddles": "A conditional directive stands between the rule's line and its last recipe line.",
+    "OpenValue": (
+        "The value to append to has a reference that is not closed, or ends in a lone `$` or a lone "
+        "backslash."
+    ),
+    "OpenLine": "The new line would follow a last line that would swallow it.",
+    "OpenDefine": "The place is `bottom`, and a define is open at the end of the file.",
+    "Leans": (
+        "Below the change stands a line that begins with the recipe prefix, with only blank lines, comments "
+        "and conditional directives between the two."
+    ),
+    "TooLong": "The text would have more than 16,777,216 bytes.",
+    "NothingToUndo": "There is no edit to undo, or the depth is used up.",
+    "NothingToRedo": (
+        "There is no edit to redo: there was no `undo`, `redo` has redone everything, or an edit was accepted"
+        " since."
+    ),
+    "GroupOpen": "`undo`, `redo` or `begin` stands inside a group.",
+    "NoGroup": "`end` or `cancel` stands outside a group.",
+    "NoMemory": "Memory ran out.",
+    # made until here
+}
+
+
 class Error(Exception):
     """The base of the exceptions of this client."""
 
@@ -20,7 +73,8 @@ class Error(Exception):
 class Refused(Error):
     """A command was refused, and nothing has changed.
 
-    number and name are those of docs/EDITS.md. detail is the count or the field that comes with some.
+    number and name are those of docs/EDITS.md. detail is the count or the field that comes with some. As a
+    str it is these three, as a report has them, and a sentence.
     """
 
     def __init__(self, number: int, name: str, detail: Union[int, str, None]) -> None:
@@ -30,7 +84,8 @@ class Refused(Error):
         self.detail = detail
 
     def __str__(self) -> str:
-        return f"{self.number} {self.name}" + ("" if self.detail is None else f" {self.detail}")
+        detail = "" if self.detail is None else f" {self.detail}"
+        return f"{self.number} {self.name}{detail}: {SENTENCES.get(self.name, 'the command was refused')}"
 
 
 class Fault(Error):

@@ -34,7 +34,11 @@ class Found:
 
 @dataclass(frozen=True)
 class Assignment(Found):
-    """An assignment. One that is for targets has these, and the separator behind them."""
+    """An assignment. One that is for targets has these, and the separator behind them.
+
+    nth is the number by which edits mean it, from 1 among the assignments of its name; they mean none that is
+    for targets.
+    """
 
     modifiers: Tuple[str, ...]
     name: str
@@ -42,11 +46,16 @@ class Assignment(Found):
     value: str
     targets: Optional[Tuple[str, ...]] = None
     separator: Optional[str] = None
+    nth: Optional[int] = None
 
 
 @dataclass(frozen=True)
 class Rule(Found):
-    """A rule. pattern is that of a static pattern rule, and inline_recipe is what follows a `;`."""
+    """A rule. pattern is that of a static pattern rule, and inline_recipe is what follows a `;`.
+
+    nth is the number by which edits mean it, from 1 among the rules for the target that was asked for, or else
+    for its first target.
+    """
 
     targets: Tuple[str, ...]
     separator: str
@@ -54,6 +63,7 @@ class Rule(Found):
     order_only: Tuple[str, ...]
     pattern: Optional[str] = None
     inline_recipe: Optional[str] = None
+    nth: int = 1
 
 
 @dataclass(frozen=True)

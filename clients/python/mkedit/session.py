@@ -3,7 +3,7 @@
 import os
 from contextlib import contextmanager
 from types import TracebackType
-from typing import Iterator, List, Optional, Type
+from typing import ContextManager, Iterator, List, Optional, Type
 
 from . import answers
 from .errors import Error, put_behind
@@ -164,20 +164,28 @@ class Session:
         """Redoes the edit or group that was undone last."""
         self._do("redo")
 
-    @contextmanager
-    def group(self) -> Iterator["Session"]:
+    def group(self) -> ContextManager["Session"]:
         """Edits as one: an exception undoes all of them, and is raised again.
 
         Where they cannot be taken back, for instance since the session has ended, the error that says so is
         in the context of the exception.
         """
+        return self._grouped("end")
+
+    def dry_run(self) -> ContextManager["Session"]:
+        """Tries edits: all of them are undone at the end, where nothing is raised too. None can be redone."""
+        return self._grouped("cancel")
+
+    @contextmanager
+    def _grouped(self, last: str) -> Iterator["Session"]:
+        """Edits of a group, which this command ends, or `cancel` after an exception."""
         self._do("begin")
         try:
             yield self
         except BaseException as fault:
             self._cancel(fault)
             raise
-        self._do("end")
+        self._do(last)
 
     def _cancel(self, fault: BaseException) -> None:
         """Undoes a group after an exception, which no error of this hides."""
@@ -215,7 +223,9 @@ class Session:
 
     def rules(self, target: Optional[str] = None) -> List[Rule]:
         """The rules in their order, or those for a target."""
-        return self._talk.ask(answers.rules, "rules", *([word(target)] if target is not None else []))
+        if target is None:
+            return self._talk.ask(answers.rules, "rules")
+        return self._talk.ask(answers.rules_for, "rules", word(target))
 
     def recipes(self, target: Optional[str] = None) -> List[RecipeLine]:
         """The recipe lines of the rules in their order, or those of the rules for a target."""

@@ -88,6 +88,21 @@ class Client(ClientCase):
                 makefile.set("Y", "1")
         self.assertEqual(makefile.text(), MAKEFILE)
 
+    def test_a_dry_run_leaves_nothing(self):
+        makefile = self.open()
+        makefile.append("CC", "-m32")
+        before = makefile.text(), makefile.history()
+        with makefile.dry_run():
+            makefile.set("CC", "clang")
+            self.assertNotEqual(makefile.text(), before[0])
+            with self.assertRaises(mkedit.Refused):
+                makefile.set("Y", "1")
+        self.assertEqual((makefile.text(), makefile.history()), before)
+        with self.assertRaises(KeyError), makefile.dry_run():
+            makefile.unset("CC")
+            raise KeyError
+        self.assertEqual((makefile.text(), makefile.history()), before)
+
     def test_the_file_changes_by_write_alone(self):
         makefile = self.open()
         makefile.set("CC", "clang")

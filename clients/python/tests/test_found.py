@@ -39,8 +39,8 @@ class Found(ClientCase):
         self.assertEqual(
             makefile.vars(),
             [
-                Assignment(file, 2, 1, in_a, (), "CC", "?=", "gcc"),
-                Assignment(file, 4, 1, in_b, ("export",), "CC", ":=", "clang"),
+                Assignment(file, 2, 1, in_a, (), "CC", "?=", "gcc", nth=1),
+                Assignment(file, 4, 1, in_b, ("export",), "CC", ":=", "clang", nth=2),
                 Assignment(file, 6, 1, in_b, ("override",), "CFLAGS", "+=", "-g", ("debug",), ":"),
             ],
         )
@@ -53,6 +53,18 @@ class Found(ClientCase):
         self.assertEqual(first, Rule(file, 8, 0, (), ("all", "x"), ":", ("a.o",), ("out",), None, " echo"))
         self.assertEqual(second, Rule(file, 11, 0, (), ("a.o", "b.o"), ":", ("%.c",), (), "%.o"))
         self.assertEqual((makefile.rules("b.o"), makefile.rules("no")), ([second], []))
+
+    def test_numbers_are_those_that_edits_take(self):
+        makefile, _ = self.told("X = 1\nt: X = 2\nX += 3\na b:\nb c:\nX = 4\nc a:\nb:\n")
+        self.assertEqual([it.nth for it in makefile.vars()], [1, None, 2, 3])
+        self.assertEqual([it.nth for it in makefile.vars("X")], [1, None, 2, 3])
+        self.assertEqual([(it.targets[0], it.nth) for it in makefile.rules()], [("a", 1), ("b", 2), ("c", 2), ("b", 3)])
+        self.assertEqual([(it.line, it.nth) for it in makefile.rules("a")], [(4, 1), (7, 2)])
+        for it in makefile.vars("X")[2:]:
+            makefile.set("X", f"line {it.line}", nth=it.nth)
+        makefile.depend("c", "d", nth=makefile.rules("c")[1].nth)
+        lines = ["X = 1", "t: X = 2", "X += line 3", "a b:", "b c:", "X = line 6", "c a: d", "b:"]
+        self.assertEqual(makefile.text().splitlines(), lines)
 
     def test_recipe_lines(self):
         makefile, file = self.told()

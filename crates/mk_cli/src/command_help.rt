@@ -18,8 +18,8 @@ pub struct CommandHelp {
 /// What is said of the command of a script that has this word, if one has.
 pub fn command_called(word: &str) -> Option<CommandHelp> {
     let command = command_form(word.as_bytes())?;
-    for (known, text) in TEXTS {
-        if known == word {
+    for (known, text) in &TEXTS {
+        if *known == word {
             return Some(CommandHelp {
                 form: command.0,
                 text,

@@ -408,7 +408,7 @@ makes
 ";
 
 /// What is said of each command of a script, and of the words that may stand before one.
-pub const TEXTS: [(&str, &str); 27] = [
+pub(crate) static TEXTS: [(&str, &str); 27] = [
     ("set", SET),
     ("append", APPEND),
     ("add", ADD),

@@ -5,6 +5,7 @@ use mk_script::table::command_form;
 use mk_script::{Mistake, MistakeCause, mistake_at, nearest_at};
 use std::alloc::{AllocError, Global};
 use std::fmt;
+use std::str::from_utf8;
 
 /// What the lines of the command line are called, where they are the script.
 pub const COMMAND_LINES: &str = "-e";
@@ -66,15 +67,12 @@ pub fn script_mistake<'a>(script: &'a str, text: &[u8], line: u64) -> Option<Scr
 // The command that does what a line, from 1, asks for in words of a makefile or of other programs.
 fn usual_command(text: &[u8], line: u64) -> Option<&'static str> {
     let before = usize::try_from(line).ok()?.checked_sub(1)?;
-    let line = text.split(|byte| *byte == b'\n').nth(before)?;
-    let mut words = line
-        .split(|byte| matches!(*byte, b' ' | b'\t'))
-        .filter(|word| !word.is_empty());
-    let (first, second) = (words.next()?, words.next());
-    match (first, second) {
-        (b"remove" | b"delete" | b"del" | b"rm", _) => Some("unset"),
-        (_, Some(b"=" | b":=" | b"::=" | b":::=" | b"?=")) => Some("set"),
-        (_, Some(b"+=")) => Some("append"),
+    let line = from_utf8(text).ok()?.lines().nth(before)?;
+    let mut words = line.split_whitespace();
+    match (words.next()?, words.next()) {
+        ("remove" | "delete" | "del" | "rm", _) => Some("unset"),
+        (_, Some("=" | ":=" | "::=" | ":::=" | "?=")) => Some("set"),
+        (_, Some("+=")) => Some("append"),
         _ => None,
     }
 }

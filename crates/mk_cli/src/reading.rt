@@ -284,12 +284,12 @@ fn query<'a, R: Drop>(
 fn values<'a>(
     alloc: Global,
     nth: Option<u32>,
-    names: &'a [u8],
+    names: &'a str,
     form: Form,
 ) -> Result<Vec<Question<'a>>, AllocError> {
     let mut questions = Vec::new(alloc);
-    for name in names.split(|byte| *byte == b',') {
-        questions.push(Question::Value(nth, name, form))?;
+    for name in names.split(',') {
+        questions.push(Question::Value(nth, name.as_bytes(), form))?;
     }
     Ok(questions)
 }
@@ -297,7 +297,9 @@ fn values<'a>(
 // What the words of `get` ask for.
 fn value<'a, R: Drop>(alloc: Global, matches: &ArgMatches<'a>) -> Result<Request<'a, R>, Fault> {
     let nth = nth_of(matches)?;
-    let names = bytes_of(matches, VARIABLE.id).ok_or(Fault::Missing("a NAME is required"))?;
+    let names = matches
+        .get_str(VARIABLE.id)
+        .ok_or(Fault::Missing("a NAME is required"))?;
     let questions = values(alloc, nth, names, form_of(matches))?;
     asked(alloc, questions, matches)
 }
@@ -357,8 +359,8 @@ where
 /// no refusal, or says no colours; a number of an assignment that is none; several makefiles without
 /// `-i`, without `--check` and without `--diff` to standard output; `-i` beside `-o`, beside `--diff`,
 /// beside `--check` or without the name of a file; `--check` beside `-o`; a suffix that is empty or has
-/// a `/`, or that stands without `-i`; `--summary` where a text is printed; a report in no form that there is; a session over `-`. A query that `clap` takes fails only if memory runs
-/// out.
+/// a `/`, or that stands without `-i`; `--summary` where a text is printed; a report in no form that there
+/// is; a session over `-`. A query that `clap` takes fails only if memory runs out.
 pub fn read_request<'a, R: FromStr + Drop>(
     alloc: Global,
     words: &'a [String],

@@ -15,6 +15,8 @@ pub enum Query<'a> {
     Recipes(Option<&'a [u8]>),
     /// The lines that are kept and not read inside.
     Check,
+    /// The same, with the text of each line.
+    CheckTexts,
     /// The lines that make may read otherwise.
     Caveats,
 }
@@ -27,6 +29,19 @@ pub enum Question<'a> {
     /// The value of the assignment of this name that `set` takes: that with this number, from 1, or the
     /// only one; in this form.
     Value(Option<u32>, &'a [u8], Form),
+}
+
+impl<'a> Question<'a> {
+    /// The question as a person asks it, who wants to see the lines that `check` lists.
+    pub fn for_person(self) -> Question<'a> {
+        match self {
+            Question::List(Query::Check, Form::Text) => Question::List(
+                Query::CheckTexts,
+                Form::Text,
+            ),
+            question => question,
+        }
+    }
 }
 
 /// How an answer is written.

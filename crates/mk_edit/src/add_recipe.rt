@@ -1,6 +1,7 @@
 //! A new recipe line, planned.
-ghost use Rattle.std.specs.Prelude.{◌≡◌, ◌≤◌, length};
+ghost use Rattle.std.specs.Prelude.{◌≡◌, ◌≤◌, ◌+◌, length};
 ghost use Rattle.mk_tree.specs.Documents.{IsFaithful};
+ghost use Rattle.mk_tree.specs.RecipeLines.{recipe_run};
 ghost use Rattle.mk_edit_language.specs.EditViews.{edit_of};
 ghost use Rattle.mk_edit_parts.specs.RecipeWalks.{lines_from};
 ghost use Rattle.mk_edit_parts.specs.Seeking.{IsLineKnown};
@@ -44,10 +45,10 @@ pub(crate) fn plan_add_recipe<A: Allocator + Copy>(
     // The contract of `len` bounds the number of lines, so that indices can be added to.
     let _count = doc.len();
     let header = find(doc, edit, known)?;
-    let Some(at) = index_for(doc, header.at + 1, number) else {
+    let recipe = recipe_below(doc, header.at + 1);
+    let Some(at) = index_for(doc, header.at + 1, number, recipe.end) else {
         return Err(Refusal::Absent);
     };
-    let recipe = recipe_below(doc, header.at + 1);
     if recipe.is_split {
         return Err(Refusal::Straddles);
     }
@@ -56,14 +57,20 @@ pub(crate) fn plan_add_recipe<A: Allocator + Copy>(
 }
 
 // The index where the new recipe line of a header goes: where it gets this number, or after the last
-// one. The header stands directly before the index `from`.
-fn index_for<A: Allocator>(doc: &Doc<A>, from: usize, number: Option<u32>) -> Option<usize>
+// one, where the recipe ends. The header stands directly before the index `from`.
+fn index_for<A: Allocator>(
+    doc: &Doc<A>,
+    from: usize,
+    number: Option<u32>,
+    end: usize,
+) -> Option<usize>
     requires faithful { IsFaithful doc.now }
     requires in_range { from ≤ length doc.now }
+    requires end { end ≡ from + length (recipe_run (lines_from doc.now from)) }
     ensures { result ≡ place_index (place_for number) from (lines_from doc.now from) }
 {
     match number {
         Some(number) => recipe_gap(doc, from, number),
-        None => Some(recipe_below(doc, from).end),
+        None => Some(end),
     }
 }

@@ -4,6 +4,7 @@ pub mod PartLemmas
 pub mod SeekLemmas
 pub mod WindowLemmas
 pub mod SeekWindows
+pub mod CandidateLemmas
 pub mod FindLemmas
 pub mod LeanLemmas
 pub mod PlaceLemmas

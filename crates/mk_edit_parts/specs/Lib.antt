@@ -3,6 +3,8 @@
 pub mod AddressViews
 pub mod LocatedParts
 pub mod Seeking
+pub mod SeekWalks
+pub mod Candidates
 pub mod Windows
 pub mod Found
 pub mod LineRanges

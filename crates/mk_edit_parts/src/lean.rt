@@ -44,8 +44,11 @@ fn is_led_first<A: Allocator>(doc: &Doc<A>, from: usize, prefix: u8) -> bool
     requires { from ≤ length doc.now }
     ensures { result ≡ is_led_first_located prefix (drop from doc.now) }
 {
+    let mut lines = doc.lines_from(from);
     'lines: for at in from..doc.len() {
-        let line = doc.line(at);
+        let Some(line) = lines.next() else {
+            unreachable!()
+        };
         if begins_with(line.bytes(), prefix) {
             return true;
         }

@@ -10,6 +10,7 @@
 //! - [`window`]: some lines of a document, outside of which a walk need not look; and what is known
 //!   before an edit is planned.
 //! - [`seek`]: the line that an address means, found by one walk.
+//! - [`candidates`]: the lines that assign a variable, by their numbers.
 //! - [`find`]: where an edit applies, after the causes that come before its own.
 //! - [`lean`]: whether lines lean on the flag before them.
 //! - [`place`]: places further down in a document.
@@ -30,6 +31,7 @@
 
 pub mod address;
 pub mod argument;
+pub mod candidates;
 pub mod find;
 pub mod glance;
 pub mod lean;

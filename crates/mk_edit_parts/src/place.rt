@@ -21,8 +21,12 @@ pub fn after_lines<A: Allocator>(doc: &Doc<A>, place: Found, count: usize) -> Fo
     // The contract of `iter` says that each line is admitted where it stands.
     let _lines = doc.iter();
     let mut context = place.context;
+    let mut lines = doc.lines_from(place.at);
     'lines: for at in place.at..place.at + count {
-        context = context.step(&doc.line(at).class());
+        let Some(line) = lines.next() else {
+            unreachable!()
+        };
+        context = context.step(&line.class());
     }
     Found {
         at: place.at + count,

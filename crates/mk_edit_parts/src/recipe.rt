@@ -40,8 +40,12 @@ pub fn recipe_below<A: Allocator>(doc: &Doc<A>, from: usize) -> Recipe
     };
     // Whether a line of a conditional was passed so far.
     let mut is_split = false;
+    let mut lines = doc.lines_from(from);
     'lines: for at in from..doc.len() {
-        let class = doc.line(at).class();
+        let Some(line) = lines.next() else {
+            unreachable!()
+        };
+        let class = line.class();
         if is_recipe(&class) {
             recipe = Recipe {
                 end: at + 1,
@@ -66,8 +70,12 @@ pub fn recipe_line<A: Allocator>(doc: &Doc<A>, from: usize, number: u32) -> Opti
         (nth_of number (recipe_spots_in (lines_from doc.now from))) }
 {
     let mut passed = 0;
+    let mut lines = doc.lines_from(from);
     'lines: for at in from..doc.len() {
-        let class = doc.line(at).class();
+        let Some(line) = lines.next() else {
+            unreachable!()
+        };
+        let class = line.class();
         if is_recipe(&class) {
             passed += 1;
             if passed == number as usize {

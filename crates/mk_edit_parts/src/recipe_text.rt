@@ -44,8 +44,11 @@ pub fn recipe_matches<A: Allocator>(doc: &Doc<A>, from: usize, text: &[u8]) -> M
         first: None,
         count: 0,
     };
+    let mut lines = doc.lines_from(from);
     'lines: for at in from..doc.len() {
-        let line = doc.line(at);
+        let Some(line) = lines.next() else {
+            unreachable!()
+        };
         let class = line.class();
         if is_recipe(&class) {
             if has_text(line, text) {

@@ -11,7 +11,8 @@ ghost use Rattle.mk_tree.specs.Origins.{lines_between};
 ghost use Rattle.mk_tree.specs.Trees.{line_view};
 ghost use Rattle.mk_edit_parts.specs.AddressViews.{address_seen};
 ghost use Rattle.mk_edit_parts.specs.LocatedParts.{IsClassed};
-ghost use Rattle.mk_edit_parts.specs.Seeking.{IsSought, may_mean, noted_by, nothing_seen, seek, wanted};
+ghost use Rattle.mk_edit_parts.specs.Seeking.{IsSought, may_mean, wanted};
+ghost use Rattle.mk_edit_parts.specs.SeekWalks.{noted_by, nothing_seen, seek};
 ghost use Rattle.mk_edit_parts.specs.Windows.{AreWindows, concerns, first_place};
 
 use crate::address::Address;

@@ -1,12 +1,13 @@
 -- What is known of a document that is edited, and what a change of the document means for it.
 -- Told in docs/ARCHITECTURE.md, "The index of a session".
-use Rattle.std.specs.Prelude.{◌≡◌, List, [], ◌∷◌, ◌++◌, Option, None, IfSome}
+use Rattle.std.specs.Prelude.{◌≡◌, ℕ, List, [], ◌∷◌, ◌++◌, Option, None, IfSome}
 use Rattle.mk_lines.specs.Ranges.{text_at}
 use Rattle.mk_class.specs.declared.assignment.Assignment as assignment
 use Rattle.mk_class.specs.declared.class.Class.TheVariants as variants
 use Rattle.mk_tree.specs.LocatedLines.{LocatedLine, text_of_line}
 use Rattle.mk_tree.specs.UnreadPrefixes.{IsEndOf}
 use Rattle.mk_tree.specs.declared.end.End.{End}
+use Rattle.mk_edit_parts.specs.Candidates.{AreCandidates, Listed}
 use Rattle.mk_index.specs.Indexes as indexes
 use Rattle.mk_index.specs.Indexes.{IsIndexOf}
 use Rattle.mk_index.specs.declared.effect.Effect.{Effect}
@@ -21,6 +22,20 @@ pub record Known : Type 0 where
 pub record IsKnownFor (ls : List LocatedLine) (known : Known) : Type 0 where
   pub index_is : IfSome known.index (IsIndexOf ls)
   pub end_is : IfSome known.end (IsEndOf ls)
+
+-- a variable, and the lines that assign it
+pub record NamedLines : Type 0 where
+  pub name : List ℕ
+  pub lines : Listed
+
+-- they are those of some lines
+abbrev pub AreNamedIn : List LocatedLine → NamedLines → Type 0
+AreNamedIn ls n = AreCandidates n.name ls n.lines
+
+-- a change of the lines leaves right what is known of them
+pub record StaysRight (before after : List LocatedLine) : Type 0 where
+  pub known : (k : Known) → IsKnownFor before k → IsKnownFor after k
+  pub named : (n : NamedLines) → AreNamedIn before n → AreNamedIn after n
 
 -- two lines assign the same variable, and neither sets the recipe prefix
 pub record AssignSame (old new : LocatedLine) : Type 0 where
@@ -44,6 +59,6 @@ pub record IsBehind (ls : List LocatedLine) (end : End) : Type 0 where
 -- What a change of the lines means for what is known of them: all of it stays right; or one more
 -- line stands at the end; or nothing is said.
 abbrev pub IsEffect : Effect → (before after : List LocatedLine) → Type 0
-IsEffect Same b a = (known : Known) → IsKnownFor b known → IsKnownFor a known
+IsEffect Same b a = StaysRight b a
 IsEffect Appends b a = IsOneMore b a
 IsEffect Other b a = Unit {0}

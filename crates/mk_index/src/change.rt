@@ -1,4 +1,7 @@
 //! A patch is a change of an indexed document that is never refused.
+ghost use Rattle.std.specs.Prelude.{◌≡◌, ◌+◌, IfOk, IsOk, length};
+ghost use Rattle.mk_patch.specs.Moves.{FitMoves, after_moves, held_by, taken_by};
+
 use crate::document::IndexedDoc;
 use mk_history::{Change, SureChange};
 use mk_lines::Fault;
@@ -34,7 +37,18 @@ impl<A: Allocator + Copy> Change for IndexedPatch<A> {
 
     ghost sure = { true };
 
-    fn apply(self, state: &mut IndexedDoc<A>) -> Result<IndexedPatch<A>, (IndexedPatch<A>, Fault)> {
+    /// Makes the patch, as [`IndexedDoc::make`] does, and gives the patch that takes it back. What goes
+    /// in by the one comes out by the other. Never refused. Takes no memory.
+    fn apply(self, state: &mut IndexedDoc<A>) -> Result<IndexedPatch<A>, (IndexedPatch<A>, Fault)>
+        requires { FitMoves self state.old }
+        ensures after { IfOk result (λ inverse. state.new ≡ after_moves self state.old) }
+        ensures fits_back { IfOk result (λ inverse. FitMoves inverse state.new) }
+        ensures leads_back { IfOk result (λ inverse. after_moves inverse state.new ≡ state.old) }
+        ensures held { IfOk result (λ inverse. held_by inverse ≡ taken_by self) }
+        ensures takes { IfOk result (λ inverse. taken_by inverse ≡ held_by self) }
+        ensures number { length state.new + taken_by self ≡ length state.old + held_by self }
+        ensures sure { IsOk result }
+    {
         Ok(state.make(self.patch))
     }
 }

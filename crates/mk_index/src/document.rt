@@ -2,23 +2,31 @@
 //!
 //! A history changes a document together with what is known of it. If it changed the document
 //! alone, an undo would leave the index behind.
-ghost use Rattle.std.specs.Prelude.{◌≡◌, ◌+◌, length};
+ghost use Rattle.std.specs.Prelude.{◌≡◌, ◌+◌, IfOk, Some, length};
 ghost use Rattle.mk_tree.specs.Documents.{IsFaithful};
+ghost use Rattle.mk_edit_language.specs.Addresses.{Variable};
 ghost use Rattle.mk_edit_language.specs.EditViews.{edit_of};
+ghost use Rattle.mk_edit_parts.specs.Seeking.{IsKnownOf};
 ghost use Rattle.mk_edit_parts.specs.Windows.{IsKnown};
 ghost use Rattle.mk_patch.specs.Moves.{FitMoves, after_moves, held_by, taken_by};
-ghost use Rattle.mk_index.specs.Effects.{IsKnownFor};
+ghost use Rattle.mk_index.specs.Effects.{AreNamedIn, IsKnownFor};
 
 use crate::change::IndexedPatch;
 use crate::effect::{Effect, effect_of};
 use crate::finder::Finder;
 use crate::keys::Expected;
+use crate::numbered::Numbered;
 use mk_edit_language::Edit;
-use mk_edit_parts::window::Known;
+use mk_edit_parts::address::{Address, address_of};
+use mk_edit_parts::seek::Sought;
+use mk_edit_parts::window::{Known, Window};
 use mk_patch::Patch;
 use mk_tree::Doc;
-use std::alloc::{Allocator, Global};
+use std::alloc::{AllocError, Allocator, Global};
 use std::marker::Model;
+
+// The fewest lines of a variable that are noted: to go over fewer takes no longer than the rest of an edit.
+const FEWEST_NOTED: usize = 256;
 
 /// A document with the index of its lines. Contracts see the lines of the document alone: the index
 /// is always one of them, if there is one.
@@ -26,18 +34,21 @@ use std::marker::Model;
 pub struct IndexedDoc<A: Allocator = Global> {
     doc: Doc<A>,
     finder: Finder<A>,
+    // The lines of the variable that an edit last meant by a number, if they were worth noting.
+    numbered: Option<Numbered<A>>,
 }
 
 impl<A: Allocator> Model for IndexedDoc<A> {
-    ghost use Rattle.std.specs.Prelude.{List};
+    ghost use Rattle.std.specs.Prelude.{List, IfSome};
     ghost use Rattle.mk_tree.specs.LocatedLines.{LocatedLine};
-    ghost use Rattle.mk_index.specs.Effects.{IsKnownFor};
+    ghost use Rattle.mk_index.specs.Effects.{AreNamedIn, IsKnownFor};
 
     ghost Value = { List LocatedLine };
 
     ghost view = { λ d. d.doc };
 
-    ghost invariant = { λ d. IsKnownFor d.doc d.finder };
+    ghost invariant = { λ d. IsKnownFor d.doc d.finder
+        × IfSome d.numbered (AreNamedIn d.doc) };
 }
 
 impl<A: Allocator> IndexedDoc<A> {
@@ -46,7 +57,11 @@ impl<A: Allocator> IndexedDoc<A> {
         requires { IsKnownFor doc finder }
         ensures { result ≡ doc }
     {
-        IndexedDoc { doc, finder }
+        IndexedDoc {
+            doc,
+            finder,
+            numbered: None,
+        }
     }
 
     /// The document. Takes no memory.
@@ -73,7 +88,49 @@ impl<A: Allocator + Copy> IndexedDoc<A> {
         ensures known { IsKnown (edit_of edit.now) self.old result }
         ensures same { self.new ≡ self.old }
     {
-        self.finder.known(alloc, &self.doc, edit)
+        let Some(Address::Variable(Some(number), name)) = address_of(edit) else {
+            return self.finder.known(alloc, &self.doc, edit);
+        };
+        if let Some(sought) = self.sought(name, number) {
+            return Known::Line(sought);
+        }
+        let known = self.finder.known(alloc, &self.doc, edit);
+        if self.is_walk_long(&known) {
+            self.numbered = self.lines_of(alloc, name).ok();
+        }
+        known
+    }
+
+    // What the document has for the line of this number of a variable, if its lines are noted.
+    fn sought(&self, name: &[u8], number: u32) -> Option<Sought>
+        requires { IsFaithful self.now }
+        ensures { IsKnownOf (Some (Variable (Some number) name.now)) self.now result }
+    {
+        match &self.numbered {
+            Some(numbered) => numbered.sought(name, number),
+            None => None,
+        }
+    }
+
+    // Whether a long walk found the line of an edit's number, or one has to find it.
+    fn is_walk_long(&self, known: &Known<A>) -> bool {
+        match known {
+            Known::Line(sought) => sought.count >= FEWEST_NOTED,
+            Known::Nothing => self.finder.is_indexed(),
+            Known::Windows(_) => false,
+        }
+    }
+
+    // The lines that assign a variable, by the index or by a walk over all lines.
+    fn lines_of(&mut self, alloc: A, name: &[u8]) -> Result<Numbered<A>, AllocError>
+        requires { IsFaithful self.old }
+        ensures lines { IfOk result (λ numbered. AreNamedIn self.old numbered) }
+        ensures same { self.new ≡ self.old }
+    {
+        match self.finder.for_values(alloc, &self.doc, name) {
+            Some(windows) => Numbered::new(alloc, &self.doc, &windows, name),
+            None => Numbered::new(alloc, &self.doc, &[Window::whole(&self.doc)], name),
+        }
     }
 
     /// Makes a patch that leads from a faithful document to a faithful one, as the patch of a planned
@@ -102,6 +159,7 @@ impl<A: Allocator + Copy> IndexedDoc<A> {
                 back
             }
             _ => {
+                self.numbered = None;
                 self.finder.follow_planned(&self.doc, &patch);
                 IndexedPatch {
                     patch: patch.make(&mut self.doc),
@@ -121,6 +179,7 @@ impl<A: Allocator + Copy> IndexedDoc<A> {
         ensures takes { taken_by result ≡ held_by patch }
         ensures number { length self.new + taken_by patch ≡ length self.old + held_by patch }
     {
+        self.numbered = None;
         self.finder.follow(&patch);
         IndexedPatch {
             patch: patch.make(&mut self.doc),

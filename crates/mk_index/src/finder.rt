@@ -252,9 +252,19 @@ impl<A: Allocator + Copy> Finder<A> {
         windows
     }
 
-    // The windows that the index tells for a change of all values of a name. The index is dropped where
-    // one is dropped that tells of an address.
-    fn for_values(&mut self, alloc: A, doc: &Doc<A>, name: &[u8]) -> Option<Vec<Window, A>>
+    /// Whether there is an index.
+    pub(crate) fn is_indexed(&self) -> bool {
+        self.index.is_some()
+    }
+
+    /// The windows that the index tells for the lines that assign a name. The index is dropped where one is
+    /// dropped that tells of an address.
+    pub(crate) fn for_values(
+        &mut self,
+        alloc: A,
+        doc: &Doc<A>,
+        name: &[u8],
+    ) -> Option<Vec<Window, A>>
         requires faithful { IsFaithful doc.now }
         requires right { IsKnownFor doc.now self.old }
         ensures windows { IfSome result (λ windows.

@@ -9,6 +9,7 @@
 //! - [`index`]: the words of all blocks.
 //! - [`effect`]: what a change of the document means for what is known of it.
 //! - [`finder`]: what is known of a document that is edited.
+//! - [`numbered`]: the lines of a variable that edits mean by numbers.
 //! - [`document`]: a document with what is known of it.
 //! - [`change`]: a patch as a change of such a document.
 //!
@@ -29,6 +30,7 @@ pub mod follow;
 pub mod index;
 pub mod keys;
 pub mod marks;
+pub mod numbered;
 
 pub use change::IndexedPatch;
 pub use document::IndexedDoc;

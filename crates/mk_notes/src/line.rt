@@ -63,15 +63,20 @@ pub(crate) fn gives_anew<A: Allocator>(line: &Line<A>, name: &[u8]) -> bool {
 
 // Whether a value has a reference to the variable of this name, as `$(X) -g` and `$(X:.c=.o)` have.
 fn refers_to(value: &[u8], name: &[u8]) -> bool {
-    value
-        .split(|byte| *byte == b'$')
-        .skip(1)
-        .any(|reference| match reference {
-            [b'(' | b'{', rest @ ..] => rest
-                .strip_prefix(name)
-                .is_some_and(|end| matches!(end, [b')' | b'}' | b':', ..])),
-            _ => name.len() == 1 && reference.starts_with(name),
-        })
+    value.iter().enumerate().any(|(at, byte)| {
+        let behind = value.get(at.saturating_add(1)..);
+        *byte == b'$' && behind.is_some_and(|text| is_reference(text, name))
+    })
+}
+
+// Whether a text behind a `$` begins as a reference to the variable of this name.
+fn is_reference(text: &[u8], name: &[u8]) -> bool {
+    match text {
+        [b'(' | b'{', rest @ ..] => rest
+            .strip_prefix(name)
+            .is_some_and(|end| matches!(end, [b')' | b'}' | b':', ..])),
+        _ => name.len() == 1 && text.starts_with(name),
+    }
 }
 
 /// Whether a line seems to assign the variable of this name where no edit finds it: the line is opaque, or

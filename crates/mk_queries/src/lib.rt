@@ -4,7 +4,8 @@
 //! - [`rules`]: a line of text on each rule; [`rules_for`]: on those for one target.
 //! - [`recipes`]: a line of text on each rule that has recipe lines, and on each of these;
 //!   [`recipes_for`]: on the rules for one target and theirs.
-//! - [`check`]: a line of text on each line that is not read inside, and what is open at the end.
+//! - [`check`]: a line of text on each line that is not read inside, and what is open at the end;
+//!   [`check_texts`]: with the text of each line.
 //! - [`caveats`]: a line of text on each line that make may read otherwise, as far as the lines
 //!   show it; [`line_caveats`]: what make may read otherwise, of each line.
 //!
@@ -38,7 +39,7 @@ mod words;
 
 pub use caveat::Caveat;
 pub use query::caveats::caveats;
-pub use query::check::check;
+pub use query::check::{check, check_texts};
 pub use query::recipes::{recipes, recipes_for};
 pub use query::rules::{rules, rules_for};
 pub use query::vars::{vars, vars_named};

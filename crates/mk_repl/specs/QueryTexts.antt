@@ -16,18 +16,20 @@ use Rattle.mk_cli.specs.declared.request.Question.{Question}
 use Rattle.mk_cli.specs.declared.request.Question.TheVariants as question
 use Rattle.mk_repl.specs.declared.question.Found.{Found}
 use Rattle.mk_repl.specs.declared.question.Found.TheVariants as found
-use Rattle.mk_cli.specs.declared.request.Query.TheVariants.{Vars, Rules, Recipes, Check, Caveats}
+use Rattle.mk_cli.specs.declared.request.Query.TheVariants.{Vars, Rules, Recipes, Check, CheckTexts, Caveats}
 
 -- the name or the target that is asked for, if one is
 abbrev word_asked : Option (Bor (List ℕ)) → Option (List ℕ)
 word_asked word = option_map (λ word. word.now) word
 
--- what a query prints of the lines of a makefile for a person; of `caveats` no definition says it
+-- what a query prints of the lines of a makefile for a person; of `caveats`, and of the texts of lines that
+-- `check` lists, no definition says it
 abbrev pub query_text : Query → List LocatedLine → Option (List ℕ)
 query_text (Vars name) lines = Some (vars_text (word_asked name) lines)
 query_text (Rules target) lines = Some (rules_text (word_asked target) lines)
 query_text (Recipes target) lines = Some (recipes_text (word_asked target) lines)
 query_text Check lines = Some (check_text lines)
+query_text CheckTexts lines = None
 query_text Caveats lines = None
 
 -- a text is the one that a definition says, if one does

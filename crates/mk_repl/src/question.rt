@@ -12,7 +12,9 @@ use mk_json as json;
 use mk_lines::sink::{write_all, write_parts};
 use mk_lines::{ByteSink, Fault};
 use mk_lookup::get;
-use mk_queries::{caveats, check, recipes, recipes_for, rules, rules_for, vars, vars_named};
+use mk_queries::{
+    caveats, check, check_texts, recipes, recipes_for, rules, rules_for, vars, vars_named,
+};
 use mk_session::Refusal;
 use mk_tree::Doc;
 use std::alloc::{AllocError, Allocator};
@@ -106,7 +108,7 @@ pub(crate) fn json_lines<'a, A: Allocator, B: Allocator + Copy>(
         Query::Vars(name) => json::vars(alloc, file, doc, name),
         Query::Rules(target) => json::rules(alloc, file, doc, target),
         Query::Recipes(target) => json::recipes(alloc, file, doc, target),
-        Query::Check => json::check(alloc, file, doc),
+        Query::Check | Query::CheckTexts => json::check(alloc, file, doc),
         Query::Caveats => json::caveats(alloc, file, doc),
     }
 }
@@ -134,6 +136,7 @@ pub(crate) fn put_lines<A: Allocator, W: ByteSink>(
         Query::Recipes(None) => recipes(doc, out),
         Query::Recipes(Some(target)) => recipes_for(doc, target, out),
         Query::Check => check(doc, out),
+        Query::CheckTexts => check_texts(doc, out),
         Query::Caveats => caveats(doc, out),
     }
 }

@@ -10,6 +10,7 @@ use Rattle.mk_session.specs.Calls.{Reply, Call, EditMachine, after_calls, standi
 use Rattle.mk_session.specs.SessionLaws.{IsMade}
 use Rattle.mk_script.specs.Scripts.{CommandAt, EditAt, Step, Alone, Tried, Chain, IsScript}
 use Rattle.mk_script.specs.ScriptsOfCommands.{IsScriptOfCommands}
+use Rattle.mk_script.specs.FirstCommands.{IsScriptOfFirstCommands}
 use Rattle.mk_run.specs.ExecutedSteps.{Answer, StepEnd, is_passed, step_end, executed_steps}
 use Rattle.mk_run.specs.Runs.{RunResult, InCase, IsTooLong, IsRun, IsRunOfCommands, outcome_after, result_after, stopped}
 use Rattle.mk_run.specs.RunEnds.{GoesOn}
@@ -138,14 +139,21 @@ RunsKeepEveryByte =
 
 -- ---- scripts without alternatives
 
--- A script without `try` and `or` runs as its commands do, each executed in its turn and each refusal
--- told; unless the run ends before, for a bad depth or a script that is too long.
-abbrev pub RunsOfCommandsStay : Type 0
-RunsOfCommandsStay =
-    (makefile script : List ℕ) (depth : ℕ) (keep_going : Bool) (commands : List CommandAt)
-    (result : RunResult)
-    → IsScriptOfCommands script commands
+-- A script runs as these commands do, each executed in its turn and each refusal told; unless the run
+-- ends before, for a bad depth or a script that is too long.
+abbrev RunsAs : List CommandAt → (script : List ℕ) → Type 0
+RunsAs commands script =
+    (makefile : List ℕ) (depth : ℕ) (keep_going : Bool) (result : RunResult)
     → IsRun makefile script depth keep_going result
     ↔ InCase (IsBadDepth depth) (result ≡ stopped BadDepth)
     (InCase (IsTooLong script) (result ≡ stopped TooLong)
     (IsRunOfCommands commands makefile depth keep_going result))
+
+-- A script without `try` and `or` runs as its commands do, and a script of first commands as these do.
+abbrev pub RunsOfCommandsStay : Type 0
+RunsOfCommandsStay = (script : List ℕ) (commands : List CommandAt)
+    → IsScriptOfCommands script commands → RunsAs commands script
+
+abbrev pub RunsOfFirstCommandsStay : Type 0
+RunsOfFirstCommandsStay = (script : List ℕ) (commands : List CommandAt)
+    → IsScriptOfFirstCommands script commands → RunsAs commands script

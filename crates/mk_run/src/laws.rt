@@ -2,7 +2,7 @@
 //!
 //! They are about the result that the definitions give a run. The clause `law` of
 //! [`run`](crate::run) says that what the code writes is that result.
-ghost use Rattle.mk_run.specs.RunLaws.{EachRunHasAResult, ResultsAreOne, RunsKeepEveryByte, RunsOfCommandsStay};
+ghost use Rattle.mk_run.specs.RunLaws.{EachRunHasAResult, ResultsAreOne, RunsKeepEveryByte, RunsOfCommandsStay, RunsOfFirstCommandsStay};
 
 /// The run of any script over any makefile, at any depth, has one result.
 pub fn runs_have_one_result()
@@ -30,4 +30,12 @@ pub fn runs_keep_every_byte()
 /// changes nothing of the report, the output and the outcome of such a script.
 pub fn scripts_of_commands_run_as_commands()
     ensures { RunsOfCommandsStay }
+{}
+
+/// A script of first commands runs as these commands, whatever commands there are besides.
+///
+/// It follows from [`mk_script::laws::scripts_of_first_commands_stay`], which says which commands these
+/// are.
+pub fn scripts_of_first_commands_run_as_these()
+    ensures { RunsOfFirstCommandsStay }
 {}

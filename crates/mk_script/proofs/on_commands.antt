@@ -3,3 +3,4 @@ pub mod ReadLemmas
 pub mod WrittenLemmas
 pub mod SayingLemmas
 pub mod AllLemmas
+pub mod FirstLemmas

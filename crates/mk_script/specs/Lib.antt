@@ -7,6 +7,7 @@ pub mod Lines
 -- Scripts, and laws of them
 pub mod Scripts
 pub mod ScriptsOfCommands
+pub mod FirstCommands
 pub mod ScriptLaws
 -- An edit as a line of a script
 pub mod WrittenEdits

@@ -8,6 +8,7 @@ use Rattle.mk_script.specs.CommandTable.{Content, Text, Number, command_fields, 
 use Rattle.mk_script.specs.Lines.{IsSkipped, Saying, Plain, Try, Or, Says}
 use Rattle.mk_script.specs.Scripts.{CommandAt, Step, Alone, IsScript, HasNoCommand}
 use Rattle.mk_script.specs.ScriptsOfCommands.{IsScriptOfCommands, IsFaultOfCommands}
+use Rattle.mk_script.specs.FirstCommands.{IsScriptOfFirstCommands}
 
 -- ---- lines
 
@@ -101,3 +102,12 @@ CommandsAreSteps = (script : List ℕ) (commands : List CommandAt)
 abbrev pub FaultsWithoutAlternativesStay : Type 0
 FaultsWithoutAlternativesStay =
     (script : List ℕ) (number : ℕ) → IsFaultOfCommands script number → HasNoCommand script number
+
+-- ---- scripts of first commands
+
+-- A script whose lines are skipped or are first commands has these commands as its steps, each alone,
+-- and no other steps.
+abbrev pub FirstCommandsStay : Type 0
+FirstCommandsStay = (script : List ℕ) (commands : List CommandAt) (steps : List Step)
+    → IsScriptOfFirstCommands script commands
+    → IsScript script steps ↔ (steps ≡ map Alone commands)

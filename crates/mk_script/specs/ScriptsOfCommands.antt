@@ -8,19 +8,20 @@ use Rattle.mk_script.specs.Fields.{BeginsWithField}
 use Rattle.mk_script.specs.Lines.{script_lines, IsSkipped, HasCommand}
 use Rattle.mk_script.specs.Scripts.{CommandAt}
 
--- Lines, the first of which has this number, are these commands, each with the number of its line;
--- every other line is skipped.
-abbrev pub AreCommands : (number : ℕ) → (lines : List (List ℕ)) → List CommandAt → Type 0
-AreCommands n [] [] = Unit {0}
-AreCommands n [] (c ∷ commands) = ⊥
-AreCommands n (line ∷ lines) [] = IsSkipped line × AreCommands (n + 1) lines []
-AreCommands n (line ∷ lines) (c ∷ commands) =
-    (IsSkipped line × AreCommands (n + 1) lines (c ∷ commands))
-    ⊎ ((c.line ≡ n) × HasCommand line c.command × AreCommands (n + 1) lines commands)
+-- Lines, the first of which has this number, have these commands, each with the number of its line;
+-- every other line is skipped. `Has` says when a line has a command.
+abbrev pub AreCommands : (Has : (line : List ℕ) → Command Edit → Type 0) → (number : ℕ)
+    → (lines : List (List ℕ)) → List CommandAt → Type 0
+AreCommands Has n [] [] = Unit {0}
+AreCommands Has n [] (c ∷ commands) = ⊥
+AreCommands Has n (line ∷ lines) [] = IsSkipped line × AreCommands Has (n + 1) lines []
+AreCommands Has n (line ∷ lines) (c ∷ commands) =
+    (IsSkipped line × AreCommands Has (n + 1) lines (c ∷ commands))
+    ⊎ ((c.line ≡ n) × Has line c.command × AreCommands Has (n + 1) lines commands)
 
 -- the commands of a script without `try` and `or`; its lines are counted from 1
 abbrev pub IsScriptOfCommands : (script : List ℕ) → List CommandAt → Type 0
-IsScriptOfCommands script commands = AreCommands 1 (script_lines script) commands
+IsScriptOfCommands script commands = AreCommands HasCommand 1 (script_lines script) commands
 
 -- a line that is skipped, or is a command
 abbrev pub IsReadable : List ℕ → Type 0

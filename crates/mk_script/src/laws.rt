@@ -1,5 +1,5 @@
 //! Laws that hold for every script, each as the contract of a function that does nothing.
-ghost use Rattle.mk_script.specs.ScriptLaws.{AllBeginsItsEdits, CommandsAreSteps, EachSayingHasALine, EachScriptIsRead, FaultsWithoutAlternativesStay, FieldsAreOne, FirstFaultIsOne, LineSaysOneThing, NoScriptIsBoth, SkippedLineSaysNothing, StepsAreOne, WrittenFieldsAreRead};
+ghost use Rattle.mk_script.specs.ScriptLaws.{AllBeginsItsEdits, CommandsAreSteps, EachSayingHasALine, EachScriptIsRead, FaultsWithoutAlternativesStay, FieldsAreOne, FirstCommandsStay, FirstFaultIsOne, LineSaysOneThing, NoScriptIsBoth, SkippedLineSaysNothing, StepsAreOne, WrittenFieldsAreRead};
 
 /// A line has at most one list of fields, and any fields have a line.
 pub fn lines_and_fields()
@@ -38,4 +38,14 @@ pub fn scripts_say_one_thing()
 pub fn scripts_of_commands_are_read()
     ensures steps { CommandsAreSteps }
     ensures fault { FaultsWithoutAlternativesStay }
+{}
+
+/// A script of first commands means what it meant before there were others: its steps are exactly
+/// these commands, each alone, whatever else a line may be.
+///
+/// The first commands are `set`, `append`, `unset`, `assign`, `rule`, `unrule`, `depend`,
+/// `depend-order`, `undepend`, `recipe`, `recipe-set`, `recipe-del`, `rename`, `undo`, `redo`,
+/// `begin`, `end` and `cancel`; those that have an address may have `nth N` before them.
+pub fn scripts_of_first_commands_stay()
+    ensures { FirstCommandsStay }
 {}

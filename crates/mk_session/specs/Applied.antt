@@ -1,7 +1,8 @@
 -- A call that makes an edit of texts which it copies: what `Session::apply` says of the edit, and what
 -- is left where a text finds no memory.
 -- Told in docs/LIBRARY.md, "Making edits".
-use Rattle.std.specs.Prelude.{◌≡◌, ◌⊎◌, ◌<◌, ◌≤◌, ◌+◌, ◌^◌, Result, Ok, Err}
+use Rattle.std.specs.Prelude.{◌≡◌, ◌⊎◌, ◌≤◌, ◌+◌, Result, Ok, Err}
+use Rattle.mk_tree.specs.Counting.{AreCounted}
 use Rattle.mk_edit_language.specs.Edits.{Edit}
 use Rattle.mk_edit_language.specs.Costs.{cost}
 use Rattle.mk_edit_language.specs.declared.refusal.Refusal.{Refusal}
@@ -12,8 +13,7 @@ use Rattle.mk_session.specs.Sessions.{Seen, answer, IsEditRefusal}
 -- An edit was made.
 pub record IsMadeAs (e : Edit) (before after : Seen) : Type 0 where
   pub done : answer (Apply e) before.shown ≡ Ok after.shown
-  pub counted : after.rereads < 2 ^ 63
-      → after.rereads ≡ before.rereads + cost before.shown.text e
+  pub counted : AreCounted before.rereads (cost before.shown.text e) after.rereads
   pub few_read : after.rereads ≤ before.rereads + cost before.shown.text e
   pub forward : before.rereads ≤ after.rereads
 

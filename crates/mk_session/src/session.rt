@@ -4,7 +4,7 @@
 //! the invariant speaks of the documents to which undoing and redoing lead, one for each member of
 //! the history. A call that finds no memory is one that the session machine grants: want of memory
 //! never stands in place of a refusal.
-ghost use Rattle.std.specs.Prelude.{◌≡◌, ◌≤◌, ◌+◌, ◌^◌, ◌<◌, ◌↔◌, Ok, Err, IfOk, IfErr, IsOkUnless, OnOk, OnErr, length, is_ok, is_some, nat_lt, Some, None};
+ghost use Rattle.std.specs.Prelude.{◌≡◌, ◌≤◌, ◌+◌, ◌↔◌, Ok, Err, IfOk, IfErr, IsOkUnless, OnOk, OnErr, length, is_ok, is_some, nat_lt, Some, None};
 ghost use Rattle.mk_lines.specs.Limits.{max_text};
 ghost use Rattle.mk_tree.specs.Counting.{AreCounted};
 ghost use Rattle.mk_tree.specs.Documents.{IsFaithful, IsFaithfulTo, IsTooDeep};
@@ -51,26 +51,20 @@ pub struct Session<A: Allocator = Global> {
     doc: IndexedDoc<A>,
     history: History<Sequence<IndexedPatch<A>, A>, A>,
     group: Option<Sequence<IndexedPatch<A>, A>>,
+    // Counts the lines that were read since the session was opened.
     meter: Meter,
-    // What the meter said when the session was opened.
-    opened_at: u64,
 }
 
 impl<A: Allocator> Model for Session<A> {
-    ghost use Rattle.std.specs.Prelude.{◌≤◌, ◌-◌};
-    ghost use Rattle.mk_lines.specs.Limits.{max_text};
     ghost use Rattle.mk_session.specs.Sessions.{Seen};
     ghost use Rattle.mk_session.specs.StoredSessions.{IsStored, shown_stored};
 
     ghost Value = { Seen };
 
     ghost view = { λ s.
-        record { shown = shown_stored s.history s.group s.doc; rereads = s.meter - s.opened_at } };
+        record { shown = shown_stored s.history s.group s.doc; rereads = s.meter } };
 
-    ghost invariant = { λ s.
-        IsStored s.history s.group s.doc
-        × (s.opened_at ≤ s.meter)
-        × (s.opened_at ≤ max_text) };
+    ghost invariant = { λ s. IsStored s.history s.group s.doc };
 }
 
 impl<A: Allocator + Copy> Session<A> {
@@ -120,28 +114,22 @@ impl<A: Allocator + Copy> Session<A> {
         let mut meter = Meter::new();
         let (doc, end) = Doc::parse_with_end(alloc, text, &mut meter)?;
         let finder = Finder::over(&doc, end);
-        Session::over(alloc, IndexedDoc::new(doc, finder), depth, meter)
+        Session::over(alloc, IndexedDoc::new(doc, finder), depth)
     }
 
-    // A session on a document, with nothing to undo or redo. The meter has counted the document's
-    // lines.
-    fn over(alloc: A, doc: IndexedDoc<A>, depth: u32, meter: Meter) -> Result<Session<A>, Fault>
+    // A session on a document, with nothing to undo or redo, and with no line read.
+    fn over(alloc: A, doc: IndexedDoc<A>, depth: u32) -> Result<Session<A>, Fault>
         requires good { IsBadDepth depth → ⊥ }
         requires faithful { IsFaithful doc }
-        requires counted { AreCounted 0 (length doc) meter }
         ensures opened { IfOk result (λ s. s ≡ seen_opened depth (located_text doc)) }
         ensures fault { IsOkUnless result Fault.NoMemory }
     {
-        let history = History::new(alloc, depth)?;
-        prove!(doc.doc().len() <= MAX_TEXT);
-        let opened_at = meter.count();
         Ok(Session {
             alloc,
             doc,
-            history,
+            history: History::new(alloc, depth)?,
             group: None,
-            meter,
-            opened_at,
+            meter: Meter::new(),
         })
     }
 
@@ -171,8 +159,8 @@ impl<A: Allocator + Copy> Session<A> {
         ensures refused { IfErr result (λ refusal.
             IsEditRefusal (edit_of edit.now) self.old.shown refusal) }
         ensures same { OnErr result (self.new.shown ≡ self.old.shown) }
-        ensures counted { OnOk result (self.new.rereads < 2 ^ 63
-            → self.new.rereads ≡ self.old.rereads + cost self.old.shown.text (edit_of edit.now)) }
+        ensures counted { OnOk result (AreCounted self.old.rereads
+            (cost self.old.shown.text (edit_of edit.now)) self.new.rereads) }
         ensures few_read { self.new.rereads
             ≤ self.old.rereads + cost self.old.shown.text (edit_of edit.now) }
         ensures forward { self.old.rereads ≤ self.new.rereads }
@@ -355,11 +343,11 @@ impl<A: Allocator> Session<A> {
 
     /// How many lines were read since the session was opened. An undo or a redo reads none, and an
     /// edit as many as it costs, or at most as many if it is refused. The count stays once it is the
-    /// greatest `u64` less the lines of the text that was opened. Takes no memory.
+    /// greatest `u64`. Takes no memory.
     pub fn rereads(&self) -> u64
         ensures { result ≡ self.now.rereads }
     {
-        self.meter.count() - self.opened_at
+        self.meter.count()
     }
 }
 

@@ -19,7 +19,7 @@ ghost use Rattle.mk_repl.specs.QueryTexts.{IsSaid, answer_refusal, answer_text, 
 use crate::ending::{Effect, End, Statuses, query_outcome};
 use crate::input::{input_name, name_of, open_input};
 use crate::several::{Told, put_named, tell_end, tell_named};
-use mk_cli::{Form, Input, Progress, QueryWords, Question};
+use mk_cli::{Form, Input, Progress, QueryWords, Question, Report};
 use mk_escape::{shown_name, shown_text};
 use mk_fs::{STANDARD_OUTPUT, Stream, WithError};
 use mk_lines::source::{BUFFER, MAX_TEXT, read_all};
@@ -327,6 +327,10 @@ fn ask_one<'e>(
         _ => None,
     };
     let names = [name.map(|name| name.as_bytes()), variable];
+    let question = match words.report.at(rt.stdout().is_terminal()) {
+        Report::Notes => question.for_person(),
+        Report::Plain | Report::Json => question,
+    };
     let mut report = Vec::new(rt.alloc());
     let mut lines = StdSink::new(&mut report);
     let asked = ask_open(rt, question, prefix, file, stream, &mut lines);

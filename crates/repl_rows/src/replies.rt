@@ -1,6 +1,7 @@
 //! What a line asks for, and what is replied to it.
 ghost use Rattle.std.specs.Prelude.{◌≡◌, false};
 
+use bstr::ByteSlice;
 use mk_lines::{ByteSink, Fault};
 use mk_repl::{
     Executed, Reverted, answer_line, answer_lines, execute_line, line_length, lines_between,
@@ -46,7 +47,7 @@ pub fn write(
     requires { out.old.is_failed ≡ false }
 {
     let mut session = Session::open(case.alloc, makefile, 100)?;
-    for line in lines.split(|byte| *byte == b'|') {
+    for line in lines.split_str(b"|") {
         if out.failed() {
             return Err(Fault::Write);
         }
@@ -64,7 +65,7 @@ pub fn heard(case: &Case<'_>, makefile: &[u8], lines: &[u8]) -> Result<Vec<u8>, 
 fn hear(case: &Case<'_>, session: &mut Session, lines: &[u8]) -> Result<Vec<u8>, Fault> {
     let mut shown = String::new(case.alloc);
     let mut out = MemorySink::new(Vec::new(case.alloc), 3);
-    for line in lines.split(|byte| *byte == b'|') {
+    for line in lines.split_str(b"|") {
         if out.failed() {
             return Err(Fault::Write);
         }

@@ -1,6 +1,7 @@
 //! Groups of edits that are one call, and their dry runs.
 
 use crate::sessions::{commands_of, edit_of, executed, text_of};
+use bstr::ByteSlice;
 use mk_lines::Fault;
 use mk_session::{Edit, Refusal, Session};
 use test_support::text::joined;
@@ -25,7 +26,7 @@ pub fn answered(
 /// The edits of lines.
 fn edits_of<'h>(case: &Case<'h>, lines: &[u8]) -> Result<Vec<Edit<&'h Heap>>, Fault> {
     let mut edits = Vec::new(case.alloc);
-    for line in lines.split(|byte| *byte == b'\n') {
+    for line in lines.split_str(b"\n") {
         edits.push(edit_of(case.heap, line)?)?;
     }
     Ok(edits)

@@ -4,6 +4,7 @@ ghost use Rattle.std.specs.Prelude.{◌≡◌, IfOk};
 ghost use Rattle.mk_tree.specs.Documents.{IsFaithful};
 
 use crate::sessions::{edit_of, growths_of};
+use bstr::ByteSlice;
 use mk_class::Meter;
 use mk_edit::plan_with;
 use mk_edit_parts::address::Address;
@@ -112,7 +113,7 @@ fn known_in_turn(alloc: Global, indexed: &mut IndexedDoc, edits: &[u8]) -> Resul
     requires { IsFaithful indexed.old }
 {
     let mut shown = String::new(alloc);
-    for edit in edits.split(|byte| *byte == b'\n') {
+    for edit in edits.split_str(b"\n") {
         let known = is_known(alloc, indexed, edit)?;
         shown.push_str(if known { "known " } else { "unknown " })?;
     }

@@ -1,6 +1,7 @@
 //! Sessions, and what they do without memory.
 
 use crate::index::document;
+use bstr::ByteSlice;
 use mk_lines::Fault;
 use mk_lookup::{find_assignment, find_rule, get};
 use mk_script::{Step, parse_script};
@@ -35,7 +36,7 @@ pub fn commands_of<'h>(
     script: &[u8],
 ) -> Result<Vec<Command<&'h Heap>>, Fault> {
     let mut commands = Vec::new(alloc);
-    for line in script.split(|byte| *byte == b'\n') {
+    for line in script.split_str(b"\n") {
         if !line.is_empty() {
             commands.push(command_of(heap, line)?)?;
         }

@@ -17,7 +17,8 @@ use Rattle.mk_edit_language.specs.Spots.{spots, spot_if, under, nth_of}
 use Rattle.mk_edit_language.specs.Addresses.{Address, Variable, Rule, assigns, is_rule_for}
 use Rattle.mk_edit_language.specs.AddressCauses.{is_unread_prefix}
 use Rattle.mk_edit_parts.specs.LocatedParts.{AreEachClassed, is_unread_located}
-use Rattle.mk_edit_parts.specs.Seeking.{may_mean, wanted, noted_by, noted, seek, nothing_seen, standing_found, candidates_of, IsSought}
+use Rattle.mk_edit_parts.specs.Seeking.{may_mean, wanted, standing_found, candidates_of, IsSought}
+use Rattle.mk_edit_parts.specs.SeekWalks.{noted_by, noted, seek, nothing_seen}
 use Rattle.mk_edit_parts.specs.declared.seek.Found.{Found}
 use Rattle.mk_edit_parts.specs.declared.seek.Sought.{Sought}
 use Rattle.mk_edit_parts.proofs.on_finding.PartLemmas.{assigns-located, rule_for-located, unread-located}

@@ -10,7 +10,8 @@ use Rattle.mk_tree.specs.Origins.{lines_between}
 use Rattle.mk_tree.proofs.AdmissionLemmas.{drop-step}
 use Rattle.mk_edit_language.specs.Addresses.{Address}
 use Rattle.mk_edit_parts.specs.LocatedParts.{AreEachClassed, is_unread_located}
-use Rattle.mk_edit_parts.specs.Seeking.{IsSought, may_mean, noted, noted_by, nothing_seen, seek, wanted}
+use Rattle.mk_edit_parts.specs.Seeking.{IsSought, may_mean, wanted}
+use Rattle.mk_edit_parts.specs.SeekWalks.{noted, noted_by, nothing_seen, seek}
 use Rattle.mk_edit_parts.specs.Windows.{AreWindows, NonePasses, below, below_all, concerns, first_place}
 use Rattle.mk_edit_parts.specs.declared.seek.Found.{Found}
 use Rattle.mk_edit_parts.specs.declared.seek.Sought.{Sought}
@@ -144,9 +145,12 @@ pub walked-at : (a : Option Address) (w : ℕ) (d : List LocatedLine) (s : Sough
 walked-at a w d s ws i x h e W = walked-into a w d s x (drop (i + 1) ws) (subst (IsWalked a w d s) (left-at ws i x h e) W)
 
 -- the walk at its end
+walked-all : (a : Option Address) (w : ℕ) (d : List LocatedLine) (s : Sought) (ws : List Window) → ws ≡ [] → IsWalked a w d s ws → s ≡ seek (may_mean a) w nothing_seen d
+walked-all a w d s ws e W =
+    let none : W.rest ≡ [] = subst (λ z. AreWindows (concerns a) s.end W.rest z) e W.ahead.windows in
+    sym (ap (seek (may_mean a) w s) none) ∙ W.walked
+
 pub walked-over : (a : Option Address) (w : ℕ) (d : List LocatedLine) (s : Sought) (ws : List Window) → ws ≡ [] → w ≡ wanted a → IsFaithful d → IsWalked a w d s ws → IsSought (classed_lines (located_text d)) a s
 walked-over a w d s ws e f h W =
-    let none : W.rest ≡ [] = subst (λ z. AreWindows (concerns a) s.end W.rest z) e W.ahead.windows in
-    let all : s ≡ seek (may_mean a) (wanted a) nothing_seen d =
-    sym (ap (seek (may_mean a) w s) none) ∙ (W.walked ∙ ap (λ n. seek (may_mean a) n nothing_seen d) f) in
+    let all : s ≡ seek (may_mean a) (wanted a) nothing_seen d = walked-all a w d s ws e W ∙ ap (λ n. seek (may_mean a) n nothing_seen d) f in
     subst (IsSought (classed_lines (located_text d)) a) (sym all) (lines-sought d a h)

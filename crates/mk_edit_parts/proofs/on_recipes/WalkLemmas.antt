@@ -199,3 +199,12 @@ index-ended n p ls at l h a b = rw (drop_at ls at l h, a, b)
 pub index-here : (n p : ℕ) (ls : List LocatedLine) (at : ℕ) (l : LocatedLine) → Some l ≡ slice_get ls at → is_recipe_located l.class ≡ true → p + 1 ≡ n
     → recipe_index_from n p at (drop at ls) ≡ Some at
 index-here n p ls at l h a b = rw (drop_at ls at l h, a, eq-eqb (p + 1) n b)
+
+-- ---- the line that is ahead
+
+-- the first of the lines that are ahead stands here
+pub ahead-here : (ls left : List LocatedLine) (at : ℕ) (l : LocatedLine) → drop at ls ≡ l ∷ left → Some l ≡ slice_get ls at
+ahead-here [] left zero l e = absurd (cc)
+ahead-here [] left (suc at) l e = absurd (cc)
+ahead-here (x ∷ ls) left zero l e = let same : l ≡ x = cc in ap (λ (z : LocatedLine). Some z) same
+ahead-here (x ∷ ls) left (suc at) l e = ahead-here ls left at l e

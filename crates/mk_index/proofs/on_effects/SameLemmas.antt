@@ -7,11 +7,14 @@ use Rattle.mk_class.specs.RecipePrefix.{is_prefix_name}
 use Rattle.mk_tree.specs.LocatedLines.{LocatedLine, context_after_located_lines, text_of_line}
 use Rattle.mk_tree.specs.UnreadPrefixes.{IsEndOf}
 use Rattle.mk_tree.specs.declared.end.End.{End}
-use Rattle.mk_edit_parts.specs.LocatedParts.{AreEachClassed, IsClassed, is_unread_in, is_unread_located}
+use Rattle.std.specs.Str.{bytes_eq}
+use Rattle.mk_edit_parts.specs.LocatedParts.{AreEachClassed, IsClassed, assigns_in, assigns_located, is_unread_in, is_unread_located}
+use Rattle.mk_edit_parts.specs.SeekWalks.{noted, noted_by, nothing_seen, seek}
+use Rattle.mk_edit_parts.specs.declared.seek.Sought.{Sought}
 use Rattle.mk_patch.specs.Moves.{Move, Exchange, after_moves}
 use Rattle.mk_index.specs.Blocks.{AreBlocks, AreLinesMentioned, expected_after}
 use Rattle.mk_index.specs.Chains.{AreMentioned, Mention, hash_of}
-use Rattle.mk_index.specs.Effects.{AssignSame, IsKnownFor, Known}
+use Rattle.mk_index.specs.Effects.{AssignSame, IsKnownFor, Known, StaysRight}
 use Rattle.mk_index.specs.Exchanges.{IsHeld, TakesPlace}
 use Rattle.mk_index.specs.Indexes as indexes
 use Rattle.mk_index.specs.Indexes.{IsIndexOf}
@@ -149,12 +152,42 @@ end-same ls at k l None there leads unread h = tt
 end-same ls at k l (Some e) there leads unread h = end-same-of ls at k l e there leads unread h
 
 -- what is known stays right
-pub exchanged-same : (doc : List LocatedLine) (ms : List Move) (at : ℕ) (k l : LocatedLine) → ms ≡ Exchange at l ∷ [] → Some k ≡ slice_get doc at → AssignSame k l → (known : Known) → IsKnownFor doc known → IsKnownFor (after_moves ms doc) known
+exchanged-same : (doc : List LocatedLine) (ms : List Move) (at : ℕ) (k l : LocatedLine) → ms ≡ Exchange at l ∷ [] → Some k ≡ slice_get doc at → AssignSame k l → (known : Known) → IsKnownFor doc known → IsKnownFor (after_moves ms doc) known
 exchanged-same doc ms at k l is there same known h =
     let place = same-place k l same in
     let every : Scope = record { names = true; targets = true; prerequisites = true } in
     let one = place every [] 0 in
     subst (λ (ns : List Move). IsKnownFor (after_moves ns doc) known) (sym is) (record { index_is = index-same doc at k l known.index there place h.index_is; end_is = end-same doc at k l known.end there one.context_is one.unread_is h.end_is })
+
+-- ---- the lines that assign a variable
+
+assigns-same : (n : List ℕ) (k l : LocatedLine) → AssignSame k l → assigns_located n k ≡ assigns_located n l
+assigns-same n k l h = ap (assigns_in (text_of_line k) n) h.old_is ∙ (ap (λ (m : List ℕ). bytes_eq m n) h.name_is ∙ sym (ap (assigns_in (text_of_line l) n) h.new_is))
+
+-- a line that a walk notes alike
+noted-same : (p : LocatedLine → Bool) (w : ℕ) (k l : LocatedLine) (s : Sought) → p k ≡ p l → is_unread_located k ≡ is_unread_located l → LeadsAlike k l → noted p w l s ≡ noted p w k s
+noted-same p w k l s test unread leads =
+    ap (λ (b : Bool). noted_by b (is_unread_located l) w l.class s) (sym test)
+    ∙ (ap (λ (b : Bool). noted_by (p k) b w l.class s) (sym unread)
+    ∙ ap (λ (c : Context). record (noted_by (p k) (is_unread_located k) w k.class s) { end = record { at = s.end.at + 1; context = c } }) (sym (leads s.end.context)))
+
+seek-same : (p : LocatedLine → Bool) (w : ℕ) (s : Sought) (ls : List LocatedLine) (at : ℕ) (k l : LocatedLine) → Some k ≡ slice_get ls at → p k ≡ p l → is_unread_located k ≡ is_unread_located l → LeadsAlike k l → seek p w s (with_line at l ls) ≡ seek p w s ls
+seek-same p w s [] at k l there test unread leads = absurd (cc)
+seek-same p w s (x ∷ ls) zero k l there test unread leads =
+    let here : k ≡ x = ap (line_or k) there in
+    ap (λ (z : Sought). seek p w z ls) (noted-same p w k l s test unread leads ∙ ap (λ (y : LocatedLine). noted p w y s) here)
+seek-same p w s (x ∷ ls) (suc at) k l there test unread leads = ap (seek p w s) (step at x l ls) ∙ seek-same p w (noted p w x s) ls at k l there test unread leads
+
+-- what is known stays right, and the lines that assign a variable are noted as they are
+pub exchanged-right : (doc : List LocatedLine) (ms : List Move) (at : ℕ) (k l : LocatedLine) → ms ≡ Exchange at l ∷ [] → Some k ≡ slice_get doc at → AssignSame k l → StaysRight doc (after_moves ms doc)
+exchanged-right doc ms at k l is there same =
+    let one = same-place k l same (record { names = true; targets = true; prerequisites = true }) [] 0 in
+    record {
+      known = exchanged-same doc ms at k l is there same;
+      named = λ n h w.
+          h w ∙ (sym (seek-same (assigns_located n.name) w nothing_seen doc at k l there (assigns-same n.name k l same) one.unread_is one.context_is)
+          ∙ ap (λ (ns : List Move). seek (assigns_located n.name) w nothing_seen (after_moves ns doc)) (sym is));
+    }
 
 -- the line that goes in has its class
 each-middle : (xs : List LocatedLine) (l : LocatedLine) (ys : List LocatedLine) → AreEachClassed (xs ++ l ∷ ys) → IsClassed l

@@ -1,5 +1,5 @@
 //! The query `check`: the lines that are kept and not read inside, and what is open at the end.
-ghost use Rattle.std.specs.Prelude.{◌≡◌, false};
+ghost use Rattle.std.specs.Prelude.{◌≡◌, ℕ, List, false};
 ghost use Rattle.mk_lines.specs.Device.{Writes};
 ghost use Rattle.mk_tree.specs.Documents.{IsFaithful};
 ghost use Rattle.mk_tree.specs.Printing.{Gathers};
@@ -45,6 +45,61 @@ pub fn check<A: Allocator, W: ByteSink>(doc: &Doc<A>, out: &mut W) -> Result<(),
     }
     put_end(&mut gathered, out, doc.end_context())?;
     write_all(out, &gathered)
+}
+
+/// Writes the lines of [`check`] with the text of each line of the makefile behind them, for a person.
+/// In a text folds are spaces. Nothing is flushed. Takes no memory.
+///
+/// ```text
+/// 3: opaque: $(eval $(call rules,all))
+/// end: conditionals 2
+/// ```
+///
+/// It asks for a faithful document. What it writes its contract does not say: it is a hint.
+///
+/// # Errors
+///
+/// [`Fault::Write`] if a write answered it or took no byte. A prefix of the text is out then.
+pub fn check_texts<A: Allocator, W: ByteSink>(doc: &Doc<A>, out: &mut W) -> Result<(), Fault>
+    requires faithful { IsFaithful doc.now }
+    requires works { W.failed out.old ≡ false }
+    ensures { (text : List ℕ)
+        × Writes W.contents W.failed W.flushes out.old out.new result text }
+{
+    let mut gathered = Gathered::new();
+    'lines: for (position, line) in numbered(doc) {
+        put_text(
+            &mut gathered,
+            out,
+            position.number,
+            &line.class(),
+            line.text(),
+        )?;
+    }
+    put_end(&mut gathered, out, doc.end_context())?;
+    write_all(out, &gathered)
+}
+
+// Puts a line on a line of this number, class and text, if it is kept and not read inside.
+fn put_text<W: ByteSink>(
+    gathered: &mut Gathered,
+    out: &mut W,
+    number: usize,
+    class: &Class,
+    text: &[u8],
+) -> Result<(), Fault>
+    requires { W.failed out.old ≡ false }
+    ensures { (text : List ℕ) × Gathers W.contents W.failed W.flushes out.old out.new
+        gathered.old.items gathered.new.items result text }
+{
+    let kind: &[u8] = match class {
+        Class::Rough => b": rough: ",
+        Class::Opaque => b": opaque: ",
+        _ => return Ok(()),
+    };
+    let mut digits = itoa::Buffer::new();
+    let number = digits.format(number).as_bytes();
+    put_parts(gathered, out, &[number, kind, text, b"\n"])
 }
 
 // Puts a line on a line of this number and class, if it is kept and not read inside.

@@ -14,14 +14,14 @@ use Rattle.mk_session.proofs.on_sessions.CallLemmas.{standing-replayed, all-undo
 use Rattle.mk_script.specs.Scripts.{CommandAt, EditAt, Step, Alone, Tried, Chain, IsScript}
 use Rattle.mk_script.specs.ScriptsOfCommands.{IsScriptOfCommands}
 use Rattle.mk_script.proofs.on_scripts.OneLemmas.{steps-one, not-both}
-use Rattle.mk_script.proofs.on_scripts.CommandLemmas.{commands-steps}
+use Rattle.mk_script.proofs.on_scripts.CommandLemmas.{commands-steps, of-commands}
 use Rattle.mk_run.specs.ExecutedCommands.{Executed, after_refusal, executed_next, executed}
 use Rattle.mk_run.specs.ExecutedSteps.{Answer, StepEnd, is_missing, is_met, unless, alone_end, tried_end, last_end, is_passed, chain_end, step_end, steps_next, executed_steps}
 use Rattle.mk_run.specs.Runs.{RunResult, InCase, IsTooLong, IsRunOf, IsRunOfCommands, IsRun, ended, shown_or, outcome_after, output_after, result_after, stopped}
 use Rattle.mk_run.specs.RunEnds.{GoesOn}
 use Rattle.mk_run.specs.declared.outcome.Outcome as o
 use Rattle.mk_run.specs.declared.outcome.Outcome.TheVariants.{BadDepth, TooLong, TooDeep}
-use Rattle.mk_run.specs.RunLaws.{reply_of, called, chain_calls, step_calls, tried_next, tried, DoesAsStated, DoAsStated, machine_after, AreUndos, KeepEveryByte, RunsKeepEveryByte, RunsOfCommandsStay}
+use Rattle.mk_run.specs.RunLaws.{reply_of, called, chain_calls, step_calls, tried_next, tried, DoesAsStated, DoAsStated, machine_after, AreUndos, KeepEveryByte, RunsKeepEveryByte, RunsOfCommandsStay, RunsOfFirstCommandsStay}
 use Rattle.mk_run.proofs.on_runs.CommandLemmas.{joined, executed-append}
 use Rattle.mk_run.proofs.on_runs.RunLemmas.{output-some}
 
@@ -332,4 +332,7 @@ module _ (makefile script : List ℕ) (depth : ℕ) (k : Bool) (commands : List 
   from-run (inr (good, inr (short, run))) = inr (good, inr (short, inr (map Alone commands, commands-steps script commands are, from-commands run)))
 
 pub commands-stay : RunsOfCommandsStay
-commands-stay makefile script depth k commands result are = (to-run makefile script depth k commands result are, from-run makefile script depth k commands result are)
+commands-stay script commands are makefile depth k result = (to-run makefile script depth k commands result are, from-run makefile script depth k commands result are)
+
+pub first-commands-stay : RunsOfFirstCommandsStay
+first-commands-stay script commands are = commands-stay script commands (of-commands script commands are)

@@ -2,7 +2,8 @@
 //!
 //! The edits are made and taken back: each is an edit of the text to which those before it lead, so
 //! there is no shorter way to know.
-ghost use Rattle.std.specs.Prelude.{◌≡◌, ◌≤◌, ◌+◌, ◌^◌, ◌<◌, true, IfErr, OnOk, is_ok, map};
+ghost use Rattle.std.specs.Prelude.{◌≡◌, ◌≤◌, ◌+◌, true, IfErr, OnOk, is_ok, map};
+ghost use Rattle.mk_tree.specs.Counting.{AreCounted};
 ghost use Rattle.mk_edit_language.specs.EditViews.{edit_of};
 ghost use Rattle.mk_session.specs.Groups.{IsGroupRefusal, costs_in_turn};
 ghost use Rattle.mk_session.specs.InTurn.{answers, as_group};
@@ -27,8 +28,8 @@ impl<A: Allocator + Copy> Session<A> {
         ensures forward { self.old.rereads ≤ self.new.rereads }
         ensures few_read { self.new.rereads
             ≤ self.old.rereads + costs_in_turn (map edit_of edits.now) self.old.shown.text }
-        ensures counted { OnOk result (self.new.rereads < 2 ^ 63 → self.new.rereads
-            ≡ self.old.rereads + costs_in_turn (map edit_of edits.now) self.old.shown.text) }
+        ensures counted { OnOk result (AreCounted self.old.rereads
+            (costs_in_turn (map edit_of edits.now) self.old.shown.text) self.new.rereads) }
         ensures same { self.new.shown ≡ self.old.shown }
         ensures refused { IfErr result (λ refused.
             IsGroupRefusal (map edit_of edits.now) self.old.shown refused.0 refused.1) }

@@ -2,7 +2,7 @@
 //!
 //! The call does not stand on `begin` and `cancel`: the first edit of an open group drops what can
 //! be redone, and a cancel does not bring that back.
-ghost use Rattle.std.specs.Prelude.{◌≡◌, ◌≤◌, ◌+◌, ◌^◌, ◌<◌, Ok, IfOk, IfErr, OnOk, OnErr, length, map};
+ghost use Rattle.std.specs.Prelude.{◌≡◌, ◌≤◌, ◌+◌, ◌<◌, Ok, IfOk, IfErr, OnOk, OnErr, length, map};
 ghost use Rattle.mk_tree.specs.Counting.{AreCounted};
 ghost use Rattle.mk_tree.specs.Documents.{IsFaithful};
 ghost use Rattle.mk_tree.specs.LocatedLines.{located_text};
@@ -45,8 +45,8 @@ impl<A: Allocator + Copy> Session<A> {
         ensures refused { IfErr result (λ refused.
             IsGroupRefusal (map edit_of edits.now) self.old.shown refused.0 refused.1) }
         ensures same { OnErr result (self.new.shown ≡ self.old.shown) }
-        ensures counted { OnOk result (self.new.rereads < 2 ^ 63 → self.new.rereads
-            ≡ self.old.rereads + costs_in_turn (map edit_of edits.now) self.old.shown.text) }
+        ensures counted { OnOk result (AreCounted self.old.rereads
+            (costs_in_turn (map edit_of edits.now) self.old.shown.text) self.new.rereads) }
         ensures few_read { self.new.rereads
             ≤ self.old.rereads + costs_in_turn (map edit_of edits.now) self.old.shown.text }
         ensures forward { self.old.rereads ≤ self.new.rereads }

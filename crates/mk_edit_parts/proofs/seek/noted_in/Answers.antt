@@ -1,7 +1,8 @@
 use Rattle.std.proofs.Common.{◌≡◌, arith}
 use Rattle.mk_tree.specs.Trees.{line_view}
 use Rattle.mk_edit_parts.specs.AddressViews.{address_seen}
-use Rattle.mk_edit_parts.specs.Seeking.{may_mean, noted}
+use Rattle.mk_edit_parts.specs.Seeking.{may_mean}
+use Rattle.mk_edit_parts.specs.SeekWalks.{noted}
 use Rattle.mk_edit_parts.proofs.on_finding.SeekWindows.{noted-first, noted-on}
 use Rattle.mk_edit_parts.proofs.seek.noted_in.Goals as goal
 

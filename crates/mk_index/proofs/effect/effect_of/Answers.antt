@@ -4,7 +4,7 @@ use Rattle.mk_patch.specs.Moves.{after_moves}
 use Rattle.mk_patch.specs.StepMoves.{move_of}
 use Rattle.mk_edit_parts.proofs.on_finding.PlaceLemmas.{classed-at}
 use Rattle.mk_edit_parts.proofs.on_finding.SeekLemmas.{faithful-each}
-use Rattle.mk_index.proofs.on_effects.SameLemmas.{exchanged-classed, exchanged-same}
+use Rattle.mk_index.proofs.on_effects.SameLemmas.{exchanged-classed, exchanged-right}
 use Rattle.mk_index.proofs.effect.effect_of.Goals as goal
 
 pub assign_same-requires-clause-old : goal.assign_same-requires-clause-old
@@ -16,4 +16,4 @@ assign_same-requires-clause-new g c =
 
 pub returns-in-Some-Exchange : goal.returns-in-Some-Exchange
 returns-in-Some-Exchange g c =
-    exchanged-same c.args.doc.now c.args.patch.now c.in-Some-Exchange.at (line_view c.line.result.now) (line_view c.in-Some-Exchange.line) (c.in-Some-Exchange.ensures.only ∙ ap (λ s. move_of s ∷ []) c.in-Some-Exchange.field-0-is) c.line.ensures (c.assign_same.ensures c.if-assign_same.true)
+    exchanged-right c.args.doc.now c.args.patch.now c.in-Some-Exchange.at (line_view c.line.result.now) (line_view c.in-Some-Exchange.line) (c.in-Some-Exchange.ensures.only ∙ ap (λ s. move_of s ∷ []) c.in-Some-Exchange.field-0-is) c.line.ensures (c.assign_same.ensures c.if-assign_same.true)

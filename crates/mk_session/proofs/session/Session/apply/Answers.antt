@@ -1,4 +1,4 @@
-use Rattle.std.proofs.Common.{◌≡◌, ◌∷◌, sym, ap, ◌∙◌, subst, Option, arith}
+use Rattle.std.proofs.Common.{◌≡◌, ◌∷◌, sym, ap, ◌∙◌, subst, Option}
 use Rattle.mk_edit_language.specs.EditViews.{edit_of}
 use Rattle.mk_patch.specs.Moves.{after_moves}
 use Rattle.mk_session.specs.StoredSessions.{Patches, IsStored, after_patches}
@@ -23,10 +23,10 @@ invariant_of-self-in-None g c =
     let same = c.planned.ensures.same in
     let member = c.push_front-in-None.new.self in
     let planned = c.in-Ok.ensures.plans.planned in
-    let k = subst (λ (o : Option Patches). IsStored c.self.inside.history o c.self.inside.doc) (sym c.in-None.ensures.value) c.self.invariant.0 in
+    let k = subst (λ (o : Option Patches). IsStored c.self.inside.history o c.self.inside.doc) (sym c.in-None.ensures.value) c.self.invariant in
     let fits : FitPatches member c.make_planned-in-None.new.self = rw (c.push_front-in-None.ensures, c.in-Ok-with_capacity.ensures) (c.make_planned-in-None.ensures.fits_back, tt) in
     let back : after_patches member c.make_planned-in-None.new.self ≡ c.self.inside.doc = rw (c.push_front-in-None.ensures, c.in-Ok-with_capacity.ensures) (c.make_planned-in-None.ensures.leads_back ∙ same) in
-    (rw (c.push.ensures, c.take.ensures.after) (stored-alone c.self.inside.history member c.self.inside.doc c.make_planned-in-None.new.self k (rw (c.make_planned-in-None.ensures.after ∙ ap (after_moves c.in-Ok.patch) same) planned.faithful) fits back), omega (arith, c.self.invariant.1, c.planned.ensures.plans.forward), c.self.invariant.2)
+    rw (c.push.ensures, c.take.ensures.after) (stored-alone c.self.inside.history member c.self.inside.doc c.make_planned-in-None.new.self k (rw (c.make_planned-in-None.ensures.after ∙ ap (after_moves c.in-Ok.patch) same) planned.faithful) fits back)
 
 pub returns-else-is_err-clause-done : goal.returns-else-is_err-clause-done
 returns-else-is_err-clause-done g c =

@@ -1,5 +1,6 @@
-use Rattle.std.proofs.Common.{◌≡◌, ◌<◌, ◌≤◌, ◌+◌, subst, inl}
-use Rattle.std.specs.Prelude.{◌^◌, Result, Ok, Err, OnOk, OnErr, IfErr}
+use Rattle.std.proofs.Common.{◌≡◌, ◌≤◌, ◌+◌, subst, inl}
+use Rattle.std.specs.Prelude.{Result, Ok, Err, OnOk, OnErr, IfErr}
+use Rattle.mk_tree.specs.Counting.{AreCounted}
 use Rattle.mk_edit_language.specs.Edits.{Edit}
 use Rattle.mk_edit_language.specs.Costs.{cost}
 use Rattle.mk_edit_language.specs.EditViews.{edit_of}
@@ -12,7 +13,7 @@ use Rattle.mk_session.proofs.session.Session.apply_made.Goals as goal
 -- the clauses of `apply` in one
 applied : (e : Edit) (r : Result (Unit {0}) Refusal) (x y : Seen)
     → OnOk r (answer (Apply e) x.shown ≡ Ok y.shown) → IfErr r (λ q. IsEditRefusal e x.shown q) → OnErr r (y.shown ≡ x.shown)
-    → OnOk r (y.rereads < 2 ^ 63 → y.rereads ≡ x.rereads + cost x.shown.text e) → y.rereads ≤ x.rereads + cost x.shown.text e → x.rereads ≤ y.rereads
+    → OnOk r (AreCounted x.rereads (cost x.shown.text e) y.rereads) → y.rereads ≤ x.rereads + cost x.shown.text e → x.rereads ≤ y.rereads
     → IsApplied e r x y
 applied e (Ok u) x y done refused same counted few forward = record { done = done; counted = counted; few_read = few; forward = forward }
 applied e (Err q) x y done refused same counted few forward = record { refused = inl refused; same = same; few_read = few; forward = forward }

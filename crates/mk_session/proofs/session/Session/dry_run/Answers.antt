@@ -17,17 +17,13 @@ returns-in-Err-clause-refused g c =
 pub returns-in-Err-clause-few_read : goal.returns-in-Err-clause-few_read
 returns-in-Err-clause-few_read g c =
     let text = text-shown c.self.inside.history c.self.inside.group c.self.inside.doc c.args.self.now.shown (ap (λ s. s.shown) c.self.view_is) in
-    omega (arith, c.make_all.ensures.few_read, ap (λ s. s.rereads) c.self.view_is, ap (costs_in_turn (map edit_of c.args.edits.now)) text, c.self.invariant.1)
+    omega (arith, c.make_all.ensures.few_read, ap (λ s. s.rereads) c.self.view_is, ap (costs_in_turn (map edit_of c.args.edits.now)) text)
 
 pub take_back-requires : goal.take_back-requires
 take_back-requires g c = c.in-Ok.ensures.made.fits_back
 
 pub invariant_of-self-2 : goal.invariant_of-self-2
-invariant_of-self-2 g c = (
-  subst (IsStored c.self.inside.history c.self.inside.group) (sym (c.take_back.ensures ∙ c.in-Ok.ensures.made.leads_back)) c.self.invariant.0,
-  omega (arith, c.self.invariant.1, c.make_all.ensures.forward),
-  c.self.invariant.2,
-)
+invariant_of-self-2 g c = subst (IsStored c.self.inside.history c.self.inside.group) (sym (c.take_back.ensures ∙ c.in-Ok.ensures.made.leads_back)) c.self.invariant
 
 pub returns-clause-same : goal.returns-clause-same
 returns-clause-same g c =
@@ -43,9 +39,9 @@ returns-clause-granted g c =
 pub returns-clause-counted : goal.returns-clause-counted
 returns-clause-counted g c =
     let text = text-shown c.self.inside.history c.self.inside.group c.self.inside.doc c.args.self.now.shown (ap (λ s. s.shown) c.self.view_is) in
-    λ few. omega (arith, few, c.in-Ok.ensures.counted, ap (λ s. s.rereads) c.self.view_is, ap (costs_in_turn (map edit_of c.args.edits.now)) text, c.self.invariant.1, c.self.invariant.2)
+    omega (arith, c.in-Ok.ensures.counted, ap (λ s. s.rereads) c.self.view_is, ap (costs_in_turn (map edit_of c.args.edits.now)) text)
 
 pub returns-clause-few_read : goal.returns-clause-few_read
 returns-clause-few_read g c =
     let text = text-shown c.self.inside.history c.self.inside.group c.self.inside.doc c.args.self.now.shown (ap (λ s. s.shown) c.self.view_is) in
-    omega (arith, c.make_all.ensures.few_read, ap (λ s. s.rereads) c.self.view_is, ap (costs_in_turn (map edit_of c.args.edits.now)) text, c.self.invariant.1)
+    omega (arith, c.make_all.ensures.few_read, ap (λ s. s.rereads) c.self.view_is, ap (costs_in_turn (map edit_of c.args.edits.now)) text)

@@ -15,15 +15,12 @@ returns-in-Err-clause-refused g c =
 pub returns-in-Err-clause-few_read : goal.returns-in-Err-clause-few_read
 returns-in-Err-clause-few_read g c =
     let text = text-shown c.self.inside.history c.self.inside.group c.self.inside.doc c.args.self.now.shown (ap (λ s. s.shown) c.self.view_is) in
-    omega (arith, c.make_all.ensures.few_read, ap (λ s. s.rereads) c.self.view_is, ap (costs_in_turn (map edit_of c.args.edits.now)) text, c.self.invariant.1)
+    omega (arith, c.make_all.ensures.few_read, ap (λ s. s.rereads) c.self.view_is, ap (costs_in_turn (map edit_of c.args.edits.now)) text)
 
 pub invariant_of-self-2 : goal.invariant_of-self-2
-invariant_of-self-2 g c = (
-  group-stored (map edit_of c.args.edits.now) c.self.inside.history c.push.new.self c.self.inside.group c.in-Ok.back c.self.inside.doc c.make_all.new.doc c.args.self.now.shown
-      (ap (λ s. s.shown) c.self.view_is) (sym c.if-has_open_group.ensures) c.self.invariant.0 c.in-Ok.ensures.made c.push.ensures,
-  omega (arith, c.self.invariant.1, c.make_all.ensures.forward),
-  c.self.invariant.2,
-)
+invariant_of-self-2 g c =
+    group-stored (map edit_of c.args.edits.now) c.self.inside.history c.push.new.self c.self.inside.group c.in-Ok.back c.self.inside.doc c.make_all.new.doc c.args.self.now.shown
+    (ap (λ s. s.shown) c.self.view_is) (sym c.if-has_open_group.ensures) c.self.invariant c.in-Ok.ensures.made c.push.ensures
 
 pub returns-clause-done : goal.returns-clause-done
 returns-clause-done g c =
@@ -33,9 +30,9 @@ returns-clause-done g c =
 pub returns-clause-counted : goal.returns-clause-counted
 returns-clause-counted g c =
     let text = text-shown c.self.inside.history c.self.inside.group c.self.inside.doc c.args.self.now.shown (ap (λ s. s.shown) c.self.view_is) in
-    λ few. omega (arith, few, c.in-Ok.ensures.counted, ap (λ s. s.rereads) c.self.view_is, ap (costs_in_turn (map edit_of c.args.edits.now)) text, c.self.invariant.1, c.self.invariant.2)
+    omega (arith, c.in-Ok.ensures.counted, ap (λ s. s.rereads) c.self.view_is, ap (costs_in_turn (map edit_of c.args.edits.now)) text)
 
 pub returns-clause-few_read : goal.returns-clause-few_read
 returns-clause-few_read g c =
     let text = text-shown c.self.inside.history c.self.inside.group c.self.inside.doc c.args.self.now.shown (ap (λ s. s.shown) c.self.view_is) in
-    omega (arith, c.make_all.ensures.few_read, ap (λ s. s.rereads) c.self.view_is, ap (costs_in_turn (map edit_of c.args.edits.now)) text, c.self.invariant.1)
+    omega (arith, c.make_all.ensures.few_read, ap (λ s. s.rereads) c.self.view_is, ap (costs_in_turn (map edit_of c.args.edits.now)) text)

@@ -1,0 +1,2 @@
+-- Lemmas on the answers of runs
+mod AnswerLemmas
