@@ -36,6 +36,7 @@ def text_of(kind, size):
 
     Another process makes it, so that this one stays small: see cost().
     """
+    DATA.mkdir(exist_ok=True)
     path = DATA / f"{kind}-{size}"
     made_by = BENCH / "make_makefile.py"
     if not is_made(path, made_by):

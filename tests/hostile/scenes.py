@@ -27,6 +27,8 @@ EDITS = {
     "add": (b"add LAST two", b"= one", b"= one two"),
     "drop": (b"drop LAST one", b"one # c\n", b"# c\n"),
     "all set": (b"all set LAST two", b"= one", b"= two"),
+    "all append": (b"all append LAST two", b"= one", b"= one two"),
+    "all add": (b"all add LAST two", b"= one", b"= one two"),
     "all drop": (b"all drop LAST one", b"one # c\n", b"# c\n"),
     "unset": (b"unset LAST", b"LAST = one # c\n", b""),
     "assign": (b"assign after-var LAST NEW = 1", b"last:", b"NEW = 1@last:"),

@@ -1,7 +1,7 @@
-"""What queries take over makefiles that double: answer, time and memory have to double at most, but for a little.
+"""What queries and edits take over makefiles that double: text, time and memory have to double at most, but for a little.
 
 In each shape something that is told once could be told again with each line: the targets of a rule, the
-conditionals round a line, their texts.
+conditionals round a line, their texts. Edits of a long recipe could count its lines each time.
 """
 
 from typing import NamedTuple
@@ -22,6 +22,10 @@ FORMS = {"text": ((), 1), "text of several": ((), 2), "JSON": (("--json",), 1)}
 TOLD = b"X = 1\na b: c\n\td\n$(x)\n\tY = 1\n"
 RECIPE = b"\tx\nifdef A\n\ty\nelse\n\tz\nendif\n"
 MOST_OPEN = 256
+# How many recipe lines one rule has at first, how many blank lines stand below another, and how many edits are made
+# there; and these edits.
+COUNTS = [2_500 << it for it in range(4)]
+EDITS = ("recipe-set long {} x", "recipe-insert long {} x", "recipe gap {}", "nth {} set ONE x")
 
 
 def times(unit, size):
@@ -92,15 +96,13 @@ class Growth(RoomCase):
                 break
         return Taken(out.stat().st_size, seconds, ran.peak)
 
-    def assert_linear(self, shape, query, form):
-        """Each doubling of the makefile doubles at most what a query takes."""
-        options, count = FORMS[form]
+    def assert_linear(self, commands):
+        """Each command, over twice as much as the one before it, takes twice as much at most."""
         most = Taken(*[float("inf")] * 3)
-        for size in SIZES:
-            name = str(self.room.folder / f"{shape.__name__}-{size}")
-            found = self.taken((query, *options, *[name] * count), most)
+        for words in commands:
+            found = self.taken(words, most)
             for it, limit, of in zip(found, most, Taken._fields):
-                self.assertLessEqual(it, limit, f"{of} of {query} over {size} bytes")
+                self.assertLessEqual(it, limit, f"{of} of {words}")
             most = found.most()
 
     def test_each_query_is_linear(self):
@@ -109,5 +111,17 @@ class Growth(RoomCase):
                 self.room.write(f"{shape.__name__}-{size}", shape(size))
             for query in ANSWERS:
                 for form in FORMS:
+                    options, count = FORMS[form]
+                    names = [str(self.room.folder / f"{shape.__name__}-{size}") for size in SIZES]
                     with self.subTest(f"{query}, {form}, {shape.__name__}"):
-                        self.assert_linear(shape, query, form)
+                        self.assert_linear([(query, *options, *[it] * count) for it in names])
+
+    def test_edits_of_many_lines_are_linear(self):
+        for command in EDITS:
+            for count in COUNTS:
+                makefile = b"ONE = y\n" * count + b"long:\n" + b"\tx\n" * count + b"gap:\n\tx\n" + b"\n" * count
+                self.room.write(f"makefile-{count}", makefile)
+                self.room.write(f"script-{count}", "".join(f"{command}\n".format(it + 1) for it in range(count)).encode())
+            with self.subTest(command):
+                files = [(f"script-{it}", f"makefile-{it}") for it in COUNTS]
+                self.assert_linear([("edit", *(str(self.room.folder / name) for name in it)) for it in files])

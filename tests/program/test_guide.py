@@ -1,4 +1,4 @@
-"""docs/GUIDE.md, done as it stands there: all its files and sessions, in their order, in one folder.
+"""docs/GUIDE.md and the README of the client for Python, done as they stand: files and sessions, in one folder each.
 
 A block ```make NAME, ```mkedit NAME or ```python NAME is a file, ```console a shell session, and ```session FILE what
 a user types at a session of FILE and sees. The client for Python is in PYTHONPATH.
@@ -16,7 +16,8 @@ from tests.lib.transcripts import Shell
 from tests.program.test_cookbook import BLOCK, unknown_refusals, write_file
 from tests.program.test_terminal import PLAIN, User
 
-PYTHON = {"PYTHONPATH": str(TOP / "clients/python"), "PYTHONDONTWRITEBYTECODE": "1"}
+CLIENT = TOP / "clients/python"
+PYTHON = {"PYTHONPATH": str(CLIENT), "PYTHONDONTWRITEBYTECODE": "1"}
 
 
 class Guide(RoomCase):
@@ -32,8 +33,9 @@ class Guide(RoomCase):
             os.write(side, typed[-1].encode())
             self.assertEqual((found + typed[-1], user.status()), (shown, 0))
 
-    def test_the_guide_is_so(self):
-        text = (DOCS / "GUIDE.md").read_text(encoding="utf-8")
+    def assert_so(self, path, **least):
+        """A document has so many blocks of each kind, which do what it shows."""
+        text = path.read_text(encoding="utf-8")
         self.assert_well(unknown_refusals(text))
         self.room.written.pop("Makefile")
         done = []
@@ -48,5 +50,11 @@ class Guide(RoomCase):
                 else:
                     self.assertIn(kind, ("make", "mkedit", "python"))
                     write_file(self.room, name, content)
-        for kind, least in (("console", 8), ("session", 1), ("make", 2), ("mkedit", 2), ("python", 1)):
-            self.assertGreaterEqual(done.count(kind), least, kind)
+        for kind, count in least.items():
+            self.assertGreaterEqual(done.count(kind), count, kind)
+
+    def test_the_guide_is_so(self):
+        self.assert_so(DOCS / "GUIDE.md", console=8, session=1, make=2, mkedit=2, python=1)
+
+    def test_the_readme_of_the_client_is_so(self):
+        self.assert_so(CLIENT / "README.md", console=3, make=1, python=3)

@@ -12,6 +12,8 @@ from tests.lib.rooms import RoomCase
 from tests.program.test_limits import LIMIT
 
 MANY = 1_000_000
+# So many rounds may show that a time was the machine's other work.
+ROUNDS = 5
 # Each kind of edit of a long line: its command, the lines that it finds, and what they become. @ stands
 # for a word of nearly 16 MB.
 LONG_LINES = {
@@ -20,6 +22,8 @@ LONG_LINES = {
     "add": (b"add CC @", b"CC = gcc # c\n", b"CC = gcc @ # c\n"),
     "drop": (b"drop CC gcc", b"CC = gcc @ # c\n", b"CC = @ # c\n"),
     "all set": (b"all set CC @", b"CC = gcc # c\n", b"CC = @ # c\n"),
+    "all append": (b"all append CC @", b"CC = gcc # c\n", b"CC = gcc @ # c\n"),
+    "all add": (b"all add CC @", b"CC = gcc # c\n", b"CC = gcc @ # c\n"),
     "all drop": (b"all drop CC gcc", b"CC = gcc @ # c\n", b"CC = @ # c\n"),
     "unset": (b"unset CC", b"CC = @\n", b""),
     "assign": (b"assign bottom CC = @", b"", b"CC = @\n"),
@@ -31,6 +35,9 @@ LONG_LINES = {
     "recipe": (b"recipe all @", b"all:\n", b"all:\n\t@\n"),
     "recipe-set": (b"recipe-set all 1 @", b"all:\n\tcc\n", b"all:\n\t@\n"),
     "recipe-del": (b"recipe-del all 1", b"all:\n\t@\n", b"all:\n"),
+    "recipe-insert": (b"recipe-insert all 1 @", b"all:\n\tcc\n", b"all:\n\t@\n\tcc\n"),
+    "recipe-replace": (b"recipe-replace all cc @", b"all:\n\tcc\n", b"all:\n\t@\n"),
+    "recipe-remove": (b"recipe-remove all @", b"all:\n\t@\n", b"all:\n"),
     "rename": (b"rename all @", b"all: a\n", b"@: a\n"),
 }
 # Commands for variables that have numbers, and what becomes of a line `V1 = a`.
@@ -173,6 +180,17 @@ class LargeEdits(RoomCase):
         alone = self.seconds(script, b"V = a\n" + lines)
         among = self.seconds(b"set V b\n" * 10 + script, b"V = b\n" + lines)
         self.assertLess(among, 3 * max(alone, 0.01), "a rename takes longer where there is an index")
+
+    def test_an_edit_moves_its_lines_once(self):
+        """A million lines are taken out in twice the time of an undo or redo of that, which moves each once."""
+        lines = b"a:\n" + b"\tc\n" * MANY
+        self.room.write("large", lines)
+        for _ in range(ROUNDS):
+            untouched, once = self.seconds(b"", lines), self.seconds(b"unrule a\n", b"")
+            often = self.seconds(b"unrule a\n" + b"undo\nredo\n" * 2, b"")
+            if once - untouched < 2 * (often - once) / 4:
+                return
+        self.fail("lines are moved more than once")
 
     def test_notes_on_edits_of_names_with_one_line_take_few_walks(self):
         names = range(40_000)

@@ -1,4 +1,4 @@
-"""The library for C, where `make lib` has built it and there is a C compiler: the example, and what bad callers do."""
+"""The library for C, where `make lib` has built it and there is a C compiler: the examples, and what bad callers do."""
 
 import os
 import shlex
@@ -24,10 +24,10 @@ def is_there():
 
 @unittest.skipUnless(is_there(), "make lib has built no library, or there is no C compiler")
 class Library(RoomCase):
-    def compiled(self, source, *options):
-        """A program in C, linked with the library."""
+    def compiled(self, source, *options, compiler=(*COMPILER, *OPTIONS)):
+        """A program, linked with the library."""
         path = self.room.folder / source.stem
-        words = [*COMPILER, *OPTIONS, "-o", path, source, *options]
+        words = [*compiler, "-o", path, source, *options]
         ran = subprocess.run(words, capture_output=True, text=True, timeout=SECONDS)
         self.assertEqual((ran.returncode, ran.stderr), (0, ""))
         return path
@@ -51,6 +51,12 @@ class Library(RoomCase):
         self.assert_example(self.compiled(source, LIBRARY / "libmkedit.a"))
         if (LIBRARY / "libmkedit.so").exists():
             self.assert_example(self.compiled(source, f"-L{LIBRARY}", "-lmkedit"), LD_LIBRARY_PATH=str(LIBRARY))
+
+    @unittest.skipUnless(shutil.which("rustc"), "there is no rustc")
+    def test_the_example_in_rust_does_so_too(self):
+        how = {"compiler": ("rustc", "--edition", "2021")}
+        example = self.compiled(TOP / "examples/rust/edit.rs", "-L", LIBRARY, "-l", "mkedit", **how)
+        self.assert_example(example, LD_LIBRARY_PATH=str(LIBRARY))
 
     def test_bad_calls_are_answered_and_write_nothing(self):
         program = self.compiled(TOP / "tests/program/library.c", *WRAPPED, LIBRARY / "libmkedit.a")

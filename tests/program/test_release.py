@@ -35,7 +35,12 @@ ARCHIVE = {
 if (BUILT / "libmkedit.a").exists():
     ARCHIVE |= {f"lib/{it.name}": f"crates/mkedit_c/out/lib/{it.name}" for it in BUILT.iterdir() if it.name != "libmkedit.so"}
     ARCHIVE |= {"include/mkedit.h": "include/mkedit.h", "lib/pkgconfig/mkedit.pc": "packaging/mkedit.pc.in"}
-# What Debian installs.
+# What Debian installs: the package of the program, and that for Python.
+MODULES = "usr/lib/python3/dist-packages"
+OF_PYTHON = {
+    *(it.replace("python", MODULES, 1) for it in ARCHIVE if it.startswith("python/mkedit/")),
+    *(f"usr/share/doc/python3-mkedit/{it}" for it in ("changelog.gz", "changelog.Debian.gz", "copyright", "README.md")),
+}
 INSTALLED = {
     "usr/bin/mkedit",
     "usr/share/man/man1/mkedit.1.gz",
@@ -54,7 +59,7 @@ FOR_AN_UPLOAD = {
     "copyright-without-copyright-notice",
     "initial-upload-closes-no-bugs",
 }
-FOUND = re.compile(r"^[EW]: mkedit: ([\w-]+)", re.M)
+FOUND = re.compile(r"^[EW]: [\w-]+: ([\w-]+)", re.M)
 # What a program names that does not have the C library in it, and the type of the part that names it.
 LOADER, INTERPRETER = b"/ld-linux", b"\3\0\0\0"
 TIME = 1_000_000_000
@@ -77,16 +82,16 @@ class Releases(RoomCase):
         """The archive or the package that is made of the tested program in a folder of the room."""
         ran = self.pack(tool, self.program.path, self.room.folder / folder)
         self.assertEqual((ran.returncode, ran.stderr), (0, b""))
-        return next((self.room.folder / folder).glob("*.deb" if tool == "deb" else "*.tar.gz"))
+        return next((self.room.folder / folder).glob("mkedit_*.deb" if tool == "deb" else "*.tar.gz"))
 
     def test_two_releases_of_the_same_files_have_the_same_bytes(self):
         self.room.copy_program()
         for tool in ("dist", "deb"):
-            first = self.packed(tool, "first").read_bytes()
+            first = self.packed(tool, "first").parent
             ran = self.pack(tool, self.room.program.path, self.out)
             self.assertEqual((ran.returncode, ran.stderr), (0, b""))
-            second = next(self.out.glob("*.deb" if tool == "deb" else "*.tar.gz")).read_bytes()
-            self.assertTrue(first == second, f"tools/{tool} has made two archives with other bytes")
+            for it in first.iterdir():
+                self.assertTrue(it.read_bytes() == (self.out / it.name).read_bytes(), f"two {it.name} have other bytes")
 
     def test_the_archive_has_these_files_and_no_others(self):
         path = self.packed("dist")
@@ -126,14 +131,18 @@ class Releases(RoomCase):
         with tarfile.open(self.packed("dist")) as archive:
             archive.extractall(self.out)
         [top] = self.out.glob("mkedit-*/")
-        words = [sys.executable, "-B", "-c", "import mkedit; print(mkedit.edit('CC = gcc\\n', 'set CC clang\\n'))"]
-        path = f"{top / 'bin'}:{os.environ['PATH']}"
         for library in ("", str(top / "lib/libmkedit.so.0")):
-            environment = {"PATH": path, "PYTHONPATH": str(top / "python"), "MKEDIT_LIBRARY": library}
-            ran = subprocess.run(words, env=environment, capture_output=True, timeout=SECONDS)
-            self.assertEqual((ran.stdout, ran.stderr), (b"b'CC = clang\\n'\n", b""))
+            self.assert_edits(top / "bin", top / "python", library)
 
-    def test_make_packs_both(self):
+    def assert_edits(self, programs, modules, library=""):
+        """The package for Python in a folder edits by the program in another one, or by a library."""
+        words = [sys.executable, "-B", "-c", "import mkedit; print(mkedit.edit('CC = gcc\\n', 'set CC clang\\n'))"]
+        path = f"{programs}:{os.environ['PATH']}"
+        environment = {"PATH": path, "PYTHONPATH": str(modules), "MKEDIT_LIBRARY": library}
+        ran = subprocess.run(words, env=environment, capture_output=True, timeout=SECONDS)
+        self.assertEqual((ran.stdout, ran.stderr), (b"b'CC = clang\\n'\n", b""))
+
+    def test_make_packs_all(self):
         self.room.copy_program()
         shutil.copy(self.program.path, self.room.folder / "built")
         # (an empty object file is none for tools/link, and for make there is no program to be built)
@@ -144,7 +153,7 @@ class Releases(RoomCase):
         ran = subprocess.run(words, cwd=TOP, env=kept, capture_output=True, text=True, timeout=SECONDS)
         self.assertEqual((ran.returncode, ran.stderr), (0, ""))
         suffixes = sorted(it.name.rpartition(".")[2] for it in self.out.iterdir())
-        self.assertEqual(suffixes, ["deb", "gz", "sha256"])
+        self.assertEqual(suffixes, ["deb", "deb", "gz", "sha256"])
 
     def test_a_program_that_runs_on_some_machines_alone_is_refused(self):
         code = bytearray(self.program.path.read_bytes())
@@ -166,7 +175,9 @@ class Releases(RoomCase):
             self.skipTest("there is no dpkg, or no fakeroot for a user who is not root")
         environment = {**os.environ, "PATH": f"{os.environ['PATH']}:/usr/sbin:/sbin", "LC_ALL": "C"}
         # (some machines leave out documents and manual pages, and say so in the settings of dpkg)
-        given = [*first, "dpkg", f"--root={root}", f"--log={root}/log", "--path-include=/*", *words]
+        # (Python is not below the root folder)
+        how = ["--path-include=/*", "--force-script-chrootless", "--force-depends"]
+        given = [*first, "dpkg", f"--root={root}", f"--log={root}/log", *how, *words]
         ran = subprocess.run(given, env=environment, capture_output=True, text=True, timeout=SECONDS)
         self.assertEqual(ran.returncode, 0, ran.stderr)
 
@@ -175,29 +186,31 @@ class Releases(RoomCase):
         names = (str(it.relative_to(root)) for it in root.rglob("*") if not it.is_dir())
         return {it for it in names if not it.startswith("var/lib/dpkg/") and it != "log"}
 
-    def test_debian_installs_the_package_and_removes_it(self):
+    def test_debian_installs_the_packages_and_removes_them(self):
         root = self.room.folder / "root"
         for name in ("info", "updates", "triggers"):
             (root / "var/lib/dpkg" / name).mkdir(parents=True)
         (root / "var/lib/dpkg/status").touch()
-        self.dpkg(root, "--install", self.packed("deb"))
-        self.assertEqual(self.files_below(root), INSTALLED)
-        for name in INSTALLED:
+        self.dpkg(root, "--install", *self.packed("deb").parent.iterdir())
+        self.assertEqual(self.files_below(root), INSTALLED | OF_PYTHON)
+        for name in INSTALLED | OF_PYTHON:
             mode = stat.S_IMODE((root / name).stat().st_mode)
             self.assertEqual(oct(mode), oct(0o755 if name == "usr/bin/mkedit" else 0o644), name)
         self.assert_shows_manuals(root)
         self.room.program = Program(root / "usr/bin/mkedit")
         self.assert_run(EDITED, "edit", "script", "Makefile")
-        self.dpkg(root, "--remove", "mkedit")
+        self.assert_edits(root / "usr/bin", root / MODULES)
+        self.dpkg(root, "--remove", "python3-mkedit", "mkedit")
         self.assertEqual(self.files_below(root), set())
 
     def test_a_package_names_the_maintainer_who_is_given(self):
         if not shutil.which("dpkg-deb"):
             self.skipTest("dpkg-deb is not there")
         self.assertEqual(self.pack("deb", self.program.path, self.out, maintainer="A <a@b.org>").returncode, 0)
-        words = ["dpkg-deb", "--field", next(self.out.iterdir()), "Package", "Maintainer"]
-        ran = subprocess.run(words, capture_output=True, text=True, timeout=SECONDS)
-        self.assertEqual(ran.stdout, "Package: mkedit\nMaintainer: A <a@b.org>\n")
+        for it in self.out.iterdir():
+            words = ["dpkg-deb", "--field", it, "Package", "Maintainer"]
+            ran = subprocess.run(words, capture_output=True, text=True, timeout=SECONDS)
+            self.assertEqual(ran.stdout, f"Package: {it.name.partition('_')[0]}\nMaintainer: A <a@b.org>\n")
 
     def assert_shows_manuals(self, root):
         """man has to find both pages below a root folder."""
@@ -213,7 +226,7 @@ class Releases(RoomCase):
     def test_lintian_finds_what_an_upload_needs_and_no_more(self):
         if not shutil.which("lintian"):
             self.skipTest("lintian is not there")
-        words = ["lintian", "--allow-root", self.packed("deb")]
+        words = ["lintian", "--allow-root", *self.packed("deb").parent.iterdir()]
         ran = subprocess.run(words, capture_output=True, text=True, timeout=SECONDS)
         self.assertLessEqual({*FOUND.findall(ran.stdout)}, FOR_AN_UPLOAD)
 

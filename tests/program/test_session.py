@@ -155,7 +155,8 @@ class Session(RoomCase):
         told = talk.answer("help").decode().split()
         forms = self.room.run("edit", "--help").stdout.decode().split("blank:\n")[1].split("PLACE is")[0]
         words = set(re.findall(r"(?:^| {2,})([a-z][a-z-]*)", forms, re.M))
-        self.assertEqual(words - set(told), set())
+        shown = self.room.run("session", "--help").stdout.decode().split("or a request:\n")[1].split("Each is")[0]
+        self.assertEqual((words | set(shown.split())) - set(told), {"help", "COMMAND"})
 
     def test_history_has_what_can_be_undone_and_redone(self):
         talk = self.talk("-d", "3", "Makefile")

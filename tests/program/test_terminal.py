@@ -23,6 +23,7 @@ PLAIN = {"NO_COLOR": "1"}
 PAINTED = b"\x1b[31m-CC = gcc # c\x1b[0m\n\x1b[32m+CC = clang # c\x1b[0m\nMakefile*> "
 UNPAINTED = b"-CC = gcc # c\n+CC = clang # c\nMakefile*> "
 UNWRITTEN = b"There are unwritten changes: `write` writes them, and `quit` once more drops them.\n"
+TOO_LONG = b"This line is too long.\n"
 NO_COMMAND = b"This is no command and no request; `help` lists them.\n"
 
 
@@ -184,6 +185,17 @@ class Terminal(RoomCase):
         self.assert_said(user, (b"quit\n", UNWRITTEN + b"Makefile*> "))
         os.write(user.side, b"quit\n")
         self.assertEqual(user.status(), 0)
+
+    def test_a_line_that_is_too_long_is_no_quit(self):
+        side, program = self.enterContext(terminal(lines=False))
+        user = User(self.room, side, program, PLAIN, "Makefile")
+        self.addCleanup(user.end)
+        user.shown(b"> ")
+        user.types(b"set CC clang\n")
+        for keys, said in ((b"quit\n", UNWRITTEN), (b"x" * 65_536 + b"\n", TOO_LONG), (b"quit\n", UNWRITTEN)):
+            for at in range(0, len(keys), 1_000):
+                os.write(side, keys[at : at + 1_000])
+            self.assertEqual(user.shown(b"> "), said + b"Makefile*> ")
 
     def test_the_end_key_is_quit(self):
         user = self.at_terminal("Makefile")

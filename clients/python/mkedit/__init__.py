@@ -14,6 +14,7 @@ from .found import Assignment, Condition, Found, Line, RecipeLine, Rule, Step
 from .places import BOTTOM, Place, after_var, before_rule, before_var
 from .session import Session, open
 from .texts import assignments, edit
+from .words import NewSeparator, Operator, PlaceWord, Separator
 
 __version__ = "0.1.0"
 
@@ -27,10 +28,14 @@ __all__ = [
     "Fault",
     "Found",
     "Line",
+    "NewSeparator",
+    "Operator",
     "Place",
+    "PlaceWord",
     "RecipeLine",
     "Refused",
     "Rule",
+    "Separator",
     "Session",
     "Step",
     "TimedOut",

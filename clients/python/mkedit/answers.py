@@ -6,14 +6,15 @@ ValueError here.
 
 import re
 from base64 import b64decode
-from collections import Counter
 from dataclasses import replace
-from typing import Any, Dict, Iterator, List, Tuple
+from typing import Any, Counter, Dict, Iterator, List, Tuple, get_args
 
-from .found import Assignment, Condition, Line, RecipeLine, Rule, Step
+from .found import Assignment, Condition, Line, RecipeLine, Rule, Step, StepKind
+from .words import OPERATORS, SEPARATORS, one_of
 
 # An object of JSON.
 Members = Dict[str, Any]
+KINDS: Tuple[StepKind, ...] = get_args(StepKind)
 
 # A command in an answer to `history`, where a `;` that is a part of one stands between quotes.
 COMMAND = re.compile(r'(?:[^";]|"(?:[^"\\]|\\.)*")+')
@@ -56,29 +57,29 @@ def placed(found: List[Members]) -> Iterator[Tuple[Members, Dict[str, Any]]]:
             yield it, {"file": text_in(it["file"]), "line": line, "depth": depth, "conditions": outer}
 
 
-def assignment(it: Members, place: Dict[str, Any], counts: "Counter[str]") -> Assignment:
+def assignment(it: Members, place: Dict[str, Any], counts: Counter[str]) -> Assignment:
     """An object of `vars`, below so many assignments of each name."""
     counts[text_in(it["name"])] += "targets" not in it
     return Assignment(
         **place,
         modifiers=texts_in(it["modifiers"]),
         name=text_in(it["name"]),
-        operator=text_in(it["operator"]),
+        operator=one_of(OPERATORS, it["operator"]),
         value=text_in(it["value"]),
         targets=texts_in(it["targets"]) if "targets" in it else None,
-        separator=text_in(it["separator"]) if "separator" in it else None,
+        separator=one_of(SEPARATORS, it["separator"]) if "separator" in it else None,
         nth=counts[text_in(it["name"])] if "targets" not in it else None,
     )
 
 
-def rule(it: Members, place: Dict[str, Any], counts: "Counter[str]") -> Rule:
+def rule(it: Members, place: Dict[str, Any], counts: Counter[str]) -> Rule:
     """An object of `rules`, below so many rules for each target."""
     targets = texts_in(it["targets"])
     counts.update({*targets})
     return Rule(
         **place,
         targets=targets,
-        separator=text_in(it["separator"]),
+        separator=one_of(SEPARATORS, it["separator"]),
         prerequisites=texts_in(it["prerequisites"]),
         order_only=texts_in(it["order_only"]),
         pattern=text_in(it["pattern"]) if "pattern" in it else None,
@@ -89,9 +90,10 @@ def rule(it: Members, place: Dict[str, Any], counts: "Counter[str]") -> Rule:
 
 def step(it: Members) -> Step:
     """A line of `history`."""
-    kind, _, text = text_in(it["text"]).partition(" ")
-    if kind not in ("undo", "redo", "open") or not text:
-        raise ValueError(f"{kind!r} begins no line of a history")
+    word, _, text = text_in(it["text"]).partition(" ")
+    kind = one_of(KINDS, word)
+    if not text:
+        raise ValueError(f"{kind} stands alone")
     if text != "begin" and not text.startswith("begin; "):
         return Step(kind, (text,), False)
     commands = [each.strip(" ") for each in COMMAND.findall(text)]
@@ -129,17 +131,16 @@ def rules_for(found: List[Members]) -> List[Rule]:
     return [replace(it, nth=nth) for nth, it in enumerate(rules(found), 1)]
 
 
-def recipe_lines(found: List[Members]) -> List[RecipeLine]:
-    """The answer to `recipes`, in which an object on a rule stands before those on its recipe lines."""
-    targets: Dict[int, Tuple[str, ...]] = {}
-    lines = []
-    for it, place in placed(found):
-        if "rule" in it:
-            of_rule, number = targets[number_in(it["rule"])], number_in(it["number"])
-            lines.append(RecipeLine(**place, targets=of_rule, number=number, text=text_in(it["text"])))
-        else:
-            targets[place["line"]] = texts_in(it["targets"])
-    return lines
+def recipe_line(it: Members, place: Dict[str, Any], of_rule: Rule) -> RecipeLine:
+    """An object of `recipes` on a recipe line of a rule."""
+    number, text = number_in(it["number"]), text_in(it["text"])
+    return RecipeLine(**place, targets=of_rule.targets, number=number, text=text, nth=of_rule.nth)
+
+
+def recipe_lines(found: List[Members], of_rules: List[Rule]) -> List[RecipeLine]:
+    """The answer to `recipes`, over a makefile with these rules."""
+    by_line = {it.line: it for it in of_rules}
+    return [recipe_line(it, place, by_line[it["rule"]]) for it, place in placed(found) if "rule" in it]
 
 
 def steps(found: List[Members]) -> List[Step]:

@@ -5,7 +5,11 @@ are objects in place of the number of a branch, and a recipe line has the target
 """
 
 from dataclasses import dataclass
-from typing import NamedTuple, Optional, Tuple
+from typing import Literal, NamedTuple, Optional, Tuple
+
+from .words import Operator, Separator
+
+StepKind = Literal["undo", "redo", "open"]
 
 
 class Line(NamedTuple):
@@ -15,7 +19,8 @@ class Line(NamedTuple):
     text: str
 
 
-class Condition(NamedTuple):
+@dataclass(frozen=True)
+class Condition:
     """A conditional round a line: where the branch of that line begins, and where the conditional does."""
 
     branch: Line
@@ -42,10 +47,10 @@ class Assignment(Found):
 
     modifiers: Tuple[str, ...]
     name: str
-    operator: str
+    operator: Operator
     value: str
     targets: Optional[Tuple[str, ...]] = None
-    separator: Optional[str] = None
+    separator: Optional[Separator] = None
     nth: Optional[int] = None
 
 
@@ -58,7 +63,7 @@ class Rule(Found):
     """
 
     targets: Tuple[str, ...]
-    separator: str
+    separator: Separator
     prerequisites: Tuple[str, ...]
     order_only: Tuple[str, ...]
     pattern: Optional[str] = None
@@ -68,11 +73,12 @@ class Rule(Found):
 
 @dataclass(frozen=True)
 class RecipeLine(Found):
-    """A recipe line: the targets of its rule, and the number by which `recipe_set` and the others mean it."""
+    """A recipe line: targets and nth are those of its rule, and `recipe_set` and the others take the number."""
 
     targets: Tuple[str, ...]
     number: int
     text: str
+    nth: int = 1
 
 
 class Step(NamedTuple):
@@ -82,6 +88,6 @@ class Step(NamedTuple):
     group stand without `begin` and `end`.
     """
 
-    kind: str
+    kind: StepKind
     commands: Tuple[str, ...]
     is_group: bool

@@ -6,11 +6,16 @@ from types import TracebackType
 from typing import ContextManager, Iterator, List, Optional, Type
 
 from . import answers
-from .errors import Error, put_behind
+from .errors import Error, Fault, put_behind
 from .found import Assignment, RecipeLine, Rule, Step
 from .places import Place
 from .talk import PathName, Talk
-from .words import MOST_OF_REQUEST, digits, field, word
+from .words import MOST_OF_REQUEST, NEW_SEPARATORS, OPERATORS, NewSeparator, Operator
+from .words import digits, field, one_of, word
+
+# How many edits can be undone where nothing else is said, and the commands that are no edits.
+DEPTH = 100
+NO_EDITS = ("undo", "redo", "begin", "end", "cancel", "revert", "write", "write!")
 
 
 class Session:
@@ -35,6 +40,8 @@ class Session:
         timeout: Optional[float] = None,
     ) -> None:
         self._talk = Talk(path, depth, program, new, timeout)
+        # How many edits can be undone, and how many were made.
+        self._depth, self._made = DEPTH if depth is None else depth, 0
 
     def __enter__(self) -> "Session":
         return self
@@ -52,12 +59,18 @@ class Session:
 
     def _do(self, word: str, *fields: str, nth: Optional[int] = None, before: str = "") -> None:
         first = ["nth", digits(nth)] if nth is not None else [before] if before else []
-        self._talk.ask(answers.nothing, *first, word, *map(field, fields))
+        self._talk.ask(answers.nothing if word in NO_EDITS else self._count, *first, word, *map(field, fields))
+
+    def _count(self, found: List[answers.Members]) -> None:
+        """Counts an edit that was made."""
+        answers.nothing(found)
+        self._made += 1
 
     def _put_in(self, word: str, place: Place, *fields: str) -> None:
         if not isinstance(place, Place):
             raise TypeError(f"a place is a Place, and not of type {type(place).__name__}")
-        self._do(word, *place.fields, *fields, nth=place.nth)
+        name = () if place.name is None else (place.name,)
+        self._do(word, place.word, *name, *fields, nth=place.nth)
 
     def _told(self, *words: str) -> str:
         return self._talk.ask(answers.text, *words)
@@ -100,15 +113,15 @@ class Session:
         """Removes an assignment."""
         self._do("unset", name, nth=nth)
 
-    def assign(self, place: Place, name: str, operator: str, value: str) -> None:
+    def assign(self, place: Place, name: str, operator: Operator, value: str) -> None:
         """Inserts a new assignment."""
-        self._put_in("assign", place, name, operator, value)
+        self._put_in("assign", place, name, one_of(OPERATORS, operator), value)
 
     # ---- rules
 
-    def rule(self, place: Place, targets: str, separator: str, prerequisites: str) -> None:
+    def rule(self, place: Place, targets: str, separator: NewSeparator, prerequisites: str) -> None:
         """Inserts the line of a new rule."""
-        self._put_in("rule", place, targets, separator, prerequisites)
+        self._put_in("rule", place, targets, one_of(NEW_SEPARATORS, separator), prerequisites)
 
     def unrule(self, target: str, nth: Optional[int] = None) -> None:
         """Removes a rule and its recipe."""
@@ -229,11 +242,27 @@ class Session:
 
     def recipes(self, target: Optional[str] = None) -> List[RecipeLine]:
         """The recipe lines of the rules in their order, or those of the rules for a target."""
-        return self._talk.ask(answers.recipe_lines, "recipes", *([word(target)] if target is not None else []))
+        words = [word(target)] if target is not None else []
+        with self._talk.lock:
+            rules = self.rules(target)
+            return self._talk.ask(lambda found: answers.recipe_lines(found, rules), "recipes", *words)
 
     def history(self) -> List[Step]:
         """What can be undone and redone, the last first; an open group comes before that."""
         return self._talk.ask(answers.steps, "history")
+
+    def script(self) -> str:
+        """The edits that stand, as a script that makes the text that is shown of the one that was opened.
+
+        A fault if more edits were made than the depth: those that cannot be undone any more are not known.
+        """
+        if self._made > self._depth:
+            raise Fault("edits beyond the depth")
+        lines: List[str] = []
+        for it in reversed(self.history()):
+            if it.kind != "redo":
+                lines += ("begin", *it.commands, "end") if it.is_group else it.commands
+        return "".join(f"{it}\n" for it in lines)
 
     def check(self) -> str:
         """What `mkedit check` prints."""

@@ -76,7 +76,8 @@ class Talk:
         options += ["--new"] if new else []
         name = os.fspath(path)
         self._timeout = seconds(timeout)
-        self._lock = threading.RLock()
+        # Who holds it makes several exchanges, with none of another thread between them.
+        self.lock = threading.RLock()
         # Why the session has ended, if it has; and whether a call is being done.
         self._over: Optional[str] = None
         self._is_talking = False
@@ -94,7 +95,7 @@ class Talk:
 
     def end(self) -> None:
         """Ends the session, and drops what is not written."""
-        with self._lock:
+        with self.lock:
             if self._is_talking:
                 # This is a signal handler, and the call that it has interrupted ends the session.
                 self._process.kill()
@@ -105,7 +106,7 @@ class Talk:
 
     def _exchange(self, work: Callable[[Deadline], T]) -> T:
         """What comes of an exchange that is done to its end. If it is not, the session has ended."""
-        with self._lock:
+        with self.lock:
             if self._over is not None:
                 raise Ended(f"the session has ended: {self._over}")
             try:

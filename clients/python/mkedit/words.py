@@ -1,6 +1,18 @@
 """Checks of the words of a line before it is sent to the program."""
 
 import re
+from typing import Literal, Tuple, TypeVar, get_args
+
+# The operators of assignments; the separators of rules, and those of new ones; the first words of places.
+Operator = Literal["=", ":=", "::=", ":::=", "?=", "+=", "!="]
+Separator = Literal[":", "::", "&:", "&::"]
+NewSeparator = Literal[":", "::"]
+PlaceWord = Literal["bottom", "before-var", "after-var", "before-rule"]
+OPERATORS: Tuple[Operator, ...] = get_args(Operator)
+SEPARATORS: Tuple[Separator, ...] = get_args(Separator)
+NEW_SEPARATORS: Tuple[NewSeparator, ...] = get_args(NewSeparator)
+PLACE_WORDS: Tuple[PlaceWord, ...] = get_args(PlaceWord)
+W = TypeVar("W", bound=str)
 
 # The greatest number in a command (docs/EDITS.md: K, and N of `nth N`), and in a request (docs/PROTOCOL.md).
 MOST_OF_COMMAND, MOST_OF_REQUEST = 4_294_967_295, 999_999_999
@@ -22,6 +34,15 @@ def line_part(text: str) -> str:
     if NEVER.search(text):
         raise ValueError("a field must not contain a line feed, a carriage return or a NUL")
     return text
+
+
+def one_of(words: Tuple[W, ...], text: str) -> W:
+    """Returns the one of these words that a text is, or raises ValueError if it is none."""
+    line_part(text)
+    for it in words:
+        if it == text:
+            return it
+    raise ValueError(f"this must be one of {' '.join(words)}, not {text!r}")
 
 
 def field(text: str) -> str:

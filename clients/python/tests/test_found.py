@@ -73,6 +73,11 @@ class Found(ClientCase):
         self.assertEqual(makefile.recipes("a.o"), [])
         makefile.recipe_set("all", makefile.recipes()[0].number, "ls")
         self.assertEqual(makefile.recipes()[0].text, "ls")
+        makefile, _ = self.told("a:: ; x\na:: b\n\ty\nb a::\n\tz\n")
+        self.assertEqual([(it.text, it.nth) for it in makefile.recipes()], [("y", 2), ("z", 1)])
+        for it in makefile.recipes("a"):
+            makefile.recipe_set("a", it.number, f"line {it.line}", nth=it.nth)
+        self.assertEqual(makefile.text(), "a:: ; x\na:: b\n\tline 3\nb a::\n\tline 5\n")
 
     def test_conditions_inside_each_other(self):
         makefile, _ = self.told("ifdef A\nifdef B\nelse\nX = 1\nendif\nt:\n\tx\nelse\n\ty\nendif\n")
@@ -135,6 +140,28 @@ class History(ClientCase):
         self.assertEqual(makefile.history(), [alone._replace(kind="redo"), is_open._replace(kind="redo")])
         with makefile.group():
             self.assertEqual(makefile.history()[0], Step("open", (), True))
+
+    def test_the_script_of_the_edits_that_stand(self):
+        makefile = self.open(depth=6)
+        self.assertEqual(makefile.script(), "")
+        makefile.set("CC", 'a "b\udcff" ;')
+        makefile.unset("CFLAGS")
+        makefile.undo()
+        with makefile.group():
+            makefile.set_all("X", "")
+            makefile.unset("X", nth=2)
+        makefile.rule(mkedit.BOTTOM, "x y", "::", "")
+        with makefile.group():
+            makefile.recipe("all", "end")
+            script = makefile.script()
+            made = mkedit.edit(MAKEFILE, script, program=PROGRAM)
+            self.assertEqual(made, makefile.text().encode(errors="surrogateescape"))
+        self.assertEqual((makefile.script(), script.count("\n")), (script, 9))
+        makefile.undo()
+        self.assertEqual(makefile.script().count("\n"), 6)
+        makefile.set("X", "")
+        with self.assertRaisesRegex(mkedit.Fault, "^edits beyond the depth$"):
+            makefile.script()
 
     def test_the_commands_of_a_group_are_told_apart(self):
         makefile = self.open()

@@ -37,6 +37,15 @@ class Threads(ClientCase):
             thread.join(SECONDS)
         self.assertEqual(right, [True] * THREADS * CALLS)
 
+    def test_no_edit_comes_between_the_two_requests_of_a_call(self):
+        makefile, found = self.open(), []
+        thread = threading.Thread(target=lambda: found.extend(len(makefile.recipes()) for _ in range(CALLS)))
+        thread.start()
+        while thread.is_alive():
+            makefile.assign(mkedit.before_var("CC"), "Y", "=", "1")
+            makefile.undo()
+        self.assertEqual(found, [2] * CALLS)
+
     def test_a_session_is_closed_after_the_call_of_another_thread(self):
         program = self.talker("""note("asked", line); time.sleep(0.3); say(b"ok\\n"); note("told", line)""")
         makefile, faults = self.open(program), []

@@ -3,7 +3,7 @@
 import unittest
 
 import mkedit
-from mkedit import BOTTOM, after_var, before_rule, before_var
+from mkedit import BOTTOM, after_var, before_rule, before_var, words
 
 from .cases import MAKEFILE, ClientCase
 
@@ -26,7 +26,7 @@ WITH_FIELD = (
     lambda it, bad: it.assign(before_var(bad), "Y", "=", "1"),
     lambda it, bad: it.rule(after_var(bad), "a", ":", "b"),
     lambda it, bad: it.rule(before_rule(bad), "a", ":", "b"),
-    lambda it, bad: it.rule(mkedit.Place((bad,)), "a", ":", "b"),
+    lambda it, bad: it.rule(mkedit.Place(bad, "X"), "a", ":", "b"),
     lambda it, bad: it.rule(BOTTOM, bad, ":", "b"),
     lambda it, bad: it.rule(BOTTOM, "a", bad, "b"),
     lambda it, bad: it.rule(BOTTOM, "a", ":", bad),
@@ -127,6 +127,29 @@ class Words(ClientCase):
     def test_a_place_is_a_place(self):
         calls = (lambda it, bad: it.assign(bad, "Y", "=", "1"), lambda it, bad: it.rule(bad, "a", ":", "b"))
         self.assert_nothing_is_sent(calls, ("bottom", ("bottom",), None), TypeError)
+
+    def test_a_word_of_an_enumeration_is_one_of_it(self):
+        calls = (
+            lambda it, bad: it.assign(BOTTOM, "Y", bad, "1"),
+            lambda it, bad: it.rule(BOTTOM, "a", bad, "b"),
+            lambda it, bad: it.rule(mkedit.Place(bad, "X"), "a", ":", "b"),
+            lambda it, bad: it.rule(mkedit.Place("bottom", bad), "a", ":", "b"),
+        )
+        self.assert_nothing_is_sent(calls, ("", "==", ": ", "&:", "top", "before"), ValueError)
+        with self.assertRaises(ValueError):
+            mkedit.Place("bottom", nth=1)
+        with self.assertRaises(TypeError):
+            mkedit.Place("before-var")
+
+    def test_the_program_takes_and_lists_each_word(self):
+        self.path.write_text("a&: b\na&:: b\n")
+        makefile = self.open()
+        for it in words.NEW_SEPARATORS:
+            makefile.rule(BOTTOM, "a", it, "b")
+        for it in words.OPERATORS:
+            makefile.assign(BOTTOM, "X", it, "1")
+        self.assertEqual([it.operator for it in makefile.vars()], [*words.OPERATORS])
+        self.assertEqual({it.separator for it in makefile.rules()}, {*words.SEPARATORS})
 
     def test_a_depth_and_a_timeout_are_numbers(self):
         for how in ({"depth": 0}, {"depth": 10_001}, {"timeout": 0}, {"timeout": -1.0}, {"timeout": float("nan")}):

@@ -5,11 +5,11 @@ ghost use Rattle.mk_edit_parts.specs.Found.{IsPlaceOf};
 
 use crate::seek::Found;
 use mk_lines::source::MAX_TEXT;
-use mk_tree::Doc;
+use mk_tree::{Doc, Run};
 use std::alloc::Allocator;
 
-/// The place `count` lines further down, with its context. The call steps over these lines, reads
-/// no line anew and takes no memory.
+/// The place `count` lines further down, with its context. The call steps over these lines, over a
+/// run of recipe lines or of blank lines at once. It reads no line anew and takes no memory.
 pub fn after_lines<A: Allocator>(doc: &Doc<A>, place: Found, count: usize) -> Found
     requires faithful { IsFaithful doc.now }
     requires place { IsPlaceOf doc.now place }
@@ -20,16 +20,20 @@ pub fn after_lines<A: Allocator>(doc: &Doc<A>, place: Found, count: usize) -> Fo
     prove!(doc.len() <= MAX_TEXT);
     // The contract of `iter` says that each line is admitted where it stands.
     let _lines = doc.iter();
+    let end = place.at + count;
+    let mut at = place.at;
     let mut context = place.context;
-    let mut lines = doc.lines_from(place.at);
-    'lines: for at in place.at..place.at + count {
+    let mut lines = doc.lines_from(at);
+    'lines: while at < end {
         let Some(line) = lines.next() else {
             unreachable!()
         };
-        context = context.step(&line.class());
+        let class = line.class();
+        context = context.step(&class);
+        at += 1;
+        if let Some(run) = Run::of(&class) {
+            at += lines.pass(run, end - at);
+        }
     }
-    Found {
-        at: place.at + count,
-        context,
-    }
+    Found { at: end, context }
 }

@@ -1,7 +1,7 @@
 //! The recipe of a rule, found by a walk down from its header.
 //!
-//! A walk looks at the classes of the lines that it passes. It reads no line anew and takes no
-//! memory.
+//! A walk looks at the classes of the lines that it passes, and passes a run of recipe lines or of
+//! blank lines at once. It reads no line anew and takes no memory.
 ghost use Rattle.std.specs.Prelude.{◌≡◌, ◌≤◌, ◌+◌, length, option_map};
 ghost use Rattle.std.specs.List.{list_any};
 ghost use Rattle.mk_class.specs.Classes.{is_conditional};
@@ -12,7 +12,8 @@ ghost use Rattle.mk_edit_language.specs.Spots.{nth_of};
 ghost use Rattle.mk_edit_parts.specs.RecipeWalks.{follows_recipe, gaps_in, is_recipe_located, lines_from, recipe_spots_in};
 
 use mk_class::Class;
-use mk_tree::Doc;
+use mk_lines::source::MAX_TEXT;
+use mk_tree::{Doc, Run};
 use std::alloc::Allocator;
 
 /// Where the recipe of a rule ends: after its last recipe line, which may stand above the line that
@@ -34,25 +35,23 @@ pub fn recipe_below<A: Allocator>(doc: &Doc<A>, from: usize) -> Recipe
     ensures is_split { result.is_split
         ≡ list_any (λ line. is_conditional line.class) (recipe_run (lines_from doc.now from)) }
 {
+    prove!(doc.len() <= MAX_TEXT);
     let mut recipe = Recipe {
         end: from,
         is_split: false,
     };
     // Whether a line of a conditional was passed so far.
     let mut is_split = false;
+    let mut at = from;
     let mut lines = doc.lines_from(from);
-    'lines: for at in from..doc.len() {
-        let Some(line) = lines.next() else {
-            unreachable!()
-        };
+    'lines: while let Some(line) = lines.next() {
         let class = line.class();
         if is_recipe(&class) {
-            recipe = Recipe {
-                end: at + 1,
-                is_split,
-            };
+            at += lines.pass(Run::Recipes, MAX_TEXT) + 1;
+            recipe = Recipe { end: at, is_split };
         } else if class.leaves_flag() {
             is_split = is_split || is_conditional(&class);
+            at += lines.pass(Run::Gaps, MAX_TEXT) + 1;
         } else {
             return recipe;
         }
@@ -69,19 +68,23 @@ pub fn recipe_line<A: Allocator>(doc: &Doc<A>, from: usize, number: u32) -> Opti
         ≡ option_map (λ spot. from + length spot.above)
         (nth_of number (recipe_spots_in (lines_from doc.now from))) }
 {
+    prove!(doc.len() <= MAX_TEXT);
     let mut passed = 0;
+    let mut at = from;
     let mut lines = doc.lines_from(from);
-    'lines: for at in from..doc.len() {
-        let Some(line) = lines.next() else {
-            unreachable!()
-        };
+    'lines: while let Some(line) = lines.next() {
         let class = line.class();
         if is_recipe(&class) {
             passed += 1;
             if passed == number as usize {
                 return Some(at);
             }
-        } else if !class.leaves_flag() {
+            let more = lines.pass(Run::Recipes, (number as usize).saturating_sub(passed + 1));
+            passed += more;
+            at += more + 1;
+        } else if class.leaves_flag() {
+            at += lines.pass(Run::Gaps, MAX_TEXT) + 1;
+        } else {
             return None;
         }
     }

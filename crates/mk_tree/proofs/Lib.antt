@@ -14,6 +14,7 @@ pub mod PlainLemmas
 pub mod PlainLines
 pub mod Prefixes
 pub mod Reading
+pub mod RunLemmas
 pub mod WalkLemmas
 -- Lemmas on the views of lines
 mod PartLemmas

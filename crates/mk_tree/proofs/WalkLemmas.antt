@@ -8,7 +8,7 @@ use Rattle.mk_tree.specs.Trees.{line_view, IsTop}
 use Rattle.mk_tree.specs.TreeWalks.{lines_ahead, HaveRoom}
 use Rattle.mk_tree.specs.declared.tree.Line.{Line}
 
-lines_ahead-push : {A : _} (passed : List (Option (Bor (Line A)))) (l : Bor (Line A)) → lines_ahead (passed ++ Some l ∷ []) ≡ line_view l.now ∷ l.now.node.value.right.0 ++ lines_ahead passed
+pub lines_ahead-push : {A : _} (passed : List (Option (Bor (Line A)))) (l : Bor (Line A)) → lines_ahead (passed ++ Some l ∷ []) ≡ line_view l.now ∷ l.now.node.value.right.0 ++ lines_ahead passed
 lines_ahead-push [] l = sym (append-nil (line_view l.now ∷ l.now.node.value.right.0))
 lines_ahead-push (None ∷ passed) l = lines_ahead-push passed l
 lines_ahead-push (Some x ∷ passed) l =
@@ -75,6 +75,12 @@ pop-within old new last l e f h =
     let here = HaveRoom-pop 0 new last (rw e at h) in
     let room : IsLastPassed (0 + length new) (Some l) = rw f at here.1 in
     (omega (arith, room), here.0)
+
+-- there is room for it again
+pub pop-room : {A : _} (old new : List (Option (Bor (Line A)))) (last : Option (Bor (Line A))) (l : Bor (Line A)) → old ≡ new ++ last ∷ [] → last ≡ Some l → HaveRoom 0 old → length new < 34
+pop-room old new last l e f h =
+    let room : IsLastPassed (0 + length new) (Some l) = rw f at (HaveRoom-pop 0 new last (rw e at h)).1 in
+    omega (arith, room)
 
 pub pop-nothing : {A : _} (old new : List (Option (Bor (Line A)))) (last : Option (Bor (Line A))) → old ≡ new ++ last ∷ [] → last ≡ None → HaveRoom 0 old → ⊥
 pop-nothing {A} old new last e f h =

@@ -14,6 +14,7 @@ pub mod Leaning
 pub mod NewLineEnds
 pub mod EachReplaced
 -- What the code stores
+pub mod Runs
 pub mod Trees
 pub mod TreeWalks
 pub mod Admissions

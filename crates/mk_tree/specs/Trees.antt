@@ -1,8 +1,10 @@
 -- What a tree of lines is seen as, and what holds of it.
 -- Told in docs/ARCHITECTURE.md, "The document".
-use Rattle.std.specs.Prelude.{◌≡◌, ℕ, suc, zero, ◌+◌, ◌≤◌, max, List, [], ◌∷◌, ◌++◌, length}
+use Rattle.std.specs.Prelude.{◌≡◌, ℕ, suc, zero, ◌+◌, ◌≤◌, max, List, [], ◌∷◌, ◌++◌, length, Option, IfSome}
 use Rattle.mk_lines.specs.Limits.{max_text}
 use Rattle.mk_tree.specs.LocatedLines.{LocatedLine, size_of}
+use Rattle.mk_tree.specs.Runs.{AreRun}
+use Rattle.mk_tree.specs.declared.run.Run.{Run}
 use Rattle.mk_tree.specs.declared.tree.Line.{Line}
 use Rattle.mk_tree.specs.declared.tree.Link.{Link}
 use Rattle.mk_tree.specs.declared.tree.Link.TheVariants.{Empty, Full}
@@ -14,7 +16,7 @@ line_view l = l.node.value.content
 -- the lines of a tree in order, and its height
 abbrev pub lines_and_height : {A : _} → Link A → List LocatedLine × ℕ
 lines_and_height Empty = ([], 0)
-lines_and_height (Full height lines l) =
+lines_and_height (Full height run lines l) =
     (l.node.value.left.0 ++ l.node.value.content ∷ l.node.value.right.0, height)
 
 -- two numbers differ by at most `by`
@@ -35,19 +37,21 @@ pub record AreFew (lines : List LocatedLine) (height : ℕ) : Type 0 where
   pub few_bytes : size_of lines ≤ max_text
   pub low : height ≤ 34
 
--- the counts of a link are those of the tree below it, and the sides of its line differ by at most
--- one in height
+-- the counts of a link are those of the tree below it, the lines are the run that it says, if it
+-- says one, and the sides of its line differ by at most one in height
 pub record IsNode (left : List LocatedLine × ℕ) (line : LocatedLine) (right : List LocatedLine × ℕ)
-    (height lines : ℕ) : Type 0 where
+    (height : ℕ) (run : Option Run) (lines : ℕ) : Type 0 where
   pub height_is : height ≡ max left.1 right.1 + 1
   pub balanced : DifferByAtMost 1 left.1 right.1
   pub lines_are : lines ≡ length (left.0 ++ line ∷ right.0)
+  pub run_is : IfSome run (λ r. AreRun r (left.0 ++ line ∷ right.0))
   pub few : AreFew (left.0 ++ line ∷ right.0) height
 
 -- what holds of a tree, at one level
 abbrev pub IsBalanced : {A : _} → Link A → Type 0
 IsBalanced Empty = Unit {0}
-IsBalanced (Full height lines l) = let n = l.node.value in IsNode n.left n.content n.right height lines
+IsBalanced (Full height run lines l) =
+    let n = l.node.value in IsNode n.left n.content n.right height run lines
 
 -- the parts of a tree: a line, and what stands left and right of it
 pub record IsUnlinked (whole left : List LocatedLine × ℕ) (line : LocatedLine)

@@ -2,8 +2,10 @@
 ghost use Rattle.std.specs.Prelude.{◌≡◌, ◌+◌, ◌≤◌, ◌++◌, drop, length};
 ghost use Rattle.arrayvec.specs.ArrayVec.{array_vec_len};
 ghost use Rattle.mk_lines.specs.Limits.{max_text};
+ghost use Rattle.mk_tree.specs.Runs.{Passes};
 ghost use Rattle.mk_tree.specs.TreeWalks.{lines_ahead, HaveRoom};
 
+use crate::run::Run;
 use crate::tree::{HEIGHT_LIMIT, Line, Tree};
 use arrayvec::ArrayVec;
 use std::alloc::{Allocator, Global};
@@ -69,6 +71,41 @@ impl<'a, A: Allocator> Lines<'a, A> {
             seen: false,
         }
     }
+}
+
+impl<'a, A: Allocator> Lines<'a, A> {
+    /// Passes lines of a run that come next, at most `most` of them, and answers how many it passed.
+    ///
+    /// It passes what stands below a line of the tree in one step, and stops where that is more than
+    /// it may pass or is not known to be of the run. So a walk that calls it after each line that it
+    /// is handed takes time logarithmic in the length of a run. The call takes no memory.
+    pub fn pass(&mut self, run: Run, most: usize) -> usize
+        ensures passes { Passes run most result self.old self.new }
+        ensures left { length self.new + result ≡ length self.old }
+    {
+        pass_run(&mut self.passed, run, most)
+    }
+}
+
+// Passes lines that are ahead, while they are of a run and no more than `most`.
+fn pass_run<A: Allocator>(passed: &mut Passed<'_, A>, run: Run, most: usize) -> usize
+    requires within { HaveRoom 0 passed.old.items }
+    ensures within { HaveRoom 0 passed.new.items }
+    ensures passes { Passes run most result (lines_ahead passed.old.items)
+        (lines_ahead passed.new.items) }
+{
+    let mut number = 0;
+    'next: while let Some(next) = passed.pop() {
+        let Some(line) = next else { unreachable!() };
+        let after = line.after();
+        if after.len() < most - number && run.has(&line.class()) && after.is_run(run) {
+            number += after.len() + 1;
+        } else {
+            passed.push(next);
+            return number;
+        }
+    }
+    number
 }
 
 // Goes down to the line of a tree at an index, past the lines on the way that come after it.

@@ -11,6 +11,7 @@
 //! - [`iter`]: the lines of a document in order.
 //! - `as_list`: a document as the lists of Rust are: `get`, and a `for` over `&doc`.
 //! - [`walk`]: the lines of a document in order, each with its context.
+//! - [`run`]: lines of one kind, which a walk may pass together.
 //! - [`tree`]: the balanced tree that the lines stand in, and a line by itself.
 //! - `content`: what a document stores of a line.
 //! - `short_class`: the class of a line as it is stored, with small numbers for its offsets.
@@ -38,6 +39,7 @@ pub mod part;
 mod plain;
 mod print;
 mod read;
+pub mod run;
 mod short_class;
 mod shown;
 pub mod tree;
@@ -49,6 +51,7 @@ pub use document::Doc;
 pub use end::End;
 pub use iter::Lines;
 pub use line_bytes::LineBytes;
+pub use run::Run;
 pub use tree::Line;
 pub use views::{AssignmentRef, Conditional, RuleRef, TargetAssignmentRef, WordTexts, text_of};
 pub use walk::ContextedLines;

@@ -5,17 +5,19 @@
 //! a line is put in or taken out, a tree is changed by value: [`Tree::unlink`] takes it apart at
 //! its top, and [`Tree::join`] puts two trees and a line between them together. Where a line takes
 //! the place of another, the nodes stay, and two boxes exchange what they hold ([`Tree::replace`]).
-ghost use Rattle.std.specs.Prelude.{◌≡◌, ◌+◌, ◌<◌, ◌≤◌, max, [], ◌∷◌, ◌++◌, length, Some, IfOk, MatchOption, slice_get, take, drop};
+ghost use Rattle.std.specs.Prelude.{◌≡◌, ◌+◌, ◌<◌, ◌≤◌, max, [], ◌∷◌, ◌++◌, length, Some, IfOk, MatchOption, slice_get, take, drop, IfSome, true};
 ghost use Rattle.mk_lines.specs.Limits.{max_text};
 ghost use Rattle.mk_lines.specs.Cells.{line_cells};
 ghost use Rattle.mk_lines.specs.PhysicalLines.{without_line_end};
 ghost use Rattle.mk_lines.specs.Ranges.{raw_range};
 ghost use Rattle.mk_class.specs.ClassTable.{is_unreadable};
 ghost use Rattle.mk_tree.specs.LocatedLines.{bytes_of_line, last_line, size_of, size_of_line, text_of_line, with_last_bytes};
+ghost use Rattle.mk_tree.specs.Runs.{AreRun};
 ghost use Rattle.mk_tree.specs.Trees.{line_view, lines_and_height, DifferByAtMost, AreFew, IsUnlinked, IsTop, IsHeightAfter};
 
 use crate::content::Content;
 use crate::line_bytes::LineBytes;
+use crate::run::Run;
 use mk_class::Class;
 use mk_lines::split::Span;
 use std::alloc::{AllocFailed, Allocator, Global};
@@ -36,10 +38,12 @@ pub(crate) struct Tree<A: Allocator = Global> {
 #[derive(Drop)]
 enum Link<A: Allocator> {
     Empty,
-    // The two counts stand beside the pointer to the top, so that a way down reads only the nodes on
-    // it. They come first, since a variant begins with what fits beside its tag.
+    // What is known of the tree stands beside the pointer to its top, so that a way down reads only
+    // the nodes on it. It comes first, since a variant begins with what fits beside its tag.
     Full {
         height: u8,
+        // What its lines are, if they are known to be a run.
+        run: Option<Run>,
         lines: u32,
         top: Line<A>,
     },
@@ -209,6 +213,19 @@ impl<A: Allocator> Tree<A> {
         self.lines() as usize
     }
 
+    /// Whether the lines are known to be a run of this kind. No lines are.
+    pub(crate) fn is_run(&self, run: Run) -> bool
+        ensures { result ≡ true → AreRun run self.now.0 }
+    {
+        match &self.link {
+            Link::Empty => true,
+            Link::Full { run: known, .. } => match known {
+                Some(known) => known.is(run),
+                None => false,
+            },
+        }
+    }
+
     /// The line at the top.
     pub(crate) fn top(&self) -> Option<&Line<A>>
         ensures top { MatchOption result (self.now ≡ ([], 0)) (λ line. IsTop self.now line.now) }
@@ -307,7 +324,8 @@ impl<A: Allocator> Tree<A> {
     {
         match &mut self.link {
             Link::Empty => unreachable!(),
-            Link::Full { top, .. } => {
+            Link::Full { top, run, .. } => {
+                *run = Run::with(*run, &line.class());
                 let before = top.node.left.len();
                 // The contracts of `len` and `bytes` say that no line is empty.
                 let _after = top.node.right.len();
@@ -373,6 +391,7 @@ impl<A: Allocator> Tree<A> {
     {
         let height = left.height().max(right.height()) + 1;
         let lines = left.lines() + 1 + right.lines();
+        let run = run_between(&left, &line, &right);
         let node = &mut *line.node;
         let has_bytes = !node.content.bytes().is_empty();
         prove!(has_bytes);
@@ -381,6 +400,7 @@ impl<A: Allocator> Tree<A> {
         Tree {
             link: Link::Full {
                 height,
+                run,
                 lines,
                 top: line,
             },
@@ -480,5 +500,17 @@ impl<A: Allocator> Tree<A> {
             middle,
             Tree::join(after, top, outer),
         )
+    }
+}
+
+// The run that the lines of two trees and the line between them are, if they are one.
+fn run_between<A: Allocator>(left: &Tree<A>, line: &Line<A>, right: &Tree<A>) -> Option<Run>
+    ensures { IfSome result (λ run. AreRun run (left.now.0 ++ line_view line.now ∷ right.now.0)) }
+{
+    let run = Run::of(&line.class())?;
+    if left.is_run(run) && right.is_run(run) {
+        Some(run)
+    } else {
+        None
     }
 }

@@ -9,14 +9,14 @@ use Rattle.mk_class.specs.Classes.{is_recipe, is_conditional, leaves_flag}
 use Rattle.mk_class.specs.LocatedClasses.{leaves_flag_located}
 use Rattle.mk_class.specs.ClassedLines.{ClassedLine, classed_lines}
 use Rattle.mk_tree.specs.Documents.{IsFaithful}
-use Rattle.mk_tree.specs.LocatedLines.{LocatedLine, located_line, located_lines, located_text, is_conditional_located}
+use Rattle.mk_tree.specs.LocatedLines.{LocatedLine, located_line, located_lines, located_text}
 use Rattle.mk_tree.specs.RecipeLines.{stays_in_rule, rule_lines, recipe_lines, recipe_run}
 use Rattle.mk_tree.specs.LineTexts.{StandingLine}
 use Rattle.mk_edit_language.specs.Spots.{spots, spot_if, under, nth_of}
 use Rattle.mk_edit_parts.specs.RecipeWalks.{lines_from, recipe_spots_in, is_recipe_located}
 use Rattle.mk_edit_parts.proofs.on_recipes.WalksDown.{recipe_from, recipe_index_from}
 use Rattle.mk_edit_parts.specs.declared.recipe.Recipe as recipe
-use Rattle.mk_edit_parts.proofs.on_finding.LeanLemmas.{asked, drop_at}
+use Rattle.mk_edit_parts.proofs.on_finding.LeanLemmas.{asked}
 
 -- ---- where the recipe ends
 
@@ -161,44 +161,6 @@ past-end [] zero h = refl
 past-end [] (suc at) h = refl
 past-end (l ∷ ls) zero h = absurd (omega (arith, h))
 past-end (l ∷ ls) (suc at) h = past-end ls at (omega (arith, h))
-
--- ---- a step of the walk for the end of a recipe
-
-pub end-past : (r : recipe.Recipe) (c : Bool) (ls : List LocatedLine) (at : ℕ) → length ls ≤ at → recipe_from r c at (drop at ls) ≡ r
-end-past r c ls at h = ap (recipe_from r c at) (past-end ls at h)
-
-pub end-recipe : (r q : recipe.Recipe) (c d : Bool) (ls : List LocatedLine) (at : ℕ) (l : LocatedLine) → Some l ≡ slice_get ls at → is_recipe_located l.class ≡ true → q ≡ record { end = at + 1; is_split = c } → d ≡ c
-    → recipe_from r c at (drop at ls) ≡ recipe_from q d (at + 1) (drop (at + 1) ls)
-end-recipe r q c d ls at l h a e f = rw (drop_at ls at l h, a, e, f)
-
-pub end-other : (r q : recipe.Recipe) (c d : Bool) (ls : List LocatedLine) (at : ℕ) (l : LocatedLine) → Some l ≡ slice_get ls at → is_recipe_located l.class ≡ false → leaves_flag_located l.class ≡ true
-    → q ≡ r → d ≡ (c || is_conditional_located l.class) → recipe_from r c at (drop at ls) ≡ recipe_from q d (at + 1) (drop (at + 1) ls)
-end-other r q c d ls at l h a b e f = rw (drop_at ls at l h, a, b, e, f)
-
-pub end-ended : (r : recipe.Recipe) (c : Bool) (ls : List LocatedLine) (at : ℕ) (l : LocatedLine) → Some l ≡ slice_get ls at → is_recipe_located l.class ≡ false → leaves_flag_located l.class ≡ false
-    → recipe_from r c at (drop at ls) ≡ r
-end-ended r c ls at l h a b = rw (drop_at ls at l h, a, b)
-
--- ---- a step of the walk for a recipe line
-
-pub index-past : (n p : ℕ) (ls : List LocatedLine) (at : ℕ) → length ls ≤ at → recipe_index_from n p at (drop at ls) ≡ None
-index-past n p ls at h = ap (recipe_index_from n p at) (past-end ls at h)
-
-pub index-recipe : (n p q : ℕ) (ls : List LocatedLine) (at : ℕ) (l : LocatedLine) → Some l ≡ slice_get ls at → is_recipe_located l.class ≡ true → (p + 1 == n) ≡ false → q ≡ p + 1
-    → recipe_index_from n p at (drop at ls) ≡ recipe_index_from n q (at + 1) (drop (at + 1) ls)
-index-recipe n p q ls at l h a b e = rw (drop_at ls at l h, a, b, e)
-
-pub index-other : (n p q : ℕ) (ls : List LocatedLine) (at : ℕ) (l : LocatedLine) → Some l ≡ slice_get ls at → is_recipe_located l.class ≡ false → leaves_flag_located l.class ≡ true → q ≡ p
-    → recipe_index_from n p at (drop at ls) ≡ recipe_index_from n q (at + 1) (drop (at + 1) ls)
-index-other n p q ls at l h a b e = rw (drop_at ls at l h, a, b, e)
-
-pub index-ended : (n p : ℕ) (ls : List LocatedLine) (at : ℕ) (l : LocatedLine) → Some l ≡ slice_get ls at → is_recipe_located l.class ≡ false → leaves_flag_located l.class ≡ false
-    → recipe_index_from n p at (drop at ls) ≡ None
-index-ended n p ls at l h a b = rw (drop_at ls at l h, a, b)
-
-pub index-here : (n p : ℕ) (ls : List LocatedLine) (at : ℕ) (l : LocatedLine) → Some l ≡ slice_get ls at → is_recipe_located l.class ≡ true → p + 1 ≡ n
-    → recipe_index_from n p at (drop at ls) ≡ Some at
-index-here n p ls at l h a b = rw (drop_at ls at l h, a, eq-eqb (p + 1) n b)
 
 -- ---- the line that is ahead
 
