@@ -186,7 +186,7 @@ class Session:
         return self._grouped("end")
 
     def dry_run(self) -> ContextManager["Session"]:
-        """Tries edits: all of them are undone at the end, where nothing is raised too. None can be redone."""
+        """Tries edits: all of them are undone at the end, also without an exception. None can be redone."""
         return self._grouped("cancel")
 
     @contextmanager
