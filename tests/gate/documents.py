@@ -75,7 +75,7 @@ class Repository:
 
     def crate_problems(self, text):
         """Compares the table of crates with crates.txt."""
-        table = text[text.find("| Crate | What stands there |") :].partition("\n\n")[0].splitlines()[2:]
+        table = text[text.find("| Crate | Contents |") :].partition("\n\n")[0].splitlines()[2:]
         cells = [[CODE.findall(it) for it in row.split("|")[1:-1]] for row in table]
         rows, crates = {row[0][0]: row[2] for row in cells}, self.crates
         yield from (f"its table of crates is wrong on {it}" for it in sorted({*rows} ^ {*crates}))

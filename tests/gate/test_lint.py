@@ -21,7 +21,7 @@ FILES = {
     "README.md": "`make check`, `make cheek`, LOST.md, `python3 -m tests.lost`\n",
     "CONTRIBUTING.md": "`make chuck`\n",
     "bench/README.md": "`bench/lost`\n",
-    "docs/ARCHITECTURE.md": "| Crate | What stands there | Stands on |\n|---|---|---|\n"
+    "docs/ARCHITECTURE.md": "| Crate | Contents | Builds on |\n|---|---|---|\n"
     "| `low` | a | |\n| `high` | b | |\n| `lost` | c | |\n",
     "docs/PROOFS.md": "`low/src/outer.rt`, `low/src/lost.rt`, `low/specs/Said.IsSaid`, `low/specs/Said.IsLost`, `Said.IsGone`\n",
     "crates/low/src/lib.rt": "mod inner;\npub mod outer;\n",

@@ -1,15 +1,7 @@
-"""What builds the program, where another program stands for rt: tools/build, tools/try and tools/link."""
+"""What builds the program, where another program stands for rt: tools/build and tools/try."""
 
-import os
-import re
-import shutil
-import subprocess
+from tests.lib.buildings import BUILT, CRATES, PROGRAM, BuildingCase
 
-from tests import TOP
-from tests.lib.checks import SECONDS, Outcome
-from tests.lib.rooms import RoomCase
-
-CRATES = "low: memchr\nmkedit: low clap\nother: low\n"
 # rt ci says one thing of the crates, and leaves what it builds of mkedit.
 CI = """
 test "$*" = ci && test "$(ls crates | tr '\\n' ' ')" = "low mkedit " && test ! -e crates/mkedit/must-fail || exit 99
@@ -43,50 +35,10 @@ REFUSED = "rt: low proved\nA.antt:1:1: error: two types differ\nfn mkedit::a: no
 LINES = "building mkedit: what rt says goes to {log}\nlow proved, 1 of 2\nmkedit is kept, 2 of 2\n".format(
     log="crates/mkedit/out/build.log"
 )
-BUILT, PROGRAM, TRIED = (f"crates/mkedit/out/{it}" for it in ("mkedit", "bin/mkedit", "tried/mkedit"))
-# A program in C, and an archive without members, which stands for the toolchain's.
-SOURCE = '#include <stdio.h>\nint main(void) { return puts("mkedit 1") < 0; }\n'
-NO_MEMBERS = "!<arch>\n"
-LOADER = b"/ld-linux"
+TRIED = "crates/mkedit/out/tried/mkedit"
 
 
-class Building(RoomCase):
-    """A copy of what builds, and a program rt."""
-
-    def setUp(self):
-        super().setUp()
-        self.top, self.names = self.room.folder / "tree", self.room.folder / "names"
-        for folder in ("low", "mkedit/src", "mkedit/must-fail", "mkedit/out", "other"):
-            (self.top / "crates" / folder).mkdir(parents=True)
-        self.names.mkdir()
-        shutil.copytree(TOP / "tools", self.top / "tools")
-        shutil.copy(TOP / "Makefile", self.top)
-        (self.top / "crates.txt").write_text(CRATES)
-        (self.top / "HANDLES").touch()
-        self.program_tells("mkedit 1")
-
-    def rt(self, does, said, status=0):
-        (self.names / "said").write_text(said)
-        (self.names / "status").write_text(str(status))
-        (self.names / "rt").write_text(f"#!/bin/sh\n{does.format(names=self.names)}")
-        (self.names / "rt").chmod(0o755)
-
-    def program_tells(self, version):
-        """The program that is built prints its version, and reads a file where it gets one."""
-        for path in (self.names / "program", self.top / BUILT):
-            path.write_text(f"#!/bin/sh\ntest \"$1\" = --version || cat $1\necho '{version}'\n")
-            path.chmod(0o755)
-
-    def run_words(self, *words):
-        # (under make, a make that is started says so)
-        environment = {name: value for name, value in os.environ.items() if not name.startswith(("MAKE", "MFLAGS"))}
-        environment["PATH"] = f"{self.names}:{os.environ['PATH']}"
-        ran = subprocess.run(words, cwd=self.top, env=environment, timeout=SECONDS, capture_output=True)
-        return Outcome(re.sub(rb"(\d+ min )?\d+ s\n", b"N s\n", ran.stdout), ran.stderr, ran.returncode)
-
-    def assert_ran(self, stdout, stderr, status, *words):
-        self.assertEqual(self.run_words(*words), Outcome(stdout.encode(), stderr.encode(), status))
-
+class Building(BuildingCase):
     def test_make_proves_and_links_once(self):
         self.rt(CI, PROVED)
         got = self.run_words("make")
@@ -135,45 +87,3 @@ class Building(RoomCase):
         told = b"try: rt try did not run the program. It said:\nerror: no such name\n"
         self.assertEqual((got.stderr, got.status), (told, 1))
         self.assertEqual([*(self.top / TRIED).parent.iterdir()], [])
-
-    def test_a_program_is_linked_with_the_c_library_in_it(self):
-        self.rt("", "")
-        (self.names.parent / "c").mkdir()
-        for name in ("libos_c.a", "liblibc_c.a"):
-            (self.names.parent / "c" / name).write_text(NO_MEMBERS)
-        (self.top / "main.c").write_text(SOURCE)
-        if not shutil.which("cc") or self.run_words("cc", "-static-pie", "-o", "main", "main.c").status:
-            self.skipTest("there is no C compiler, or no static C library")
-        self.assert_ran("", "", 0, "cc", "-fPIE", "-c", "-o", f"{BUILT}.o", "main.c")
-        self.assert_ran("", "", 0, "cc", "-o", BUILT, f"{BUILT}.o")
-        self.assert_ran(f"{PROGRAM} is linked with the C library in it\n", "", 0, "tools/link", BUILT, PROGRAM)
-        self.assert_ran("mkedit 1\n", "", 0, PROGRAM)
-        if LOADER not in (self.top / BUILT).read_bytes() or LOADER in (self.top / PROGRAM).read_bytes():
-            self.fail("the loader is asked for by another program")
-
-    def test_a_program_is_copied_where_it_cannot_be_linked(self):
-        (self.top / f"{BUILT}.o").write_text("no object file")
-        self.rt("", "")
-        got = self.run_words("tools/link", BUILT, PROGRAM)
-        self.assertTrue(got.status == 0 and got.stdout.endswith(b": it starts later\n"), got)
-        self.assert_ran("mkedit 1\n", "", 0, PROGRAM, "--version")
-
-    def test_a_program_tells_the_commit_of_a_checkout_without_changes(self):
-        if not shutil.which("git"):
-            self.skipTest("git is not there")
-        version = "mkedit 1 (commit not recorded)"
-        self.program_tells(version)
-        author = ("-c", "user.name=A", "-c", "user.email=a@invalid")
-        for words in (("init", "-q"), ("add", "Makefile", "tools"), (*author, "commit", "-q", "-m", "a")):
-            self.assertEqual(self.run_words("git", *words).status, 0)
-        name = self.run_words("git", "rev-parse", "HEAD").stdout.decode()[:12]
-        for change, told in (("", f"mkedit 1 (commit {name})"), ("all:\n", version)):
-            (self.top / "Makefile").write_text(change or (self.top / "Makefile").read_text())
-            self.assertEqual(self.run_words("tools/link", BUILT, PROGRAM).status, 0)
-            self.assert_ran(f"{told}\n", "", 0, PROGRAM, "--version")
-
-    def test_a_program_with_no_place_for_its_commit_or_with_two_stays_as_it_is(self):
-        for version in ("mkedit 1", "mkedit 1 (commit not recorded) (commit not recorded)"):
-            self.program_tells(version)
-            self.assertEqual(self.run_words("tools/link", BUILT, PROGRAM).status, 0)
-            self.assert_ran(f"{version}\n", "", 0, PROGRAM, "--version")

@@ -13,7 +13,7 @@ from tests.lib.rooms import ANSWERS, RoomCase
 SIZES = [32_000 << it for it in range(4)]
 # How many times as much an answer may have, and its time and memory be, where the makefile has twice as much; and
 # what is too little to be judged: bytes, seconds and bytes. The memory is also that of this process.
-GREATEST, LEAST = 2.5, (10_000, 0.02, 64_000_000)
+GREATEST, LEAST = 2.5, (10_000, 0.04, 64_000_000)
 # So many runs may show that a time was the machine's other work.
 ROUNDS = 8
 # The options of a query, and over how many makefiles it is asked: the answer on one of several is in memory first.

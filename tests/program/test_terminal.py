@@ -99,6 +99,11 @@ class Terminal(RoomCase):
         )
         self.assert_holds("Makefile", b"CC = clang # c\n")
 
+    def test_a_makefile_that_cannot_be_opened_is_told_with_its_cause(self):
+        with terminal(lines=False) as (user, program):
+            got = self.room.run("session", "none", stderr=program)
+            self.assertEqual((got.status, all_shown(user, program)), (3, b"mkedit: cannot open none\nnone: note: no such file\n"))
+
     def test_an_edit_shows_the_lines_that_it_changes_alone(self):
         lines = [b"A = 1\n"] * 4 + [b"X = 1\n"] + [b"B = 1\n"] * 4 + [b"X = 2\n", b"Y = 3"]
         self.room.write("lines", b"".join(lines))

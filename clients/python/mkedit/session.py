@@ -282,8 +282,11 @@ class Session:
 
     # ---- the file
 
-    def write(self, anyway: bool = False) -> None:
-        """Puts the text into the file in one step; a fault where the file has changed, unless anyway is true."""
+    def write(self, *, anyway: bool = False) -> None:
+        """Puts the text into the file in one step; a fault where the file has changed, unless anyway is true.
+
+        `write_to` puts it into another file.
+        """
         self._do("write!" if anyway else "write")
 
     def write_to(self, path: PathName) -> None:

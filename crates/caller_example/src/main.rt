@@ -1,14 +1,21 @@
 //! An example: a makefile is looked through and edited, by functions with promises of their own.
 #![tactic(auto)]
 
-ghost use Rattle.std.specs.Prelude.{◌≡◌, true, None, IfOk, OnOk};
+ghost use Rattle.std.specs.Prelude.{◌≡◌, List, true, None, IfOk, Ok, OnErr, OnOk, Some};
+ghost use Rattle.mk_class.specs.ClassedLines.{ClassedLine, classed_lines};
+ghost use Rattle.mk_edit_language.specs.Edits.{ChangeValue, One, Set};
+ghost use Rattle.mk_history.specs.Machine.{Apply};
+ghost use Rattle.mk_session.specs.Sessions.{answer};
+ghost use Rattle.caller_example.specs.Migrated.{AreMigrated};
 
 use anyhow::{Context, Result};
-use mk::laws::{groups_are_taken_back, undo_takes_back_an_edit};
+use mk::laws::{edits_leave_the_rest, groups_are_taken_back, undo_takes_back_an_edit};
 use mk::{
-    Edit, Refusal, Session, StdSink, StdSource, assignments, assignments_of, read_all, rules_for,
-    text_of,
+    Edit, Refusal, Session, StdSink, StdSource, assignments, assignments_of, get, read_all,
+    rules_for, text_of,
 };
+use mk_edit_language::laws::outside::edited_lines_stand;
+use std::alloc::Global;
 use std::env;
 use std::fs::File;
 
@@ -46,6 +53,65 @@ fn is_kept(rt: &HostRuntime, session: &mut Session, edits: &[Edit]) -> Result<bo
     let _ = try_all(session, edits);
     let after = text_of(rt.alloc(), session.doc())?;
     Ok(before.as_slice() == after.as_slice())
+}
+
+// Sets the value of the assignment of a number.
+fn set_nth(
+    alloc: Global,
+    session: &mut Session,
+    nth: u32,
+    name: &[u8],
+    value: &[u8],
+) -> Result<(), Refusal>
+    ensures done { OnOk result (answer (Apply (ChangeValue (One (Some nth)) name.now (Set value.now)))
+        session.old.shown ≡ Ok session.new.shown) }
+    ensures same { OnErr result (session.new.shown ≡ session.old.shown) }
+{
+    match Edit::set(alloc, name, value) {
+        Ok(set) => session.apply(&set.nth(nth)),
+        Err(_) => Err(Refusal::NoMemory),
+    }
+}
+
+// Gives the assignment of a number the new value, if it has the old one: what was migrated still is.
+fn migrate_nth(
+    alloc: Global,
+    session: &mut Session,
+    nth: u32,
+    name: &[u8],
+    old: &[u8],
+    new: &[u8],
+) -> Result<(), Refusal>
+    ensures { (first : List ClassedLine)
+        → AreMigrated name.now old.now first (classed_lines session.old.shown.text)
+        → AreMigrated name.now old.now first (classed_lines session.new.shown.text) }
+{
+    edits_leave_the_rest();
+    edited_lines_stand();
+    if get(session.doc(), Some(nth), name)? == old {
+        set_nth(alloc, session, nth, name, new)?;
+    }
+    Ok(())
+}
+
+/// Gives each assignment of a variable that has the old value the new one. If one is refused, those
+/// above it are made.
+#[tactic(auto, using(crate::proofs::MigrationLemmas::migrated_same))]
+fn migrate(
+    alloc: Global,
+    session: &mut Session,
+    name: &[u8],
+    old: &[u8],
+    new: &[u8],
+) -> Result<(), Refusal>
+    ensures { AreMigrated name.now old.now (classed_lines session.old.shown.text)
+        (classed_lines session.new.shown.text) }
+{
+    let last = assignments_of(session.doc(), name).last();
+    'numbers: for nth in 1..=last.map_or(0, |it| it.nth) {
+        migrate_nth(alloc, session, nth, name, old, new)?;
+    }
+    Ok(())
 }
 
 // Makes an edit, or tells why it is refused.
@@ -90,5 +156,7 @@ fn main(rt: HostRuntime) -> Result<()> {
     session.end()?;
     show(&rt, "edited", &session)?;
     session.undo()?;
-    show(&rt, "undone", &session)
+    show(&rt, "undone", &session)?;
+    migrate(rt.alloc(), &mut session, b"CC", b"gcc", b"clang")?;
+    show(&rt, "migrated", &session)
 }

@@ -36,6 +36,8 @@ pub struct IndexedDoc<A: Allocator = Global> {
     finder: Finder<A>,
     // The lines of the variable that an edit last meant by a number, if they were worth noting.
     numbered: Option<Numbered<A>>,
+    // Whether a walk counted the lines of a variable, and they are where they were.
+    is_counted: bool,
 }
 
 impl<A: Allocator> Model for IndexedDoc<A> {
@@ -61,6 +63,7 @@ impl<A: Allocator> IndexedDoc<A> {
             doc,
             finder,
             numbered: None,
+            is_counted: false,
         }
     }
 
@@ -95,7 +98,14 @@ impl<A: Allocator + Copy> IndexedDoc<A> {
             return Known::Line(sought);
         }
         let known = self.finder.known(alloc, &self.doc, edit);
-        if self.is_walk_long(&known) {
+        if !self.is_walk_long(&known) {
+            return known;
+        }
+        // The first walk notes nothing: where each edit moves lines, what it noted would be of no use.
+        let is_again = self.is_counted && self.numbered.is_none();
+        self.numbered = None;
+        self.is_counted = true;
+        if is_again {
             self.numbered = self.lines_of(alloc, name).ok();
         }
         known
@@ -160,6 +170,7 @@ impl<A: Allocator + Copy> IndexedDoc<A> {
             }
             _ => {
                 self.numbered = None;
+                self.is_counted = false;
                 self.finder.follow_planned(&self.doc, &patch);
                 IndexedPatch {
                     patch: patch.make(&mut self.doc),
@@ -180,6 +191,7 @@ impl<A: Allocator + Copy> IndexedDoc<A> {
         ensures number { length self.new + taken_by patch ≡ length self.old + held_by patch }
     {
         self.numbered = None;
+        self.is_counted = false;
         self.finder.follow(&patch);
         IndexedPatch {
             patch: patch.make(&mut self.doc),

@@ -1,5 +1,5 @@
 //! A makefile that is open, and what it answers to requests.
-ghost use Rattle.std.specs.Prelude.{◌≡◌, IfOk, List, OnOk, Some, [], false, true, is_ok, option_and_then};
+ghost use Rattle.std.specs.Prelude.{◌≡◌, IfOk, List, None, OnOk, Some, [], false, true, is_ok, option_and_then};
 ghost use Rattle.mk_diff.specs.HunkTexts.{diff_text};
 ghost use Rattle.mk_diff.specs.Hunks.{Hunk, IsDiff};
 ghost use Rattle.mk_diff.specs.NameTexts.{patch_name};
@@ -108,6 +108,8 @@ impl<'a> Server<'a> {
         ensures opened { IfOk result (λ server. server.opened.text.items ≡ text.items) }
         ensures name { IfOk result (λ server. server.opened.name ≡ words.entry.file) }
         ensures form { IfOk result (λ server. server.opened.form ≡ words.entry.form) }
+        ensures written { IfOk result (λ server. server.written ≡ None) }
+        ensures warned { IfOk result (λ server. server.is_warned ≡ false) }
     {
         let opened = Opened {
             name: words.file,

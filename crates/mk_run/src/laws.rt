@@ -16,7 +16,7 @@ pub fn runs_have_one_result()
 /// changes no byte outside its spans. Each command that is refused changes nothing. What a run puts
 /// out is the makefile with the edits that stand replayed over it. If these edits are within the
 /// depth and no group is open, undoing all of them gives back the makefile: by `undo` after the run,
-/// or at the end of the same script, whose run then puts out the makefile.
+/// or, if no refusal ended the run, at the end of the same script, whose run then puts out the makefile.
 ///
 /// It follows from the laws of [`mk_session::laws`], which say the same for a session over any
 /// calls.

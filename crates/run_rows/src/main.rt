@@ -92,6 +92,12 @@ fn of_memory(case: &Case<'_>) -> Result<Option<Vec<u8>>, Fault> {
         ("same-memory", [short, long, edit]) => memory::same(case, short, long, edit),
         ("memory-by-index", [text, edit, lines]) => memory::by_index(case, text, edit, lines),
         ("memory-by-edits", [text, edit, edits]) => memory::by_edits(case, text, edit, edits),
+        ("memory-of-bytes", [text, edit, bytes]) => {
+            memory::by_bytes(case, text, edit, bytes, false)
+        }
+        ("memory-of-index", [text, edit, bytes]) => memory::by_bytes(case, text, edit, bytes, true),
+        ("memory-of-parse", [text, bytes]) => memory::of_parse(case, text, bytes),
+        ("first-of-group", [text, edit]) => memory::first_of_group(case, text, edit),
         _ => return of_indexes(case),
     };
     Ok(Some(answer?))

@@ -3,8 +3,10 @@
 
 use crate::index::first_growths;
 use crate::sessions::{execute, growths_of};
+use mk_class::Meter;
 use mk_lines::Fault;
 use mk_session::{Expected, Session};
+use mk_tree::Doc;
 use std::alloc::Global;
 use test_support::text::number;
 use test_support::{Case, Heap};
@@ -45,6 +47,38 @@ pub fn by_lines(
 ) -> Result<Vec<u8>, Fault> {
     let growths = first_growths(case.heap, makefile, edit, false)?;
     shown(case.alloc, growths.bytes, lines, 0)
+}
+
+/// Whether an edit takes at most so many bytes more than one of short lines: the new bytes of its lines, or
+/// the index that is made for it, and no second copy of either.
+pub fn by_bytes(
+    case: &Case<'_>,
+    makefile: &[u8],
+    edit: &[u8],
+    bytes: &[u8],
+    expects: bool,
+) -> Result<Vec<u8>, Fault> {
+    let growths = first_growths(case.heap, makefile, edit, expects)?;
+    shown(case.alloc, growths.bytes, b"1", number(bytes))
+}
+
+/// Whether a makefile is parsed with at most so many bytes more than an edit of short lines takes: its text
+/// is copied once, and no line without a fold takes memory to be read.
+pub fn of_parse(case: &Case<'_>, makefile: &[u8], bytes: &[u8]) -> Result<Vec<u8>, Fault> {
+    case.heap.refuse_none();
+    let _doc = Doc::parse(case.heap, makefile, &mut Meter::new())?;
+    let taken = case.heap.passed().bytes;
+    shown(case.alloc, taken, b"1", number(bytes))
+}
+
+/// Whether an edit takes fewer growths behind `begin`, which takes the room for the first patch of a group.
+pub fn first_of_group(case: &Case<'_>, makefile: &[u8], edit: &[u8]) -> Result<Vec<u8>, Fault> {
+    let alone = first_growths(case.heap, makefile, edit, false)?;
+    let mut session = Session::open(case.heap, makefile, 100)?;
+    execute(case.heap, &mut session, b"begin")?;
+    let grouped = growths_of(case.heap, &mut session, edit)?;
+    let is_less = grouped.count < alone.count;
+    Ok(is_less.to_string(case.alloc)?.into_bytes())
 }
 
 /// Whether an edit takes the same memory in two texts.
