@@ -30,8 +30,9 @@
 #                   the folder $(DIST): the program, the manual pages, the completions, the package for
 #                   Python, what a user reads, and the library for C, where make lib has built it; the
 #                   same bytes each time (tools/dist)
-#   make deb        packs two Debian packages, the program with what belongs to it and the package for
-#                   Python; MAINTAINER='NAME <ADDRESS>' says who is asked about them (tools/deb)
+#   make deb        packs Debian packages: the program with what belongs to it, the package for Python,
+#                   and the library for C, where make lib has built it; MAINTAINER='NAME <ADDRESS>' says
+#                   who is asked about them (tools/deb)
 #   make install    puts the program into $(DESTDIR)$(PREFIX)/bin, and the manual pages and the
 #                   completions of bash, zsh and fish where each belongs; and the library, its header
 #                   and what pkg-config asks for, where make lib has built it

@@ -21,11 +21,9 @@ PLACED = {
 }
 # What a user reads. It has the same place in a release, so that one document finds the other.
 READ = ("README.md", "CHANGELOG.md", *(f"docs/{it}.md" for it in ("GUIDE", "EDITS", "COOKBOOK", "LANGUAGE")))
-# The library for C as `make lib` builds it, its places below PREFIX, and what has a place beside it.
-LIBRARY = TOP / "crates/mkedit_c/out/lib"
-BUILT = {"libmkedit.a": "lib/libmkedit.a", "libmkedit.so.0": "lib/libmkedit.so.0"}
-HEADER, FOR_PKG_CONFIG = "include/mkedit.h", "lib/pkgconfig/mkedit.pc"
-FOLDERS = {b"@LIBDIR@": b"/usr/local/lib", b"@INCLUDEDIR@": b"/usr/local/include"}
+# The library for C as `make lib` builds it, and the header.
+LIBRARY, BUILT = TOP / "crates/mkedit_c/out/lib", ("libmkedit.a", "libmkedit.so.0")
+HEADER = "include/mkedit.h"
 # The package for Python, which stands in a release as a folder that pip installs.
 PYTHON, IN_PYTHON = "clients/python", ("README.md", "pyproject.toml", "mkedit/*")
 # The time of each file where nothing says another: the first second of 2000.
@@ -88,15 +86,17 @@ def installed(program):
     return [Packed(PROGRAM, program_at(program), True)] + [Packed(it, read(name)) for name, it in PLACED.items()]
 
 
-def library():
-    """The library for C with its header, by its places below PREFIX; nothing where `make lib` has built none."""
-    found = [Packed(it, (LIBRARY / name).read_bytes()) for name, it in BUILT.items() if (LIBRARY / name).is_file()]
+def library(prefix="/usr/local", folder="lib"):
+    """The library for C by its places below a prefix, with its header and what pkg-config asks for.
+
+    It is in this folder there. There is nothing where `make lib` has built none.
+    """
+    found = [Packed(f"{folder}/{it}", (LIBRARY / it).read_bytes()) for it in BUILT if (LIBRARY / it).is_file()]
     if not found:
         return []
-    said = read("packaging/mkedit.pc.in")
-    for name, folder in FOLDERS.items():
-        said = said.replace(name, folder)
-    return [*found, Packed(HEADER, read(HEADER)), Packed(FOR_PKG_CONFIG, said)]
+    said = read("packaging/mkedit.pc.in").replace(b"@LIBDIR@", f"{prefix}/{folder}".encode())
+    said = said.replace(b"@INCLUDEDIR@", f"{prefix}/include".encode())
+    return [*found, Packed(HEADER, read(HEADER)), Packed(f"{folder}/pkgconfig/mkedit.pc", said)]
 
 
 def python():

@@ -10,18 +10,18 @@ from typing import NamedTuple
 
 
 class Packed(NamedTuple):
-    """A file of an archive: its path, its bytes, and whether it is a program."""
+    """A file of an archive: its path, its bytes, and whether it is a program. Those of a link are its target."""
 
     path: str
     content: bytes
     is_program: bool = False
+    is_link: bool = False
 
 
-def header(path, time, is_folder, mode):
-    """What an archive says of a file or a folder: it belongs to root."""
+def header(path, time, kind, mode):
+    """What an archive says of a file, a folder or a link: it belongs to root."""
     info = tarfile.TarInfo(path)
-    info.type = tarfile.DIRTYPE if is_folder else tarfile.REGTYPE
-    info.mode, info.mtime = mode, time
+    info.type, info.mode, info.mtime = kind, mode, time
     info.uname = info.gname = "root"
     return info
 
@@ -41,11 +41,15 @@ def tarred(files, time, top=""):
         for path in sorted(entries):
             file = entries[path]
             if file is None:
-                archive.addfile(header(top + path.rstrip("/"), time, True, 0o755))
-                continue
-            info = header(top + path, time, False, 0o755 if file.is_program else 0o644)
-            info.size = len(file.content)
-            archive.addfile(info, io.BytesIO(file.content))
+                archive.addfile(header(top + path.rstrip("/"), time, tarfile.DIRTYPE, 0o755))
+            elif file.is_link:
+                info = header(top + path, time, tarfile.SYMTYPE, 0o777)
+                info.linkname = file.content.decode()
+                archive.addfile(info)
+            else:
+                info = header(top + path, time, tarfile.REGTYPE, 0o755 if file.is_program else 0o644)
+                info.size = len(file.content)
+                archive.addfile(info, io.BytesIO(file.content))
     return target.getvalue()
 
 

@@ -13,7 +13,7 @@ from tests.lib.rooms import ANSWERS, RoomCase
 SIZES = [32_000 << it for it in range(4)]
 # How many times as much an answer may have, and its time and memory be, where the makefile has twice as much; and
 # what is too little to be judged: bytes, seconds and bytes. The memory is also that of this process.
-GREATEST, LEAST = 2.5, (10_000, 0.04, 64_000_000)
+GREATEST, LEAST = 3, (10_000, 0.04, 64_000_000)
 # So many runs may show that a time was the machine's other work.
 ROUNDS = 8
 # The options of a query, and over how many makefiles it is asked: the answer on one of several is in memory first.
@@ -61,6 +61,10 @@ def branches_of_a_long_condition(size):
     return b"ifdef " + b"A" * (size // 2) + b"\n" + times(b"else ifdef B\n" + TOLD, size // 2) + b"endif\n"
 
 
+def branches_of_one_conditional(size):
+    return b"ifdef A\n" + times(b"else\nX=\n", size) + b"endif\n"
+
+
 SHAPES = (
     targets_and_recipe_lines,
     targets_and_branches,
@@ -68,6 +72,7 @@ SHAPES = (
     a_long_condition,
     nested_long_conditions,
     branches_of_a_long_condition,
+    branches_of_one_conditional,
 )
 
 

@@ -35,8 +35,8 @@ ARCHIVE = {
 if (BUILT / "libmkedit.a").exists():
     ARCHIVE |= {f"lib/{it.name}": f"crates/mkedit_c/out/lib/{it.name}" for it in BUILT.iterdir() if it.name != "libmkedit.so"}
     ARCHIVE |= {"include/mkedit.h": "include/mkedit.h", "lib/pkgconfig/mkedit.pc": "packaging/mkedit.pc.in"}
-# What Debian installs: the package of the program, and that for Python.
-MODULES = "usr/lib/python3/dist-packages"
+# What Debian installs: the package of the program, that for Python, and those of the library.
+MODULES, LIBRARIES = "usr/lib/python3/dist-packages", "usr/lib/x86_64-linux-gnu"
 OF_PYTHON = {
     *(it.replace("python", MODULES, 1) for it in ARCHIVE if it.startswith("python/mkedit/")),
     *(f"usr/share/doc/python3-mkedit/{it}" for it in ("changelog.gz", "changelog.Debian.gz", "copyright", "README.md")),
@@ -52,6 +52,13 @@ INSTALLED = {
     *(f"usr/share/doc/mkedit/docs/{it}.md" for it in ("GUIDE", "EDITS", "COOKBOOK", "LANGUAGE")),
     "usr/share/lintian/overrides/mkedit",
 }
+OF_LIBRARY = set()
+if (BUILT / "libmkedit.so.0").exists():
+    OF_LIBRARY |= {f"{LIBRARIES}/{it}" for it in ("libmkedit.a", "libmkedit.so", "libmkedit.so.0", "pkgconfig/mkedit.pc")}
+    OF_LIBRARY.add("usr/include/mkedit.h")
+    for it in ("libmkedit0", "libmkedit-dev"):
+        OF_LIBRARY |= {f"usr/share/doc/{it}/{name}" for name in ("changelog.gz", "changelog.Debian.gz", "copyright")}
+PACKAGES = ["python3-mkedit", "mkedit", *(["libmkedit-dev", "libmkedit0"] if OF_LIBRARY else [])]
 # What lintian finds where nobody has said who asks for the upload, and which licence it has.
 FOR_AN_UPLOAD = {
     "bogus-mail-host",
@@ -153,7 +160,7 @@ class Releases(RoomCase):
         ran = subprocess.run(words, cwd=TOP, env=kept, capture_output=True, text=True, timeout=SECONDS)
         self.assertEqual((ran.returncode, ran.stderr), (0, ""))
         suffixes = sorted(it.name.rpartition(".")[2] for it in self.out.iterdir())
-        self.assertEqual(suffixes, ["deb", "deb", "gz", "sha256"])
+        self.assertEqual(suffixes, [*("deb" for _ in PACKAGES), "gz", "sha256"])
 
     def test_a_program_that_runs_on_some_machines_alone_is_refused(self):
         code = bytearray(self.program.path.read_bytes())
@@ -192,15 +199,16 @@ class Releases(RoomCase):
             (root / "var/lib/dpkg" / name).mkdir(parents=True)
         (root / "var/lib/dpkg/status").touch()
         self.dpkg(root, "--install", *self.packed("deb").parent.iterdir())
-        self.assertEqual(self.files_below(root), INSTALLED | OF_PYTHON)
-        for name in INSTALLED | OF_PYTHON:
+        self.assertEqual(self.files_below(root), INSTALLED | OF_PYTHON | OF_LIBRARY)
+        for name in INSTALLED | OF_PYTHON | OF_LIBRARY:
             mode = stat.S_IMODE((root / name).stat().st_mode)
             self.assertEqual(oct(mode), oct(0o755 if name == "usr/bin/mkedit" else 0o644), name)
         self.assert_shows_manuals(root)
         self.room.program = Program(root / "usr/bin/mkedit")
         self.assert_run(EDITED, "edit", "script", "Makefile")
-        self.assert_edits(root / "usr/bin", root / MODULES)
-        self.dpkg(root, "--remove", "python3-mkedit", "mkedit")
+        for library in ["", *([str(root / LIBRARIES / "libmkedit.so")] if OF_LIBRARY else [])]:
+            self.assert_edits(root / "usr/bin", root / MODULES, library)
+        self.dpkg(root, "--remove", *PACKAGES)
         self.assertEqual(self.files_below(root), set())
 
     def test_a_package_names_the_maintainer_who_is_given(self):

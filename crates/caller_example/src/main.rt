@@ -12,7 +12,7 @@ use anyhow::{Context, Result};
 use mk::laws::{edits_leave_the_rest, groups_are_taken_back, undo_takes_back_an_edit};
 use mk::{
     Edit, Refusal, Session, StdSink, StdSource, assignments, assignments_of, get, read_all,
-    rules_for, text_of,
+    rule_lines_for, text_of,
 };
 use mk_edit_language::laws::outside::edited_lines_stand;
 use std::alloc::Global;
@@ -142,7 +142,7 @@ fn main(rt: HostRuntime) -> Result<()> {
             println!(rt; "{}: {lines:?}", String::from_utf8_lossy(rt.alloc(), name)?)?;
         }
     }
-    let last = rules_for(session.doc(), b"clean").last();
+    let last = rule_lines_for(session.doc(), b"clean").last();
     for nth in 1..=last.map_or(0, |rule| rule.nth) {
         let clean = Edit::recipe(rt.alloc(), b"clean", b"rm -rf build")?.nth(nth);
         make(&rt, &mut session, "clean", &clean)?;

@@ -13,7 +13,7 @@ use test_support::{Case, MemorySink};
 pub fn document(alloc: Global, text: &[u8]) -> Result<Doc, Fault>
     ensures { IfOk result (λ doc. IsFaithful doc) }
 {
-    Doc::parse(alloc, text, &mut Meter::new())
+    Doc::open(alloc, text)
 }
 
 /// A document, how many lines are counted for it, and how many conditionals are open at its end.

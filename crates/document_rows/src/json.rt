@@ -2,7 +2,7 @@
 ghost use Rattle.mk_tree.specs.Documents.{IsFaithful};
 
 use crate::documents::document;
-use mk_json::{caveats, check, push_text_line, recipes, rules, vars};
+use mk_json::{caveats_json, check_json, push_text_line, recipes_json, rules_json, vars_json};
 use mk_lines::Fault;
 use mk_tree::Doc;
 use std::alloc::{AllocError, Allocator};
@@ -21,11 +21,11 @@ fn asked<B: Allocator + Copy>(
     requires { IsFaithful doc.now }
 {
     match query {
-        b"vars" => vars(alloc, NAME, doc, word),
-        b"rules" => rules(alloc, NAME, doc, word),
-        b"recipes" => recipes(alloc, NAME, doc, word),
-        b"check" => check(alloc, NAME, doc),
-        _ => caveats(alloc, NAME, doc),
+        b"vars" => vars_json(alloc, NAME, doc, word),
+        b"rules" => rules_json(alloc, NAME, doc, word),
+        b"recipes" => recipes_json(alloc, NAME, doc, word),
+        b"check" => check_json(alloc, NAME, doc),
+        _ => caveats_json(alloc, NAME, doc),
     }
 }
 

@@ -88,6 +88,8 @@ fn of_views(case: &Case<'_>) -> Result<Option<Vec<u8>>, Fault> {
     let answer = match (case.table, case.fields) {
         ("parts", [text]) => views::parts(case, text),
         ("positions", [text]) => views::positions(case, text),
+        ("branches", [text]) => views::branches(case, text),
+        ("numbers", [text, target]) => views::numbers(case, text, target),
         ("assignments", [text, name]) => views::assignments_in(case, text, name),
         ("rules", [text, target]) => views::rules_in(case, text, target),
         ("line-caveats", [text]) => queries::caveats_of_lines(case, text),

@@ -6,7 +6,7 @@ use crate::documents::document;
 use mk_lines::sink::write_parts;
 use mk_lines::{ByteSink, Fault};
 use mk_queries::{
-    caveats, check, line_caveats, recipes, recipes_for, rules, rules_for, vars, vars_named,
+    caveats, check, line_caveats, recipes, recipes_named, rules, rules_named, vars, vars_named,
 };
 use mk_tree::Doc;
 use test_support::{Case, MemorySink};
@@ -53,8 +53,8 @@ fn write_of(table: &str, doc: &Doc, word: &[u8], out: &mut MemorySink) -> Result
 {
     let answer = match table {
         "vars" => vars_named(doc, word, out),
-        "rules" => rules_for(doc, word, out),
-        "recipes" => recipes_for(doc, word, out),
+        "rules" => rules_named(doc, word, out),
+        "recipes" => recipes_named(doc, word, out),
         _ => return Ok(false),
     };
     answer.map(|()| true)

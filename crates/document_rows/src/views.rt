@@ -2,7 +2,10 @@
 
 use crate::documents::document;
 use mk_lines::Fault;
-use mk_listing::{RuleLine, assignments, assignments_of, line_at, numbered, rules, rules_for};
+use mk_listing::{
+    RuleLine, assignment_number, assignments, assignments_of, line_at, numbered, rule_lines,
+    rule_lines_for, rule_number, with_conditionals,
+};
 use mk_tree::{AssignmentRef, Line, RuleRef, WordTexts, text_of};
 use std::alloc::{AllocError, Global};
 use std::fmt::{Debug, Write as _};
@@ -104,6 +107,43 @@ pub fn positions(case: &Case<'_>, text: &[u8]) -> Result<Vec<u8>, Fault> {
     Ok(shown.into_bytes())
 }
 
+/// The lines of a document, each with the branches round it: their lines, the first lines of their
+/// conditionals, how many conditionals are round these, and the lines of the branches round them.
+pub fn branches(case: &Case<'_>, text: &[u8]) -> Result<Vec<u8>, Fault> {
+    let doc = document(case.alloc, text)?;
+    let mut shown = String::new(case.alloc);
+    let mut lines = with_conditionals(case.heap, &doc);
+    for _ in 0..doc.len() {
+        let Some((position, _)) = lines.next_line()? else {
+            break;
+        };
+        push(&mut shown, position.number, b":")?;
+        for it in lines.branches() {
+            push(&mut shown, (it.line, it.first, it.depth, it.outer), it.text)?;
+        }
+    }
+    Ok(shown.into_bytes())
+}
+
+/// The lines of a document, each with its numbers as an assignment and as a rule for a target; and those
+/// of the index behind the last.
+pub fn numbers(case: &Case<'_>, text: &[u8], target: &[u8]) -> Result<Vec<u8>, Fault> {
+    let doc = document(case.alloc, text)?;
+    let mut shown = String::new(case.alloc);
+    for index in 0..=doc.len() {
+        let numbers = (
+            assignment_number(&doc, index),
+            rule_number(&doc, index, target),
+        );
+        push(
+            &mut shown,
+            numbers,
+            line_at(&doc, index).map_or(b"-", Line::text),
+        )?;
+    }
+    Ok(shown.into_bytes())
+}
+
 /// The assignments of a document, each with the number of its line and its own; then those of a name.
 pub fn assignments_in(case: &Case<'_>, text: &[u8], name: &[u8]) -> Result<Vec<u8>, Fault> {
     let doc = document(case.alloc, text)?;
@@ -130,10 +170,10 @@ pub fn assignments_in(case: &Case<'_>, text: &[u8], name: &[u8]) -> Result<Vec<u
 pub fn rules_in(case: &Case<'_>, text: &[u8], target: &[u8]) -> Result<Vec<u8>, Fault> {
     let doc = document(case.alloc, text)?;
     let mut shown = String::new(case.alloc);
-    for rule in rules(&doc) {
+    for rule in rule_lines(&doc) {
         push_rule(&mut shown, &rule)?;
     }
-    for rule in rules_for(&doc, target) {
+    for rule in rule_lines_for(&doc, target) {
         push_rule(&mut shown, &rule)?;
     }
     Ok(shown.into_bytes())

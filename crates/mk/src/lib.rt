@@ -2,7 +2,7 @@
 //!
 //! - [`Session`]: a makefile that is edited, with a call for each edit, undo, redo and groups; [`Edit`] and
 //!   [`Place`] make edits as values.
-//! - [`assignments`], [`rules`] and their like: what a makefile has, line by line; a [`Line`] lends its parts.
+//! - [`assignments`], [`rule_lines`] and their like: what a makefile has, line by line; a [`Line`] lends its parts.
 //! - [`get`]: the value of a variable.
 //! - [`run`]: a script over a makefile, as the program does it; [`parse_script`]: its steps.
 //! - [`diff`]: the unified diff of two texts.
@@ -18,8 +18,9 @@ pub use mk_history::history::MAX_DEPTH;
 pub use mk_lines::source::{MAX_TEXT, read_all};
 pub use mk_lines::{ByteSink, ByteSource, Fault, StdSink, StdSource};
 pub use mk_listing::{
-    AssignmentLine, Position, RecipeLine, RuleLine, assignments, assignments_of, line_at, numbered,
-    rules, rules_for,
+    AssignmentLine, Branch, LinesInBranches, Position, RecipeLine, RuleLine, assignment_number,
+    assignments, assignments_of, line_at, numbered, rule_lines, rule_lines_for, rule_number,
+    with_conditionals,
 };
 pub use mk_lookup::{find_assignment, find_rule, get};
 pub use mk_run::{Observer, Outcome, Reported, message, run, run_steps, status};

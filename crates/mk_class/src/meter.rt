@@ -11,8 +11,8 @@ use std::marker::Model;
 /// if it answers a fault.
 ///
 /// A call could also make a meter of its own and read lines on it. No contract says that none does:
-/// the repository's gate looks that [`Meter::new`] stands in no source of the program but where a
-/// session is opened, and in the query `caveats`.
+/// whoever doubts it looks where [`Meter::new`] stands in the sources. Sessions and `Doc::open` make
+/// one, and so does the query `caveats`.
 #[derive(Debug, Drop)]
 pub struct Meter {
     count: u64,

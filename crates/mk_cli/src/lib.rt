@@ -1,7 +1,7 @@
 //! The command line of the program `mkedit`: what its words ask for, as `clap` reads them, and what is
 //! printed of the program itself.
 //!
-//! [`read_request`] reads the words. What a refusal is, which `mkedit explain` takes, the caller says by a
+//! [`read_command_line`] reads the words. What a refusal is, which `mkedit explain` takes, the caller says by a
 //! type, such as [`CalledRefusal`].
 //!
 //! - `utf8`: the words, each as UTF-8.
@@ -37,13 +37,13 @@ pub use command_help::{CommandHelp, asked_command, command_called, put_help};
 pub use explain::{CalledRefusal, NoRefusal, put_explanation, refusal_of};
 pub use explanations::explanation;
 pub use mistakes::{
-    COMMAND_HINT, COMMAND_LINES, EXCHANGED_HINT, ScriptMistake, before_number, is_command,
+    COMMAND_HINT, COMMAND_LINES, EXCHANGED_HINT, ScriptMistake, before_number, is_command_word,
     push_mistake, script_mistake,
 };
 pub use progress::{Progress, Summary};
-pub use reading::read_request;
+pub use reading::read_command_line;
 pub use request::{
     Backup, Color, EditWords, Form, Input, MAX_DEPTH, Output, Query, QueryWords, Question, Report,
     Request, Script, SessionWords,
 };
-pub use utf8::{bad_files, tell_bad_words, words};
+pub use utf8::{bad_files, command_line_words, tell_bad_words};

@@ -84,7 +84,7 @@ pub const COMMAND_HINT: &str = "-e goes before a command";
 pub const EXCHANGED_HINT: &str = "did you swap SCRIPT and FILE?";
 
 /// Whether a name begins with a command: somebody may have left out `-e` before it.
-pub fn is_command(name: &str) -> bool {
+pub fn is_command_word(name: &str) -> bool {
     match name.split_once(' ') {
         Some((word, _)) => command_form(word.as_bytes()).is_some(),
         None => false,

@@ -361,7 +361,7 @@ where
 /// beside `--check` or without the name of a file; `--check` beside `-o`; a suffix that is empty or has
 /// a `/`, or that stands without `-i`; `--summary` where a text is printed; a report in no form that there
 /// is; a session over `-`. A query that `clap` takes fails only if memory runs out.
-pub fn read_request<'a, R: FromStr + Drop>(
+pub fn read_command_line<'a, R: FromStr + Drop>(
     alloc: Global,
     words: &'a [String],
 ) -> Result<Request<'a, R>, clap::Error>

@@ -43,7 +43,7 @@ impl Env for SystemWords<'_> {
 /// # Errors
 ///
 /// Want of memory.
-pub fn words(rt: &HostRuntime) -> io::Result<Vec<String>> {
+pub fn command_line_words(rt: &HostRuntime) -> io::Result<Vec<String>> {
     let words = std::env::args(&(SystemWords(rt), rt.alloc()))?;
     Ok(words.collect(rt.alloc())?)
 }

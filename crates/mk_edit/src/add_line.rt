@@ -13,7 +13,7 @@ use crate::moves::insert_line;
 use mk_class::Meter;
 use mk_edit_language::{Edit, Refusal};
 use mk_edit_parts::find::find;
-use mk_edit_parts::line_end::file_line_end;
+use mk_edit_parts::line_end::doc_line_end;
 use mk_edit_parts::new_line::{begins_with_prefix, new_line};
 use mk_edit_parts::seek::{Found, Sought};
 use mk_patch::Patch;
@@ -71,7 +71,7 @@ pub(crate) fn add_line<A: Allocator + Copy>(
     if let Some(refusal) = place_refusal(doc, edit, &place) {
         return Err(refusal);
     }
-    let end = file_line_end(doc);
+    let end = doc_line_end(doc);
     let Ok(bytes) = new_line(alloc, edit, place.context.prefix(), end) else {
         return Err(Refusal::NoMemory);
     };

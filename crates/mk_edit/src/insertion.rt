@@ -21,7 +21,7 @@ use crate::moves::follows_unended;
 use mk_class::RuleFlag;
 use mk_edit_language::{Edit, Place, Refusal};
 use mk_edit_parts::lean::leans;
-use mk_edit_parts::line_end::file_line_end;
+use mk_edit_parts::line_end::doc_line_end;
 use mk_edit_parts::new_line::new_len;
 use mk_edit_parts::place::after_lines;
 use mk_edit_parts::seek::Found;
@@ -168,7 +168,7 @@ fn ends_len<A: Allocator>(doc: &Doc<A>, at: usize) -> usize
     ensures number { result ≡ ends_length doc.now at }
     ensures few { result ≤ 4 }
 {
-    let end = end_len(file_line_end(doc));
+    let end = end_len(doc_line_end(doc));
     if follows_unended(doc, at) {
         end + end
     } else {

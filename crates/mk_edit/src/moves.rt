@@ -18,7 +18,7 @@ ghost use Rattle.mk_edit_parts.specs.Found.{IsPlaceOf};
 
 use mk_class::{Context, Meter};
 use mk_edit_language::Refusal;
-use mk_edit_parts::line_end::{file_line_end, with_line_end};
+use mk_edit_parts::line_end::{doc_line_end, with_line_end};
 use mk_edit_parts::seek::Found;
 use mk_lines::Fault;
 use mk_lines::ends::{End, line_end};
@@ -144,7 +144,7 @@ fn last_line_ended<A: Allocator + Copy>(alloc: A, doc: &Doc<A>) -> Result<LineBy
     ensures refused { IsOkUnless result Refusal.NoMemory }
 {
     let last = doc.line(doc.len() - 1);
-    let Ok(bytes) = with_line_end(alloc, last.bytes(), file_line_end(doc)) else {
+    let Ok(bytes) = with_line_end(alloc, last.bytes(), doc_line_end(doc)) else {
         return Err(Refusal::NoMemory);
     };
     match LineBytes::new(bytes) {

@@ -10,7 +10,7 @@ use std::alloc::{AllocError, Allocator};
 
 /// The line end that new lines of a document get: that of the first line of its text, or LF if that
 /// line has none. Takes no memory.
-pub fn file_line_end<A: Allocator>(doc: &Doc<A>) -> End
+pub fn doc_line_end<A: Allocator>(doc: &Doc<A>) -> End
     requires { IsFaithful doc.now }
     ensures { result ≡ file_line_end (located_text doc.now) }
 {

@@ -6,7 +6,7 @@ use Rattle.mk_class.specs.declared.assignment.Assignment as assignment
 use Rattle.mk_class.specs.declared.class.Class.TheVariants as variants
 use Rattle.mk_tree.specs.LocatedLines.{LocatedLine, text_of_line}
 use Rattle.mk_tree.specs.UnreadPrefixes.{IsEndOf}
-use Rattle.mk_tree.specs.declared.end.End.{End}
+use Rattle.mk_tree.specs.declared.end.DocEnd.{DocEnd}
 use Rattle.mk_edit_parts.specs.Candidates.{AreCandidates, Listed}
 use Rattle.mk_index.specs.Indexes as indexes
 use Rattle.mk_index.specs.Indexes.{IsIndexOf}
@@ -16,7 +16,7 @@ use Rattle.mk_index.specs.declared.effect.Effect.TheVariants.{Same, Appends, Oth
 -- what is known of some lines: an index, and where they end; each may be unknown
 pub record Known : Type 0 where
   pub index : Option indexes.Stored
-  pub end : Option End
+  pub end : Option DocEnd
 
 -- what is known is right for these lines
 pub record IsKnownFor (ls : List LocatedLine) (known : Known) : Type 0 where
@@ -51,7 +51,7 @@ pub record IsOneMore (before after : List LocatedLine) : Type 0 where
   pub lines_are : after ≡ before ++ last ∷ []
 
 -- the lines without the last end so
-pub record IsBehind (ls : List LocatedLine) (end : End) : Type 0 where
+pub record IsBehind (ls : List LocatedLine) (end : DocEnd) : Type 0 where
   pub earlier : List LocatedLine
   pub one_more : IsOneMore earlier ls
   pub end_is : IsEndOf earlier end

@@ -6,7 +6,7 @@ use Rattle.mk_class.specs.Contexts.{Context, context_after_located}
 use Rattle.mk_class.specs.declared.class.Class as class
 use Rattle.mk_tree.specs.LocatedLines.{LocatedLine}
 use Rattle.mk_tree.specs.UnreadPrefixes.{IsEndOf}
-use Rattle.mk_tree.specs.declared.end.End.{End}
+use Rattle.mk_tree.specs.declared.end.DocEnd.{DocEnd}
 use Rattle.mk_edit_parts.specs.LocatedParts.{is_unread_in, is_unread_located}
 use Rattle.mk_edit_parts.specs.RenamedRanges.{word_parts}
 use Rattle.mk_patch.specs.Moves.{Move, PutIn, TakeOut, Exchange, SwapEnd}
@@ -75,4 +75,4 @@ pub record IsHeld (blocks : List Block) (at number : ℕ) : Type 0 where
 -- before it do.
 pub record IsKept (before after : List LocatedLine) (kept : Bool) (index : indexes.Stored) : Type 0 where
   pub index_is : IsIndexOf (if kept then after else before) index
-  pub end_is : kept ≡ true → (end : End) → IsEndOf before end → IsEndOf after end
+  pub end_is : kept ≡ true → (end : DocEnd) → IsEndOf before end → IsEndOf after end

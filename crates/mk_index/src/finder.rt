@@ -27,7 +27,7 @@ use mk_edit_parts::seek::{Found, Sought, seek};
 use mk_edit_parts::window::{Known, Window};
 use mk_patch::Patch;
 use mk_tree::end::sets_prefix_unread;
-use mk_tree::{Doc, End};
+use mk_tree::{Doc, DocEnd};
 use std::alloc::{Allocator, Global};
 use std::marker::Model;
 
@@ -40,7 +40,7 @@ const FEWEST_LINES: usize = 1_024;
 #[derive(Drop)]
 pub struct Finder<A: Allocator = Global> {
     index: Option<Index<A>>,
-    end: Option<End>,
+    end: Option<DocEnd>,
     // Whether the next edit that asks for an index makes it (an edit with an address, a rename, or a
     // change of all values of a name): the last one made do with a walk, or more edits are expected.
     is_due: bool,
@@ -60,7 +60,7 @@ impl<A: Allocator> Model for Finder<A> {
 impl<A: Allocator + Copy> Finder<A> {
     /// A finder of a document that was just read. It knows where the document ends. It takes no walk
     /// and no memory.
-    pub fn over(doc: &Doc<A>, end: End) -> Finder<A>
+    pub fn over(doc: &Doc<A>, end: DocEnd) -> Finder<A>
         requires { IsEndOf doc.now end }
         ensures known { IsKnownFor doc.now result }
         ensures end { result.end ≡ Some end }
@@ -323,14 +323,14 @@ impl<A: Allocator + Copy> Finder<A> {
     }
 
     /// Where the document ends, if that is known. Takes no memory.
-    pub fn end(&self) -> Option<End>
+    pub fn end(&self) -> Option<DocEnd>
         ensures { result ≡ self.now.end }
     {
         self.end
     }
 
     /// Notes where the document ends, which is one line further down than before. Takes no memory.
-    pub fn append(&mut self, doc: &Doc<A>, end: End)
+    pub fn append(&mut self, doc: &Doc<A>, end: DocEnd)
         requires faithful { IsFaithful doc.now }
         requires right { IsKnownFor doc.now self.old }
         requires behind { IsBehind doc.now end }
@@ -341,7 +341,7 @@ impl<A: Allocator + Copy> Finder<A> {
         let last = doc.line(doc.len() - 1);
         let class = last.class();
         let is_unread = sets_prefix_unread(last, &class);
-        self.end = Some(End {
+        self.end = Some(DocEnd {
             context: end.context.step(&class),
             has_unread_prefix: end.has_unread_prefix | is_unread,
         });
@@ -375,18 +375,18 @@ fn windows_known<A: Allocator>(windows: Option<Vec<Window, A>>) -> Known<A>
 }
 
 // Where a document ends, by what is sought for no address.
-fn end_of(sought: Sought) -> End
+fn end_of(sought: Sought) -> DocEnd
     ensures { result
         ≡ record { context = sought.end.context; has_unread_prefix = sought.has_unread_prefix } }
 {
-    End {
+    DocEnd {
         context: sought.end.context,
         has_unread_prefix: sought.has_unread_prefix,
     }
 }
 
 // What a document that ends so has for no address.
-fn sought_at<A: Allocator>(doc: &Doc<A>, end: End) -> Sought
+fn sought_at<A: Allocator>(doc: &Doc<A>, end: DocEnd) -> Sought
     requires faithful { IsFaithful doc.now }
     requires end { IsEndOf doc.now end }
     ensures { IsSought (classed_lines (located_text doc.now)) None result }

@@ -1,12 +1,12 @@
 //! What a makefile has, as lines of JSON, for programs.
 //!
-//! - [`vars`]: an object on each assignment, of one name if one is asked for.
-//! - [`rules`]: an object on the line of each rule, for one target if one is asked for.
-//! - [`recipes`]: an object on each rule that has recipe lines, and on each of these, for one target if one is
+//! - [`vars_json`]: an object on each assignment, of one name if one is asked for.
+//! - [`rules_json`]: an object on the line of each rule, for one target if one is asked for.
+//! - [`recipes_json`]: an object on each rule that has recipe lines, and on each of these, for one target if one is
 //!   asked for.
-//! - [`check`]: an object on each line that is not read inside, and on what is open at the end.
-//! - [`caveats`]: an object on each line that make may read otherwise, as far as the lines show it.
-//! - [`value`]: the object on the value of a variable.
+//! - [`check_json`]: an object on each line that is not read inside, and on what is open at the end.
+//! - [`caveats_json`]: an object on each line that make may read otherwise, as far as the lines show it.
+//! - [`value_json`]: the object on the value of a variable.
 //! - [`push_text_line`]: an object on a line of any text.
 //! - [`Object`]: an object that a caller fills.
 //!
@@ -18,7 +18,6 @@
 //!
 //! The modules, lowest first:
 //!
-//! - `branch`: the branches of conditionals in which lines stand.
 //! - `object`: an object, member by member.
 //! - `line_objects`: the objects on lines of a makefile, and on branches.
 //! - `query`: the queries.
@@ -30,12 +29,11 @@
 //! bytes. All objects are in memory before one is written, so the only fault is want of memory.
 #![tactic(auto)]
 
-mod branch;
 mod line_objects;
 mod object;
 mod query;
 mod text_line;
 
 pub use object::Object;
-pub use query::{caveats, check, recipes, rules, value, vars};
+pub use query::{caveats_json, check_json, recipes_json, rules_json, value_json, vars_json};
 pub use text_line::push_text_line;

@@ -3,9 +3,8 @@
 //! A listing goes from rule to rule and knows no conditionals, so a second walk passes the lines
 //! above each object. Objects are asked for from the top down, so it passes each line once.
 
-use crate::branch::{Branch, pass};
 use crate::object::Object;
-use mk_listing::{NumberedLines, Position, numbered};
+use mk_listing::{Branch, LinesInBranches, Position, with_conditionals};
 use mk_tree::Doc;
 use std::alloc::{AllocError, Allocator};
 
@@ -15,10 +14,9 @@ pub(crate) struct LineObjects<'a, A: Allocator, B: Allocator> {
     alloc: &'a B,
     file: &'a [u8],
     // The lines that are not passed yet, and how many are.
-    lines: NumberedLines<'a, A>,
+    lines: LinesInBranches<'a, A, &'a B>,
     passed: usize,
-    // The branches so far of the conditionals that are open there, and how many of them have their object.
-    branches: Vec<Branch<'a>, &'a B>,
+    // How many of the branches there have their object.
     told: usize,
 }
 
@@ -28,22 +26,20 @@ impl<'a, A: Allocator, B: Allocator + Copy> LineObjects<'a, A, B> {
         LineObjects {
             alloc,
             file,
-            lines: numbered(doc),
+            lines: with_conditionals(alloc, doc),
             passed: 0,
-            branches: Vec::new(alloc),
             told: 0,
         }
     }
 
-    // Passes the lines above the one at an index.
+    // Goes down to the line at an index.
     fn go_to(&mut self, index: usize) -> Result<(), AllocError> {
-        for _ in self.passed..index {
-            if let Some((position, line)) = self.lines.next() {
-                pass(&mut self.branches, position, line)?;
-                self.told = self.told.min(self.branches.len());
-            }
+        let count = index.saturating_add(1);
+        for _ in self.passed..count {
+            self.lines.next_line()?;
+            self.told = self.told.min(self.lines.branches().len());
         }
-        self.passed = self.passed.max(index);
+        self.passed = self.passed.max(count);
         Ok(())
     }
 
@@ -55,21 +51,28 @@ impl<'a, A: Allocator, B: Allocator + Copy> LineObjects<'a, A, B> {
     /// [`AllocError`] if a growth was refused.
     pub(crate) fn begin(
         &mut self,
-        mut text: Vec<u8, B>,
+        text: Vec<u8, B>,
         position: Position,
     ) -> Result<Object<B>, AllocError> {
         self.go_to(position.index)?;
-        for index in self.told..self.branches.len() {
-            text = self.put_branch(text, self.branches[index])?;
-        }
-        self.told = self.branches.len();
-        let branch = self.branches.last().map(|branch| branch.line);
+        let text = self.put_branches(text)?;
+        self.told = self.lines.branches().len();
+        let branch = self.lines.branches().last().map(|branch| branch.line);
         let depth = usize::from(position.conditionals);
         self.begin_at(text, position.number, depth, branch)
     }
 
+    // Puts the objects on the branches that have none yet behind a text.
+    fn put_branches(&self, mut text: Vec<u8, B>) -> Result<Vec<u8, B>, AllocError> {
+        let branches = self.lines.branches();
+        for index in self.told..branches.len() {
+            text = self.put_branch(text, &branches[index])?;
+        }
+        Ok(text)
+    }
+
     // Puts the object on a branch behind a text.
-    fn put_branch(&self, text: Vec<u8, B>, branch: Branch<'_>) -> Result<Vec<u8, B>, AllocError> {
+    fn put_branch(&self, text: Vec<u8, B>, branch: &Branch<'_>) -> Result<Vec<u8, B>, AllocError> {
         let mut object = self.begin_at(text, branch.line, branch.depth, branch.outer)?;
         object.string("kind", "branch")?;
         object.number("first", branch.first)?;

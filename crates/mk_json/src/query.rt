@@ -31,7 +31,7 @@ use std::alloc::{AllocError, Allocator};
 /// # Errors
 ///
 /// [`AllocError`] if a growth was refused.
-pub fn vars<A: Allocator, B: Allocator + Copy>(
+pub fn vars_json<A: Allocator, B: Allocator + Copy>(
     alloc: B,
     file: &[u8],
     doc: &Doc<A>,
@@ -84,7 +84,7 @@ fn put_targets<B: Allocator + Copy>(
 /// # Errors
 ///
 /// [`AllocError`] if a growth was refused.
-pub fn rules<'a, A: Allocator, B: Allocator + Copy>(
+pub fn rules_json<'a, A: Allocator, B: Allocator + Copy>(
     alloc: B,
     file: &[u8],
     doc: &'a Doc<A>,
@@ -121,13 +121,13 @@ fn put_rule<A: Allocator, B: Allocator + Copy>(
 // The rules of a document, for one target if one is asked for.
 fn wanted_rules<'a, A: Allocator>(doc: &'a Doc<A>, target: Option<&'a [u8]>) -> Rules<'a, A> {
     match target {
-        Some(target) => mk_listing::rules_for(doc, target),
-        None => mk_listing::rules(doc),
+        Some(target) => mk_listing::rule_lines_for(doc, target),
+        None => mk_listing::rule_lines(doc),
     }
 }
 
 /// A line of JSON on each recipe line of each rule of a makefile in order; of the rules for one target,
-/// if one is asked for. Before those of a rule stands the line of [`rules`] on it, whose number they have as
+/// if one is asked for. Before those of a rule stands the line of [`rules_json`] on it, whose number they have as
 /// `rule`.
 ///
 /// Its number among the recipe lines of its rule is the one that edits of recipe lines take:
@@ -142,7 +142,7 @@ fn wanted_rules<'a, A: Allocator>(doc: &'a Doc<A>, target: Option<&'a [u8]>) -> 
 /// # Errors
 ///
 /// [`AllocError`] if a growth was refused.
-pub fn recipes<'a, A: Allocator, B: Allocator + Copy>(
+pub fn recipes_json<'a, A: Allocator, B: Allocator + Copy>(
     alloc: B,
     file: &[u8],
     doc: &'a Doc<A>,
@@ -180,7 +180,7 @@ pub fn recipes<'a, A: Allocator, B: Allocator + Copy>(
 /// # Errors
 ///
 /// [`AllocError`] if a growth was refused.
-pub fn check<A: Allocator, B: Allocator + Copy>(
+pub fn check_json<A: Allocator, B: Allocator + Copy>(
     alloc: B,
     file: &[u8],
     doc: &Doc<A>,
@@ -226,7 +226,7 @@ pub fn check<A: Allocator, B: Allocator + Copy>(
 /// # Errors
 ///
 /// [`AllocError`] if a growth was refused.
-pub fn caveats<A: Allocator, B: Allocator + Copy>(
+pub fn caveats_json<A: Allocator, B: Allocator + Copy>(
     alloc: B,
     file: &[u8],
     doc: &Doc<A>,
@@ -255,7 +255,7 @@ pub fn caveats<A: Allocator, B: Allocator + Copy>(
 /// # Errors
 ///
 /// [`AllocError`] if an allocation failed.
-pub fn value<B: Allocator + Copy>(
+pub fn value_json<B: Allocator + Copy>(
     alloc: B,
     file: &[u8],
     name: &[u8],

@@ -1,7 +1,8 @@
 -- The numbers of what is listed are those that edits take.
 use Rattle.std.proofs.Common.{◌≡◌, refl, sym, ap, ◌∙◌, arith, ℕ, zero, suc, ◌+◌, if◌then◌else◌, Bool, true, false, ◌||◌, List, [], ◌∷◌, ◌++◌, length, length-append, map, take, Option, Some, None}
-use Rattle.std.specs.Prelude.{filter, option_and_then}
+use Rattle.std.specs.Prelude.{filter, option_and_then, slice_get}
 use Rattle.std.proofs.lemmas.List.{take-map}
+use Rattle.std.proofs.lemmas.Slice.Eq.{bytes_eq-Decides}
 use Rattle.std.specs.Str.{bytes_eq}
 use Rattle.mk_lines.specs.Cells.{Cell}
 use Rattle.mk_lines.specs.Lists.{leading}
@@ -24,12 +25,9 @@ use Rattle.mk_edit_language.specs.Spots.{nth_of, spots, spot_if, under}
 use Rattle.mk_edit_language.specs.Stretches.{below_header, recipe_spot}
 use Rattle.mk_listing.specs.declared.assignment.AssignmentLine.{AssignmentLine}
 use Rattle.mk_listing.specs.Listings.{RecipeSpot, RuleSpot, Spot, Standing, assignment_lines, is_for, is_of, position_below, recipe_spots, rule_spots, rules_ahead, seen, seen_before, seen_recipes, standing_below, stays, whole}
-use Rattle.mk_listing.specs.ListingLaws.{AssignmentsHaveTheirNumbers, RecipeLinesHaveTheirNumbers, RulesHaveTheirNumbers}
-
--- whether there is a view that passes a test
-abbrev shows : {V : Type 0} → (V → Bool) → Option V → Bool
-shows passes None = false
-shows passes (Some v) = passes v
+use Rattle.mk_listing.specs.ListingLaws.{AssignmentsAreNumbered, AssignmentsHaveTheirNumbers, RecipeLinesHaveTheirNumbers, RulesAreNumbered, RulesHaveTheirNumbers}
+use Rattle.mk_listing.proofs.CountLemmas.{down-more}
+use Rattle.mk_listing.specs.Numbers.{count_down_to, line_assigns, line_is_rule_for, shows}
 
 -- where a line stands of which something is seen: its index, how many lines are passed with it, and
 -- those below it
@@ -286,3 +284,39 @@ recipes-numbered law text target n k rule listed first second =
         ),
       ),
     )
+
+-- ---- numbers by the index of a line
+
+-- a spot behind one more line, which may be counted
+nth-behind : (q : Bool) (k : ℕ) (first : StandingLine) (l : ClassedLine) (ss : List StandingLine) (s : StandingLine) → nth_of k ss ≡ Some s
+    → nth_of (if q then suc k else k) (spot_if q first (map (under l) ss)) ≡ Some (under l s)
+nth-behind false k first l ss s h = nth-of-map (under l) k ss s h
+nth-behind true zero first l [] s h = absurd (cc)
+nth-behind true zero first l (x ∷ xs) s h = absurd (cc)
+nth-behind true (suc k) first l ss s h = nth-of-map (under l) (suc k) ss s h
+
+-- the line with an index of which something is seen is the spot with the number of those down to it
+counted : {V : Type 0} (view : LocatedLine → Option V) (passes : V → Bool) (test : ClassedLine → Bool) (ls : List ClassedLine) (i : ℕ) → AllSame view passes test ls
+    → shows passes (option_and_then view (slice_get (located_lines ls) i)) ≡ true
+    → (s : StandingLine) × ((nth_of (count_down_to i (λ l. shows passes (view l)) (located_lines ls)) (spots test ls) ≡ Some s) × (length s.above ≡ i))
+counted view passes test [] i same h = absurd (cc)
+counted view passes test (l ∷ ls) zero same h =
+    let is : test l ≡ true = sym same.0 ∙ h in
+    (record { above = []; line = l; below = ls }, (rw (h, is) refl, refl))
+counted view passes test (l ∷ ls) (suc i) same h =
+    let r = counted view passes test ls i same.1 h in
+    let count = count_down_to i (λ m. shows passes (view m)) (located_lines ls) in
+    let more : count_down_to (suc i) (λ m. shows passes (view m)) (located_lines (l ∷ ls)) ≡ (if test l then suc count else count)
+    = down-more i (λ m. shows passes (view m)) (located_line l) (located_lines ls) ∙ ap (λ b. if b then suc count else count) same.0 in
+    (under l r.0, (ap (λ k. nth_of k (spots test (l ∷ ls))) more ∙ nth-behind (test l) count (record { above = []; line = l; below = ls }) l (spots test ls) r.0 r.1.0, ap suc r.1.1))
+
+pub assignment-numbered : AssignmentsAreSeen → AssignmentsAreNumbered
+assignment-numbered law text i a h =
+    let own : bytes_eq a.name a.name ≡ true = (bytes_eq-Decides a.name a.name).1 refl in
+    let c = counted assignment_of (is_of (Some a.name)) (λ l. assigns a.name l.class) (classed_lines text) i (names-same law a.name start (logical_lines text)) (rw h own) in
+    (count_down_to i (line_assigns a.name) (document_lines text), (rw h refl, (c.0, c.1)))
+
+pub rule-numbered : RulesAreSeen → RulesAreNumbered
+rule-numbered law text target i h =
+    let c = counted rule_of (is_for (Some target)) (λ l. is_rule_for target l.class) (classed_lines text) i (targets-same law target start (logical_lines text)) h in
+    (count_down_to i (line_is_rule_for target) (document_lines text), (rw h refl, (c.0, c.1)))

@@ -1,15 +1,17 @@
 -- The numbers of what is listed are those that edits take.
 -- Told in docs/LIBRARY.md, "Walking over a makefile".
-use Rattle.std.specs.Prelude.{◌≡◌, ℕ, List, length, Some}
+use Rattle.std.specs.Prelude.{◌≡◌, ℕ, true, List, length, slice_get, Some, option_and_then}
 use Rattle.mk_class.specs.ClassedLines.{classed_lines}
 use Rattle.mk_tree.specs.Documents.{document_lines}
 use Rattle.mk_tree.specs.LineTexts.{StandingLine}
+use Rattle.mk_tree.specs.Views.{AssignmentView, assignment_of, rule_of}
 use Rattle.mk_edit_language.specs.Edits.{ByNumber}
 use Rattle.mk_edit_language.specs.Addresses.{Variable, Rule, found}
 use Rattle.mk_edit_language.specs.Spots.{nth_of}
 use Rattle.mk_edit_language.specs.Stretches.{recipe_found}
 use Rattle.mk_listing.specs.declared.assignment.AssignmentLine.{AssignmentLine}
-use Rattle.mk_listing.specs.Listings.{RecipeSpot, RuleSpot, assignments_ahead, recipes_ahead, rules_ahead, whole}
+use Rattle.mk_listing.specs.Listings.{RecipeSpot, RuleSpot, assignments_ahead, is_for, recipes_ahead, rules_ahead, whole}
+use Rattle.mk_listing.specs.Numbers.{assignment_number, rule_number, shows}
 
 -- The k-th of the assignments of a name that are listed has the number k, and an edit with this number
 -- and this name means its line.
@@ -41,3 +43,23 @@ RecipeLinesHaveTheirNumbers = (text target : List ℕ) (n k : ℕ) (rule : RuleS
     × ((line : StandingLine)
     × ((recipe_found (classed_lines text) (Some n) target (ByNumber k) ≡ Some line)
     × (length line.above ≡ listed.position.index)))
+
+-- An assignment on the line with an index has a number, and an edit with this number and its name means
+-- its line.
+abbrev pub AssignmentsAreNumbered : Type 0
+AssignmentsAreNumbered = (text : List ℕ) (i : ℕ) (a : AssignmentView)
+    → option_and_then assignment_of (slice_get (document_lines text) i) ≡ Some a
+    → (k : ℕ) × ((assignment_number (document_lines text) i ≡ Some k)
+    × ((line : StandingLine)
+    × ((found (classed_lines text) (Variable (Some k) a.name) ≡ Some line)
+    × (length line.above ≡ i))))
+
+-- A rule for a target on the line with an index has a number, and an edit with this number and this
+-- target means its line.
+abbrev pub RulesAreNumbered : Type 0
+RulesAreNumbered = (text target : List ℕ) (i : ℕ)
+    → shows (is_for (Some target)) (option_and_then rule_of (slice_get (document_lines text) i)) ≡ true
+    → (k : ℕ) × ((rule_number (document_lines text) i target ≡ Some k)
+    × ((line : StandingLine)
+    × ((found (classed_lines text) (Rule (Some k) target) ≡ Some line)
+    × (length line.above ≡ i))))

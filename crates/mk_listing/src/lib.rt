@@ -5,23 +5,31 @@
 //! - [`assignment`]: the assignments, all of them or those of one name.
 //! - [`rule`]: the lines of rules, all of them or those for one target.
 //! - [`recipe`]: the recipe lines of a rule.
+//! - [`branch`]: the lines, each with the branches of conditionals in which it stands.
+//! - [`number`]: the number that an edit takes for a line, by the index of the line.
 //! - [`listing`]: the calls that begin a walk over a document.
-//! - [`laws`]: the numbers of what is listed are those that edits take.
+//! - [`laws`]: these numbers, and those of what is listed, are those that edits take.
 //!
-//! A walk borrows the document, takes no memory and reads no line. It asks nothing of a caller: no call
-//! here has a `requires`.
+//! A walk borrows the document and reads no line. It takes no memory, but for the list of branches. It
+//! asks nothing of a caller: no call here has a `requires`.
 #![tactic(auto)]
 
 pub mod assignment;
+pub mod branch;
 pub mod laws;
 pub mod listing;
+pub mod number;
 pub mod position;
 pub mod recipe;
 pub mod rule;
 pub mod walk;
 
 pub use assignment::{AssignmentLine, Assignments, is_of};
-pub use listing::{assignments, assignments_of, line_at, numbered, rules, rules_for};
+pub use branch::{Branch, LinesInBranches};
+pub use listing::{
+    assignments, assignments_of, line_at, numbered, rule_lines, rule_lines_for, with_conditionals,
+};
+pub use number::{assignment_number, rule_number};
 pub use position::Position;
 pub use recipe::{RecipeLine, RecipeLines};
 pub use rule::{RuleLine, Rules};

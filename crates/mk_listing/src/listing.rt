@@ -4,6 +4,7 @@ ghost use Rattle.mk_tree.specs.Trees.{line_view};
 ghost use Rattle.mk_listing.specs.Listings.{assignments_ahead, rules_ahead, whole};
 
 use crate::assignment::Assignments;
+use crate::branch::LinesInBranches;
 use crate::rule::Rules;
 use crate::walk::NumberedLines;
 use mk_tree::{Doc, Line};
@@ -28,6 +29,17 @@ pub fn numbered<A: Allocator>(doc: &Doc<A>) -> NumberedLines<'_, A>
     NumberedLines::new(doc)
 }
 
+/// The lines of a document in order, each with the branches of conditionals in which it stands. The list of
+/// branches takes memory from the allocator.
+pub fn with_conditionals<A: Allocator, B: Allocator>(
+    alloc: B,
+    doc: &Doc<A>,
+) -> LinesInBranches<'_, A, B>
+    ensures { result ≡ whole doc.now }
+{
+    LinesInBranches::new(alloc, doc)
+}
+
 /// The assignments of a document in order, each with where it stands. Assignments for targets are not
 /// among them.
 pub fn assignments<A: Allocator>(doc: &Doc<A>) -> Assignments<'_, A>
@@ -45,14 +57,14 @@ pub fn assignments_of<'a, A: Allocator>(doc: &'a Doc<A>, name: &'a [u8]) -> Assi
 }
 
 /// The lines of the rules of a document in order, each with where it stands.
-pub fn rules<A: Allocator>(doc: &Doc<A>) -> Rules<'_, A>
+pub fn rule_lines<A: Allocator>(doc: &Doc<A>) -> Rules<'_, A>
     ensures { result ≡ rules_ahead None 1 (whole doc.now) }
 {
     Rules::new(doc, None)
 }
 
 /// The lines of the rules for one target in order. Each has the number that the `nth` of an edit takes.
-pub fn rules_for<'a, A: Allocator>(doc: &'a Doc<A>, target: &'a [u8]) -> Rules<'a, A>
+pub fn rule_lines_for<'a, A: Allocator>(doc: &'a Doc<A>, target: &'a [u8]) -> Rules<'a, A>
     ensures { result ≡ rules_ahead (Some target.now) 1 (whole doc.now) }
 {
     Rules::new(doc, Some(target))

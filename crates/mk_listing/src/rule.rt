@@ -125,8 +125,8 @@ fn next_rule<'a, A: Allocator>(
     None
 }
 
-// Whether a rule is one for a target, if one is asked for.
-fn is_for(rule: &RuleRef<'_>, target: Option<&[u8]>) -> bool
+/// Whether a rule is one for a target, if one is asked for.
+pub(crate) fn is_for(rule: &RuleRef<'_>, target: Option<&[u8]>) -> bool
     ensures { result ≡ is_for (option_map (λ word. word.now) target.entry) rule.now }
 {
     let Some(target) = target else {

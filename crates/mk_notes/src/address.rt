@@ -6,7 +6,7 @@ use memchr::memmem;
 use mk_edit_language::{Edit, ValueChange};
 use mk_edit_parts::address::{Address, address_of};
 use mk_edit_parts::seek::wanted;
-use mk_listing::{Position, RuleLine, numbered, rules_for};
+use mk_listing::{Position, RuleLine, numbered, rule_lines_for};
 use mk_tree::Doc;
 use std::alloc::{AllocError, Allocator};
 
@@ -66,7 +66,7 @@ pub(crate) fn line_of_rule<'a, A: Allocator>(
     match address {
         Address::Variable(..) => None,
         Address::Rule(_, target) => {
-            rules_for(doc, target).nth(wanted(Some(address)).saturating_sub(1))
+            rule_lines_for(doc, target).nth(wanted(Some(address)).saturating_sub(1))
         }
     }
 }

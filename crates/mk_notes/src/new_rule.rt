@@ -4,7 +4,7 @@ use crate::tally::Tally;
 use crate::text::Notes;
 use mk_class::{Class, Separator};
 use mk_edit_language::{Edit, RuleSeparator};
-use mk_listing::{Position, RuleLine, assignments_of, numbered, rules_for};
+use mk_listing::{Position, RuleLine, assignments_of, numbered, rule_lines_for};
 use mk_tree::{Line, WordTexts};
 use std::alloc::{AllocError, Allocator};
 
@@ -50,7 +50,7 @@ impl<'a, A: Allocator, B: Allocator + Copy> Notes<'a, A, B> {
             b" has a rule with `::`, and make stops with an error if it reads both"
         };
         let mut count = 0;
-        for line in rules_for(self.doc, target) {
+        for line in rule_lines_for(self.doc, target) {
             if has_double_colon(&line) != is_double {
                 count = self.listed(&[target, said], count, line.position)?;
             }
@@ -65,7 +65,7 @@ impl<'a, A: Allocator, B: Allocator + Copy> Notes<'a, A, B> {
             return Ok(());
         }
         let mut count = 0;
-        for line in rules_for(self.doc, target) {
+        for line in rule_lines_for(self.doc, target) {
             if line.nth != own && !has_double_colon(&line) && has_recipe(&line) {
                 let said = &[target, b" has a recipe in another rule"];
                 count = self.listed(said, count, line.position)?;

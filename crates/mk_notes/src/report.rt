@@ -1,7 +1,7 @@
 //! The lines of a report in JSON that are on no command: the message on how a run ended, and what became of a
 //! makefile.
 
-use mk_cli::{COMMAND_HINT, EXCHANGED_HINT, ScriptMistake, is_command};
+use mk_cli::{COMMAND_HINT, EXCHANGED_HINT, ScriptMistake, is_command_word};
 use mk_fs::SystemFault;
 use mk_json::Object;
 use std::alloc::{AllocError, Global};
@@ -32,7 +32,7 @@ pub fn message_in_json(
     object.text("sentence", said.trim_ascii_end())?;
     if let Some(fault) = fault {
         object.string("cause", &format!(in alloc; "{}", fault.cause)?)?;
-        if is_command(fault.name) {
+        if is_command_word(fault.name) {
             object.string("hint", COMMAND_HINT)?;
         }
     }

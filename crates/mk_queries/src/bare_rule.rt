@@ -5,7 +5,7 @@
 //! reference.
 
 use mk_class::Separator;
-use mk_listing::{RuleLine, rules_for};
+use mk_listing::{RuleLine, rule_lines_for};
 use mk_tree::{Doc, RuleRef};
 use std::alloc::Allocator;
 
@@ -42,7 +42,7 @@ fn is_plain(target: &[u8]) -> bool {
 
 /// Whether a rule for this target has a recipe.
 pub(crate) fn has_recipe_for<A: Allocator>(doc: &Doc<A>, target: &[u8]) -> bool {
-    for line in rules_for(doc, target) {
+    for line in rule_lines_for(doc, target) {
         if line.rule.inline_recipe().is_some() || line.recipe_lines().next().is_some() {
             return true;
         }

@@ -1,9 +1,9 @@
 //! Queries of a makefile, as text.
 //!
 //! - [`vars`]: a line of text on each assignment; [`vars_named`]: on those of one name.
-//! - [`rules`]: a line of text on each rule; [`rules_for`]: on those for one target.
+//! - [`rules`]: a line of text on each rule; [`rules_named`]: on those for one target.
 //! - [`recipes`]: a line of text on each rule that has recipe lines, and on each of these;
-//!   [`recipes_for`]: on the rules for one target and theirs.
+//!   [`recipes_named`]: on the rules for one target and theirs.
 //! - [`check`]: a line of text on each line that is not read inside, and what is open at the end;
 //!   [`check_texts`]: with the text of each line.
 //! - [`caveats`]: a line of text on each line that make may read otherwise, as far as the lines
@@ -40,7 +40,7 @@ mod words;
 pub use caveat::Caveat;
 pub use query::caveats::caveats;
 pub use query::check::{check, check_texts};
-pub use query::recipes::{recipes, recipes_for};
-pub use query::rules::{rules, rules_for};
+pub use query::recipes::{recipes, recipes_named};
+pub use query::rules::{rules, rules_named};
 pub use query::vars::{vars, vars_named};
 pub use walk::{LineCaveats, line_caveats};

@@ -54,7 +54,7 @@ pub fn line_caveats<A: Allocator>(doc: &Doc<A>) -> LineCaveats<'_, A>
     LineCaveats {
         doc,
         lines: doc.lines_with_contexts(),
-        rules: mk_listing::rules(doc),
+        rules: mk_listing::rule_lines(doc),
         left: MAX_TEXT,
         seen: Seen::start(),
     }

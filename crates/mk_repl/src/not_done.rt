@@ -2,6 +2,7 @@
 ghost use Rattle.std.specs.Prelude.{◌≡◌, false};
 ghost use Rattle.mk_lines.specs.Device.{Writes};
 ghost use Rattle.mk_repl.specs.SessionFaults.{fault_text};
+ghost use Rattle.mk_repl.specs.declared.not_done.NotDone.TheVariants.{NoMemory};
 
 use mk_escape::write_name;
 use mk_lines::sink::write_all;
@@ -36,7 +37,9 @@ pub enum NotDone {
 }
 
 impl From<AllocError> for NotDone {
-    fn from(_: AllocError) -> NotDone {
+    ghost from_gives = { λ _ not_done. not_done ≡ NoMemory };
+
+    fn from(_refused: AllocError) -> NotDone {
         NotDone::NoMemory
     }
 }

@@ -8,12 +8,12 @@ ghost use Rattle.mk_repl.specs.declared.question.Unanswered.TheVariants as unans
 ghost use Rattle.mk_repl.specs.QueryTexts.{IsSaid, answer_refusal, answer_text, found_text, query_text};
 
 use mk_cli::{Form, Query, Question};
-use mk_json as json;
+use mk_json::{caveats_json, check_json, recipes_json, rules_json, value_json, vars_json};
 use mk_lines::sink::{write_all, write_parts};
 use mk_lines::{ByteSink, Fault};
 use mk_lookup::get;
 use mk_queries::{
-    caveats, check, check_texts, recipes, recipes_for, rules, rules_for, vars, vars_named,
+    caveats, check, check_texts, recipes, recipes_named, rules, rules_named, vars, vars_named,
 };
 use mk_session::Refusal;
 use mk_tree::Doc;
@@ -83,7 +83,7 @@ pub fn found_for<'a, A: Allocator, B: Allocator + Copy>(
         Question::Value(nth, name, form) => match get(doc, nth, name) {
             Ok(value) => match form {
                 Form::Text => Ok(Found::Value(value)),
-                Form::Json => Ok(Found::Json(json::value(alloc, file.as_bytes(), name, value)?)),
+                Form::Json => Ok(Found::Json(value_json(alloc, file.as_bytes(), name, value)?)),
             },
             Err(refusal) => Err(Unanswered::Refused(refusal)),
         },
@@ -105,11 +105,11 @@ pub(crate) fn json_lines<'a, A: Allocator, B: Allocator + Copy>(
 {
     let file = file.as_bytes();
     match query {
-        Query::Vars(name) => json::vars(alloc, file, doc, name),
-        Query::Rules(target) => json::rules(alloc, file, doc, target),
-        Query::Recipes(target) => json::recipes(alloc, file, doc, target),
-        Query::Check | Query::CheckTexts => json::check(alloc, file, doc),
-        Query::Caveats => json::caveats(alloc, file, doc),
+        Query::Vars(name) => vars_json(alloc, file, doc, name),
+        Query::Rules(target) => rules_json(alloc, file, doc, target),
+        Query::Recipes(target) => recipes_json(alloc, file, doc, target),
+        Query::Check | Query::CheckTexts => check_json(alloc, file, doc),
+        Query::Caveats => caveats_json(alloc, file, doc),
     }
 }
 
@@ -132,9 +132,9 @@ pub(crate) fn put_lines<A: Allocator, W: ByteSink>(
         Query::Vars(None) => vars(doc, out),
         Query::Vars(Some(name)) => vars_named(doc, name, out),
         Query::Rules(None) => rules(doc, out),
-        Query::Rules(Some(target)) => rules_for(doc, target, out),
+        Query::Rules(Some(target)) => rules_named(doc, target, out),
         Query::Recipes(None) => recipes(doc, out),
-        Query::Recipes(Some(target)) => recipes_for(doc, target, out),
+        Query::Recipes(Some(target)) => recipes_named(doc, target, out),
         Query::Check => check(doc, out),
         Query::CheckTexts => check_texts(doc, out),
         Query::Caveats => caveats(doc, out),

@@ -1,5 +1,5 @@
 //! A makefile that is open, and what it answers to requests.
-ghost use Rattle.std.specs.Prelude.{◌≡◌, IfOk, List, None, OnOk, Some, [], false, true, is_ok, option_and_then};
+ghost use Rattle.std.specs.Prelude.{◌≡◌, IfErr, IfOk, List, None, OnOk, Some, [], false, true, is_ok, option_and_then};
 ghost use Rattle.mk_diff.specs.HunkTexts.{diff_text};
 ghost use Rattle.mk_diff.specs.Hunks.{Hunk, IsDiff};
 ghost use Rattle.mk_diff.specs.NameTexts.{patch_name};
@@ -7,7 +7,7 @@ ghost use Rattle.mk_lines.specs.PhysicalLines.{physical_lines};
 ghost use Rattle.mk_repl.specs.AnswerLines.{lines_between};
 ghost use Rattle.mk_repl.specs.Replies.{IsLineExecuted, reply_to};
 ghost use Rattle.mk_repl.specs.Requests.{Of, Word, asked_of};
-ghost use Rattle.mk_session.specs.Sessions.{seen_opened};
+ghost use Rattle.mk_session.specs.Sessions.{IsOpeningFault, seen_opened};
 ghost use Rattle.mk_tree.specs.Documents.{document_lines};
 ghost use Rattle.mk_repl.specs.QueryTexts.{query_text};
 ghost use Rattle.mk_repl.specs.Quits.{IsLeft, MayQuit, left_with};
@@ -110,13 +110,14 @@ impl<'a> Server<'a> {
         ensures form { IfOk result (λ server. server.opened.form ≡ words.entry.form) }
         ensures written { IfOk result (λ server. server.written ≡ None) }
         ensures warned { IfOk result (λ server. server.is_warned ≡ false) }
+        ensures fault { IfErr result (λ fault. IsOpeningFault words.entry.depth text.items fault) }
     {
+        let session = Session::open_vec(rt.alloc(), text, words.depth)?;
         let opened = Opened {
             name: words.file,
             form: words.form,
-            text: Vec::from_slice(rt.alloc(), text.as_slice())?,
+            text: text_of(rt.alloc(), session.doc())?,
         };
-        let session = Session::open_vec(rt.alloc(), text, words.depth)?;
         Ok(Server {
             rt,
             session,
@@ -155,7 +156,8 @@ impl<'a> Server<'a> {
     ///
     /// [`NotDone::NoMemory`].
     pub fn text(&self) -> Result<Vec<u8>, NotDone>
-        ensures { IfOk result (λ text. text.items ≡ self.now.session.shown.text) }
+        ensures text { IfOk result (λ text. text.items ≡ self.now.session.shown.text) }
+        ensures fault { IfErr result (λ fault. fault ≡ NotDone.NoMemory) }
     {
         Ok(text_of(self.rt.alloc(), self.session.doc())?)
     }

@@ -33,7 +33,7 @@ use Rattle.mk_lines.specs.declared.fault.Fault.TheVariants.{NoMemory, TooLong, T
 use Rattle.mk_tree.specs.Faults.{IsReadingFault}
 use Rattle.mk_tree.specs.Unread.{UnreadLines, shown_lines, AreTooDeep, AreReadFrom}
 use Rattle.mk_tree.specs.UnreadPrefixes.{IsEndOf, is_unread_located}
-use Rattle.mk_tree.specs.declared.end.End.{End}
+use Rattle.mk_tree.specs.declared.end.DocEnd.{DocEnd}
 use Rattle.mk_tree.specs.Plain.{IsClean, IsFirstLine, IsOneLine}
 use Rattle.mk_tree.proofs.PlainLines.{plain-line}
 use Rattle.mk_tree.proofs.AdmissionLemmas.{length-classed}
@@ -208,11 +208,11 @@ read-all text old left read height short e h full =
     )
 
 -- what the lines that were read leave is where they end
-pub end-read : (text : List ℕ) (old left : UnreadLines) (read : List LocatedLine) (end : End) → old ≡ record { context = start; has_unread_prefix = false; lines = logical_lines text } → AreReadFrom old read left
+pub end-read : (text : List ℕ) (old left : UnreadLines) (read : List LocatedLine) (end : DocEnd) → old ≡ record { context = start; has_unread_prefix = false; lines = logical_lines text } → AreReadFrom old read left
     → end ≡ record { context = left.context; has_unread_prefix = left.has_unread_prefix } → IsEndOf read end
 end-read text old left read end e h same = record {
-  context_is = ap (λ (z : End). z.context) same ∙ (h.context_is ∙ ap (λ (z : UnreadLines). context_after_located_lines z.context read) e);
-  unread_is = ap (λ (z : End). z.has_unread_prefix) same ∙ (h.unread_is ∙ ap (λ (z : UnreadLines). z.has_unread_prefix || list_any is_unread_located read) e);
+  context_is = ap (λ (z : DocEnd). z.context) same ∙ (h.context_is ∙ ap (λ (z : UnreadLines). context_after_located_lines z.context read) e);
+  unread_is = ap (λ (z : DocEnd). z.has_unread_prefix) same ∙ (h.unread_is ∙ ap (λ (z : UnreadLines). z.has_unread_prefix || list_any is_unread_located read) e);
 }
 
 -- ---- the whole text

@@ -12,7 +12,7 @@ use Rattle.mk_class.specs.LocatedClasses.{located_class}
 use Rattle.mk_class.specs.declared.class.Class as class
 use Rattle.mk_class.specs.declared.class.Class.TheVariants as variants
 use Rattle.mk_tree.specs.LocatedLines.{LocatedLine, context_after_located_lines, text_of_line}
-use Rattle.mk_tree.specs.declared.end.End.{End}
+use Rattle.mk_tree.specs.declared.end.DocEnd.{DocEnd}
 
 -- a line with the class that it has in some context
 pub record IsClassed (l : LocatedLine) : Type 0 where
@@ -30,6 +30,6 @@ is_unread_located l = is_unread_in (text_of_line l) l.class
 
 -- Where some lines end: the context after them, and whether one of them sets the recipe prefix in a
 -- way that is not read.
-pub record IsEndOf (ls : List LocatedLine) (end : End) : Type 0 where
+pub record IsEndOf (ls : List LocatedLine) (end : DocEnd) : Type 0 where
   pub context_is : end.context ≡ context_after_located_lines start ls
   pub unread_is : end.has_unread_prefix ≡ list_any is_unread_located ls

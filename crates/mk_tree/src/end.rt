@@ -10,7 +10,7 @@ use std::alloc::Allocator;
 
 /// Where the lines of a document end, as they were read: what an edit at the end has to know.
 #[derive(Clone, Copy)]
-pub struct End {
+pub struct DocEnd {
     /// The context after the last line.
     pub context: Context,
     /// Whether one of the lines sets the recipe prefix in a way that is not read.

@@ -48,7 +48,7 @@ pub mod views;
 pub mod walk;
 
 pub use document::Doc;
-pub use end::End;
+pub use end::DocEnd;
 pub use iter::Lines;
 pub use line_bytes::LineBytes;
 pub use run::Run;

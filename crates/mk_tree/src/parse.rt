@@ -10,7 +10,7 @@ ghost use Rattle.mk_tree.specs.Unread.{AreReadFrom, AreTooDeep, shown_lines};
 ghost use Rattle.mk_tree.specs.UnreadPrefixes.{IsEndOf};
 
 use crate::document::Doc;
-use crate::end::End;
+use crate::end::DocEnd;
 use crate::origin::Origin;
 use crate::tree::Tree;
 use crate::unread::Unread;
@@ -21,6 +21,24 @@ use std::alloc::Allocator;
 use std::rc::RcSlice;
 
 impl<A: Allocator + Copy> Doc<A> {
+    /// The document of a text, as [`Doc::parse`] gives it, for callers who do not edit it and count no lines.
+    ///
+    /// # Errors
+    ///
+    /// The errors of [`Doc::parse`].
+    pub fn open(alloc: A, text: &[u8]) -> Result<Doc<A>, Fault>
+        ensures long { max_text < length text.now
+            → IsErrAnd result (λ fault. fault ≡ Fault.TooLong) }
+        ensures faithful { IfOk result (λ doc. IsFaithfulTo doc text.now) }
+        ensures own { IfOk result (λ doc. IsFaithful doc) }
+        ensures short { IfOk result (λ _. length text.now ≤ max_text) }
+        ensures shallow { IfOk result (λ _. IsTooDeep text.now → ⊥) }
+        ensures fault { IfErr result (λ fault.
+            IsParsingFault (max_text < length text.now) (IsTooDeep text.now) fault) }
+    {
+        Doc::parse(alloc, text, &mut Meter::new())
+    }
+
     /// The document of a text: its lines, each with its class in the context of the lines before
     /// it. The call adds one to the meter for each line; if it answers a fault, it adds at most one
     /// for each line. The time is linear in the bytes of the text.
@@ -84,7 +102,7 @@ impl<A: Allocator + Copy> Doc<A> {
         alloc: A,
         text: Vec<u8, A>,
         meter: &mut Meter,
-    ) -> Result<(Doc<A>, End), Fault>
+    ) -> Result<(Doc<A>, DocEnd), Fault>
         ensures long { max_text < length text.items
             → IsErrAnd result (λ fault. fault ≡ Fault.TooLong) }
         ensures faithful { IfOk result (λ r. IsFaithfulTo r.0 text.items) }

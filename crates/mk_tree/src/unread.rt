@@ -8,7 +8,7 @@ ghost use Rattle.mk_tree.specs.Faults.{IsReadingFault};
 ghost use Rattle.mk_tree.specs.Trees.{line_view};
 ghost use Rattle.mk_tree.specs.Unread.{AreReadFrom, AreTooDeep};
 
-use crate::end::{End, sets_prefix_unread};
+use crate::end::{DocEnd, sets_prefix_unread};
 use crate::line_bytes::LineBytes;
 use crate::plain::{clean_up_to, first_line};
 use crate::read::read_line;
@@ -35,7 +35,7 @@ pub(crate) struct Unread<'a, A: Allocator> {
     // from there up to this offset the text has no NUL and no carriage return
     clean: usize,
     // what the lines that were read leave
-    end: End,
+    end: DocEnd,
 }
 
 impl<'a, A: Allocator> Model for Unread<'a, A> {
@@ -70,7 +70,7 @@ impl<'a, A: Allocator + Copy> Unread<'a, A> {
             text,
             at: 0,
             clean: 0,
-            end: End {
+            end: DocEnd {
                 context: Context::start(),
                 has_unread_prefix: false,
             },
@@ -78,7 +78,7 @@ impl<'a, A: Allocator + Copy> Unread<'a, A> {
     }
 
     /// What the lines that were read leave. After the last line, this is where the text ends.
-    pub(crate) fn end(&self) -> End
+    pub(crate) fn end(&self) -> DocEnd
         ensures { result ≡ record {
           context = self.now.context;
           has_unread_prefix = self.now.has_unread_prefix;

@@ -9,7 +9,7 @@ ghost use Rattle.mk_repl.specs.QueryTexts.{query_outcome};
 ghost use Rattle.mk_run.specs.Outcome.{outcome_of, status_of};
 ghost use Rattle.mkedit.specs.EndMessages.{end_message};
 
-use mk_cli::{COMMAND_HINT, Report, ScriptMistake, is_command, push_mistake};
+use mk_cli::{COMMAND_HINT, Report, ScriptMistake, is_command_word, push_mistake};
 use mk_escape::{Layout, TextSink, shown_name, write_escaped, write_name};
 use mk_fs::{Cause, SystemFault, WithError};
 use mk_lines::sink::write_all;
@@ -126,7 +126,7 @@ impl<'a> End<'a> {
             let name = &shown_name(alloc, fault.name)?;
             let cause = fault.cause;
             writeln!(notes, "{name}: note: {cause}")?;
-            if is_command(fault.name) {
+            if is_command_word(fault.name) {
                 writeln!(notes, "{name}: note: {COMMAND_HINT}")?;
             }
         }

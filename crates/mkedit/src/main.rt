@@ -27,8 +27,8 @@ mod several;
 
 use ending::{BAD_COMMAND_LINE, End, answered, ended, printed};
 use mk_cli::{
-    CalledRefusal, Report, Request, asked_command, bad_files, put_explanation, put_help,
-    read_request, tell_bad_words, words,
+    CalledRefusal, Report, Request, asked_command, bad_files, command_line_words, put_explanation,
+    put_help, read_command_line, tell_bad_words,
 };
 use mk_fs::WithError;
 use mk_lines::StdSink;
@@ -44,7 +44,7 @@ fn done(rt: &HostRuntime, words: &[String]) -> ExitCode {
         let print = put_help(command, &mut StdSink::new(&mut out));
         return printed(rt, print, out.is_left());
     }
-    match read_request(rt.alloc(), words) {
+    match read_command_line(rt.alloc(), words) {
         Ok(request) if bad_files(&request) < bad_words => ExitCode::from(BAD_COMMAND_LINE),
         Ok(Request::Edit(mut words)) => {
             words.report = words.report.at(rt.stderr().is_terminal());
@@ -65,7 +65,7 @@ fn done(rt: &HostRuntime, words: &[String]) -> ExitCode {
 }
 
 fn main(rt: HostRuntime) -> ExitCode {
-    match words(&rt) {
+    match command_line_words(&rt) {
         Ok(words) => done(&rt, words.as_slice()),
         Err(_) => ended(&rt, &End::of(Outcome::NoMemory), Report::Plain),
     }

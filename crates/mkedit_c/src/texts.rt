@@ -10,10 +10,9 @@ ghost use Rattle.mk_run.specs.RunEnds.{IsWhole, written};
 ghost use Rattle.mk_run.specs.Runs.{IsRun, RunResult};
 ghost use Rattle.mkedit_c.specs.Answers.{number_of};
 
-use mk_class::Meter;
 use mk_diff::diff;
 use mk_escape::TextSink;
-use mk_json::{check, recipes, rules, vars};
+use mk_json::{check_json, recipes_json, rules_json, vars_json};
 use mk_lines::{Fault, StdSource};
 use mk_run::{Outcome, run};
 use mk_tree::Doc;
@@ -112,10 +111,10 @@ fn lines_of<'a>(
 {
     let all: Option<&'a [u8]> = None;
     match wanted {
-        Wanted::Vars => vars(alloc, name, doc, None),
-        Wanted::Rules => rules(alloc, name, doc, all),
-        Wanted::Recipes => recipes(alloc, name, doc, all),
-        Wanted::Check => check(alloc, name, doc),
+        Wanted::Vars => vars_json(alloc, name, doc, None),
+        Wanted::Rules => rules_json(alloc, name, doc, all),
+        Wanted::Recipes => recipes_json(alloc, name, doc, all),
+        Wanted::Check => check_json(alloc, name, doc),
     }
 }
 
@@ -123,7 +122,7 @@ fn lines_of<'a>(
 ///
 /// # Errors
 ///
-/// Those of [`Doc::parse`].
+/// Those of [`Doc::open`].
 pub(crate) fn list(
     alloc: Global,
     wanted: Wanted,
@@ -134,6 +133,6 @@ pub(crate) fn list(
     ensures fault { IfErr result (λ fault.
         IsParsingFault (max_text < length text.now) (IsTooDeep text.now) fault) }
 {
-    let doc = Doc::parse(alloc, text, &mut Meter::new())?;
+    let doc = Doc::open(alloc, text)?;
     Ok(lines_of(alloc, wanted, name, &doc)?)
 }

@@ -21,7 +21,7 @@ use test_support::{Case, Growths, Heap};
 pub fn document(alloc: Global, makefile: &[u8]) -> Result<Doc, Fault>
     ensures { IfOk result (λ doc. IsFaithful doc) }
 {
-    Doc::parse(alloc, makefile, &mut Meter::new())
+    Doc::open(alloc, makefile)
 }
 
 /// How many lines of a makefile the index tells for a name. `None` if it leaves the name to a walk.

@@ -3,7 +3,6 @@
 
 use crate::index::first_growths;
 use crate::sessions::{execute, growths_of};
-use mk_class::Meter;
 use mk_lines::Fault;
 use mk_session::{Expected, Session};
 use mk_tree::Doc;
@@ -66,7 +65,7 @@ pub fn by_bytes(
 /// is copied once, and no line without a fold takes memory to be read.
 pub fn of_parse(case: &Case<'_>, makefile: &[u8], bytes: &[u8]) -> Result<Vec<u8>, Fault> {
     case.heap.refuse_none();
-    let _doc = Doc::parse(case.heap, makefile, &mut Meter::new())?;
+    let _doc = Doc::open(case.heap, makefile)?;
     let taken = case.heap.passed().bytes;
     shown(case.alloc, taken, b"1", number(bytes))
 }

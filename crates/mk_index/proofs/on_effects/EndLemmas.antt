@@ -10,7 +10,7 @@ use Rattle.mk_tree.specs.Admissions.{AreAdmitted}
 use Rattle.mk_tree.specs.Documents.{IsFaithful}
 use Rattle.mk_tree.specs.LocatedLines.{LocatedLine, context_after_located_lines, located_line, located_text}
 use Rattle.mk_tree.specs.UnreadPrefixes.{IsEndOf}
-use Rattle.mk_tree.specs.declared.end.End.{End}
+use Rattle.mk_tree.specs.declared.end.DocEnd.{DocEnd}
 use Rattle.mk_tree.proofs.AdmissionLemmas.{context-faithful_end}
 use Rattle.mk_edit_parts.specs.LocatedParts.{IsClassed, is_unread_located}
 use Rattle.mk_edit_parts.specs.Seeking.{IsSought}
@@ -24,7 +24,7 @@ text-lines : (ls : List LocatedLine) → IsFaithful ls → length ls ≡ length 
 text-lines ls h = ap length h ∙ length-map (classed_lines (located_text ls)) located_line
 
 -- what is sought for no address, from the end
-pub end-sought : (ls : List LocatedLine) (end : End) (count : ℕ) → IsFaithful ls → IsEndOf ls end → count ≡ length ls
+pub end-sought : (ls : List LocatedLine) (end : DocEnd) (count : ℕ) → IsFaithful ls → IsEndOf ls end → count ≡ length ls
     → IsSought (classed_lines (located_text ls)) None (record { count = 0; found = None; has_unread_prefix = end.has_unread_prefix; end = record { at = count; context = end.context } })
 end-sought ls end count h e n = record {
   count_is = refl;
@@ -57,12 +57,12 @@ or-false true = refl
 or-false false = refl
 
 -- the last line, below those that end so
-pub record Appended (doc : List LocatedLine) (end : End) (l : LocatedLine) : Type 0 where
+pub record Appended (doc : List LocatedLine) (end : DocEnd) (l : LocatedLine) : Type 0 where
   pub classed : IsClassed l
   pub admitted : Admits end.context l.class
   pub end_is : (context : Context) (unread : Bool) → context ≡ context_after_located end.context l.class → unread ≡ is_unread_located l → IsEndOf doc (record { context = context; has_unread_prefix = end.has_unread_prefix || unread })
 
-pub appended : (doc : List LocatedLine) (end : End) (l : LocatedLine) (count : ℕ) → IsFaithful doc → IsBehind doc end → AreAdmitted start doc → count ≡ length doc → Some l ≡ slice_get doc (count - 1) → Appended doc end l
+pub appended : (doc : List LocatedLine) (end : DocEnd) (l : LocatedLine) (count : ℕ) → IsFaithful doc → IsBehind doc end → AreAdmitted start doc → count ≡ length doc → Some l ≡ slice_get doc (count - 1) → Appended doc end l
 appended doc end l count faithful b admitted counted is = record {
   classed = classed-at doc (count - 1) l (faithful-each doc faithful) is;
   admitted = subst (λ (c : Context). Admits c l.class) (sym b.end_is.context_is)

@@ -5,7 +5,7 @@ use Rattle.std.specs.Result.{result_ok}
 use Rattle.mk_class.specs.Contexts.{Context, start}
 use Rattle.mk_tree.specs.LocatedLines.{LocatedLine}
 use Rattle.mk_tree.specs.UnreadPrefixes.{IsEndOf}
-use Rattle.mk_tree.specs.declared.end.End.{End}
+use Rattle.mk_tree.specs.declared.end.DocEnd.{DocEnd}
 use Rattle.mk_patch.specs.Moves.{exchanged}
 use Rattle.mk_index.specs.Blocks.{AreBlocks}
 use Rattle.mk_index.specs.Chains.{AreChainsOf, Mention, Stored}
@@ -25,7 +25,7 @@ pub record Keeping (s : Scope) (doc now : List LocatedLine) (chains : Stored) (b
   pub chains_are : AreChainsOf mentions chains
   pub before_is : AreBlocks s mentions 0 (Some start) doc bs end
   pub now_is : AreBlocks s mentions 0 (Some start) now bs end
-  pub end_is : (e : End) → IsEndOf doc e → IsEndOf now e
+  pub end_is : (e : DocEnd) → IsEndOf doc e → IsEndOf now e
 
 -- one line more is exchanged
 pub keeping-next : (s : Scope) (doc now : List LocatedLine) (chains new : Stored) (bs : List Block) (end : Context) (at n : ℕ) (k l : LocatedLine) → Keeping s doc now chains bs end → Some k ≡ slice_get now at → IsHeld bs at n → ((ms : List Mention) → AreChainsOf ms chains → HaveExchanged s k l n true ms new) → Keeping s doc (exchanged at l now) new bs end
@@ -69,12 +69,12 @@ keeping-more s doc now chains new bs end n k l kept w listed =
     }
 
 -- where the lines end stays known, if it was
-end-kept : (before after : List LocatedLine) (o : Option End) → ((e : End) → IsEndOf before e → IsEndOf after e) → IfSome o (IsEndOf before) → IfSome o (IsEndOf after)
+end-kept : (before after : List LocatedLine) (o : Option DocEnd) → ((e : DocEnd) → IsEndOf before e → IsEndOf after e) → IfSome o (IsEndOf before) → IfSome o (IsEndOf after)
 end-kept before after None f h = tt
 end-kept before after (Some e) f h = f e h
 
 -- what is known, by an index that is kept
-pub kept-known : (before after : List LocatedLine) (kept : Bool) (index : indexes.Stored) (end : Option End) → kept ≡ true → IsKept before after kept index → IfSome end (IsEndOf before) → IsKnownFor after (record { index = Some index; end = end })
+pub kept-known : (before after : List LocatedLine) (kept : Bool) (index : indexes.Stored) (end : Option DocEnd) → kept ≡ true → IsKept before after kept index → IfSome end (IsEndOf before) → IsKnownFor after (record { index = Some index; end = end })
 kept-known before after kept index end is h e = record {
   index_is = subst (λ (k : Bool). IsIndexOf (if k then after else before) index) is h.index_is;
   end_is = end-kept before after end (h.end_is is) e;

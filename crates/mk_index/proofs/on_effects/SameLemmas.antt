@@ -6,7 +6,7 @@ use Rattle.mk_class.specs.Contexts.{Context, context_after_located, start}
 use Rattle.mk_class.specs.RecipePrefix.{is_prefix_name}
 use Rattle.mk_tree.specs.LocatedLines.{LocatedLine, context_after_located_lines, text_of_line}
 use Rattle.mk_tree.specs.UnreadPrefixes.{IsEndOf}
-use Rattle.mk_tree.specs.declared.end.End.{End}
+use Rattle.mk_tree.specs.declared.end.DocEnd.{DocEnd}
 use Rattle.std.specs.Str.{bytes_eq}
 use Rattle.mk_edit_parts.specs.LocatedParts.{AreEachClassed, IsClassed, assigns_in, assigns_located, is_unread_in, is_unread_located}
 use Rattle.mk_edit_parts.specs.SeekWalks.{noted, noted_by, nothing_seen, seek}
@@ -144,10 +144,10 @@ index-same ls at k l None there same h = tt
 index-same ls at k l (Some i) there same h = record { mentions = h.mentions; chains_are = h.chains_are; blocks_are = blocks-same i.scope h.mentions 0 (Some start) ls i.blocks i.end at k l there (λ m number e held. same i.scope h.mentions number) h.blocks_are }
 
 -- the lines end as before
-pub end-same-of : (ls : List LocatedLine) (at : ℕ) (k l : LocatedLine) (e : End) → Some k ≡ slice_get ls at → LeadsAlike k l → is_unread_located k ≡ is_unread_located l → IsEndOf ls e → IsEndOf (with_line at l ls) e
+pub end-same-of : (ls : List LocatedLine) (at : ℕ) (k l : LocatedLine) (e : DocEnd) → Some k ≡ slice_get ls at → LeadsAlike k l → is_unread_located k ≡ is_unread_located l → IsEndOf ls e → IsEndOf (with_line at l ls) e
 end-same-of ls at k l e there leads unread h = record { context_is = h.context_is ∙ sym (context-same start ls at k l there leads); unread_is = h.unread_is ∙ sym (unread-same ls at k l there unread) }
 
-end-same : (ls : List LocatedLine) (at : ℕ) (k l : LocatedLine) (o : Option End) → Some k ≡ slice_get ls at → LeadsAlike k l → is_unread_located k ≡ is_unread_located l → IfSome o (IsEndOf ls) → IfSome o (IsEndOf (with_line at l ls))
+end-same : (ls : List LocatedLine) (at : ℕ) (k l : LocatedLine) (o : Option DocEnd) → Some k ≡ slice_get ls at → LeadsAlike k l → is_unread_located k ≡ is_unread_located l → IfSome o (IsEndOf ls) → IfSome o (IsEndOf (with_line at l ls))
 end-same ls at k l None there leads unread h = tt
 end-same ls at k l (Some e) there leads unread h = end-same-of ls at k l e there leads unread h
 

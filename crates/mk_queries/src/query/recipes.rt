@@ -43,7 +43,7 @@ pub fn recipes<A: Allocator, W: ByteSink>(doc: &Doc<A>, out: &mut W) -> Result<(
     ensures { Writes W.contents W.failed W.flushes out.old out.new result
         (recipes_text None doc.now) }
 {
-    write_recipes(mk_listing::rules(doc), out)
+    write_recipes(mk_listing::rule_lines(doc), out)
 }
 
 /// Writes those lines of [`recipes`] alone that tell of a rule for this target, or of its recipe lines.
@@ -52,7 +52,7 @@ pub fn recipes<A: Allocator, W: ByteSink>(doc: &Doc<A>, out: &mut W) -> Result<(
 /// # Errors
 ///
 /// [`Fault::Write`] if a write answered it or took no byte. A prefix of the text is out then.
-pub fn recipes_for<A: Allocator, W: ByteSink>(
+pub fn recipes_named<A: Allocator, W: ByteSink>(
     doc: &Doc<A>,
     target: &[u8],
     out: &mut W,
@@ -61,7 +61,7 @@ pub fn recipes_for<A: Allocator, W: ByteSink>(
     ensures { Writes W.contents W.failed W.flushes out.old out.new result
         (recipes_text (Some target.now) doc.now) }
 {
-    write_recipes(mk_listing::rules_for(doc, target), out)
+    write_recipes(mk_listing::rule_lines_for(doc, target), out)
 }
 
 // Writes the lines on the recipe lines of some rules.

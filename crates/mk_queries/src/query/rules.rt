@@ -38,7 +38,7 @@ pub fn rules<A: Allocator, W: ByteSink>(doc: &Doc<A>, out: &mut W) -> Result<(),
     requires { W.failed out.old ≡ false }
     ensures { Writes W.contents W.failed W.flushes out.old out.new result (rules_text None doc.now) }
 {
-    write_rules(mk_listing::rules(doc), out)
+    write_rules(mk_listing::rule_lines(doc), out)
 }
 
 /// Writes those lines of [`rules`] alone that tell of a rule for this target. Nothing is flushed.
@@ -47,7 +47,7 @@ pub fn rules<A: Allocator, W: ByteSink>(doc: &Doc<A>, out: &mut W) -> Result<(),
 /// # Errors
 ///
 /// [`Fault::Write`] if a write answered it or took no byte. A prefix of the text is out then.
-pub fn rules_for<A: Allocator, W: ByteSink>(
+pub fn rules_named<A: Allocator, W: ByteSink>(
     doc: &Doc<A>,
     target: &[u8],
     out: &mut W,
@@ -56,7 +56,7 @@ pub fn rules_for<A: Allocator, W: ByteSink>(
     ensures { Writes W.contents W.failed W.flushes out.old out.new result
         (rules_text (Some target.now) doc.now) }
 {
-    write_rules(mk_listing::rules_for(doc, target), out)
+    write_rules(mk_listing::rule_lines_for(doc, target), out)
 }
 
 // Writes a line on each of some rules.
