@@ -61,10 +61,10 @@ complete -c mkedit -n '__fish_seen_subcommand_from get; and test (count (command
 complete -c mkedit -n '__fish_seen_subcommand_from edit vars rules recipes check caveats get session; and not __fish_seen_subcommand_from help' -F
 complete -c mkedit -n '__fish_seen_subcommand_from help' -a 'edit vars rules recipes check caveats get explain session help'
 # made by tools/texts: commands
-set -l script_commands set append add drop unset assign rule unrule depend depend-order undepend recipe recipe-insert recipe-set recipe-del recipe-replace recipe-remove rename nth all undo redo begin end cancel try or
+set -l script_commands set append add drop prepend replace subst operator unset assign rule unrule depend depend-order undepend recipe recipe-insert recipe-set recipe-del recipe-replace recipe-remove rename nth all undo redo begin end cancel try or
 # made until here
 complete -c mkedit -n '__fish_seen_subcommand_from help' -a "$script_commands"
 # made by tools/texts: refusals
-set -l refusals BadArgument Reserved RecipePrefix NoSuch Ambiguous Absent Already Taken SharedRule Straddles OpenValue OpenLine OpenDefine Leans TooLong NothingToUndo NothingToRedo GroupOpen NoGroup NoMemory
+set -l refusals BadArgument Reserved RecipePrefix NoSuch Ambiguous Absent Already Taken SharedRule Straddles OpenValue OpenLine OpenDefine Leans TooLong NothingToUndo NothingToRedo GroupOpen NoGroup NoMemory Misread
 # made until here
 complete -c mkedit -n '__fish_seen_subcommand_from explain; and not __fish_seen_subcommand_from help' -a "$refusals"

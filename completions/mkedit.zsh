@@ -161,9 +161,9 @@ _mkedit_help() {
     local -a words
     # made by tools/texts: commands
     words=(
-        set append add drop unset assign rule unrule depend depend-order undepend recipe
-        recipe-insert recipe-set recipe-del recipe-replace recipe-remove rename nth all undo redo
-        begin end cancel try or
+        set append add drop prepend replace subst operator unset assign rule unrule depend
+        depend-order undepend recipe recipe-insert recipe-set recipe-del recipe-replace
+        recipe-remove rename nth all undo redo begin end cancel try or
     )
     # made until here
     _alternative \
@@ -177,7 +177,7 @@ _mkedit_explain() {
     refusals=(
         BadArgument Reserved RecipePrefix NoSuch Ambiguous Absent Already Taken SharedRule Straddles
         OpenValue OpenLine OpenDefine Leans TooLong NothingToUndo NothingToRedo GroupOpen NoGroup
-        NoMemory
+        NoMemory Misread
     )
     # made until here
     _arguments -s "1:refusal:(${refusals[*]})"

@@ -28,6 +28,19 @@ pub fn obey(document: &mut Document, command: &Command<'_>) -> Option<()> {
             let lines: Vec<u32> = variables(document, name).collect();
             change(document, *lines.iter().rev().nth(index_of(number)?)?, kind, text)?;
         }
+        [b"prepend", name, text] => prepend(document, variable(document, name)?, text)?,
+        [b"replace", name, word, text] => {
+            let number = variable(document, name)?;
+            exchange_places(document, number, text, |line, value| {
+                let all = words(&line[..value.end], value.start);
+                all.filter(|it| line[it.clone()] == *word).collect()
+            })?;
+        }
+        [b"subst", name, old, new] => {
+            let number = variable(document, name)?;
+            exchange_places(document, number, new, |line, value| occurrences(line, value, old))?;
+        }
+        [b"operator", name, text] => set_operator(document, variable(document, name)?, text)?,
         [b"unset", name] => document.take_out(variable(document, name)?),
         [b"assign", ref place @ .., name, operator, value] => {
             let gap: &[u8] = if value.is_empty() { b"" } else { b" " };
@@ -130,6 +143,58 @@ fn give(document: &mut Document, number: u32, value: &[u8], is_more: bool) -> Op
     let start = if is_more { old.end } else { old.start };
     let gap: &[u8] = if is_more && !old.is_empty() { b" " } else { b"" };
     document.exchange(number, &[&line[..start], gap, value, &line[old.end..]]);
+    Some(())
+}
+
+/// Puts a text before a value.
+fn prepend(document: &mut Document, number: u32, text: &[u8]) -> Option<()> {
+    let line = document.line(number).to_vec();
+    let Class::Assign { operator_end, .. } = class_of(&line) else {
+        return None;
+    };
+    let value = value_of(&line, operator_end);
+    let gap: &[u8] = if value.is_empty() { b"" } else { b" " };
+    document.exchange(number, &[&line[..value.start], text, gap, &line[value.start..]]);
+    Some(())
+}
+
+/// Puts a text in some places of a value.
+fn exchange_places(
+    document: &mut Document,
+    number: u32,
+    text: &[u8],
+    places: impl Fn(&[u8], Range<usize>) -> Vec<Range<usize>>,
+) -> Option<()> {
+    let line = document.line(number).to_vec();
+    let Class::Assign { operator_end, .. } = class_of(&line) else {
+        return None;
+    };
+    let found = places(&line, value_of(&line, operator_end));
+    document.exchange(number, &replaced(&line, found.into_iter(), text)?);
+    Some(())
+}
+
+/// Where a text stands in a value, from the left.
+fn occurrences(line: &[u8], value: Range<usize>, text: &[u8]) -> Vec<Range<usize>> {
+    let (mut found, mut at) = (Vec::new(), value.start);
+    while at + text.len() <= value.end {
+        let is_here = line[at..].starts_with(text);
+        if is_here {
+            found.push(at..at + text.len());
+        }
+        at += if is_here { text.len() } else { 1 };
+    }
+    found
+}
+
+/// Gives an assignment another operator.
+fn set_operator(document: &mut Document, number: u32, text: &[u8]) -> Option<()> {
+    let line = document.line(number).to_vec();
+    let Class::Assign { name, operator_end } = class_of(&line) else {
+        return None;
+    };
+    let start = after_blanks(&line, name.end);
+    document.exchange(number, &[&line[..start], text, &line[operator_end..]]);
     Some(())
 }
 

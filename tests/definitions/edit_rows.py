@@ -35,18 +35,26 @@ FIELDS = {
     "line": "Line",
     "old": "Old",
     "new": "New",
+    "from": "From",
+    "to": "To",
 }
-# The refusals that an edit may have, from number 1.
-REFUSALS = (
-    "BadArgument Reserved RecipePrefix NoSuch Ambiguous Absent Already Taken SharedRule Straddles OpenValue OpenLine"
-    " OpenDefine Leans TooLong"
-).split()
+# The refusals that an edit may have, by number.
+REFUSALS = dict(
+    enumerate(
+        "BadArgument Reserved RecipePrefix NoSuch Ambiguous Absent Already Taken SharedRule Straddles OpenValue"
+        " OpenLine OpenDefine Leans TooLong".split(),
+        1,
+    )
+)
+REFUSALS[21] = "Misread"
+# The edits that are checked by reading.
+CHECKED = ("PrependValue", "ReplaceWord", "SubstituteValue", "SetOperator")
 
 
 def antt_refusal(report):
     """The refusal of a report line as a term."""
     number, _, *detail = report.rstrip("\n").split(": refused ")[1].split(" ")
-    name = REFUSALS[int(number) - 1]
+    name = REFUSALS[int(number)]
     if name == "BadArgument":
         return f"(BadArgument field.{FIELDS[detail[0]]})"
     return f"({name} {detail[0]})" if detail else name
@@ -58,12 +66,19 @@ def antt_span(span):
     return f"span {int(start)} {int(end)} {antt_text(bytes.fromhex(new))}"
 
 
-def answer_of(row):
-    """The answer of a row as a term."""
+def antt_not_made(row, name, refusal):
+    """The refusal of a row's edit, of this name, and its cost where the table and the definitions say it, as a term."""
+    if "cost" not in row:
+        return f"Refused {refusal}"
+    is_tried = name not in CHECKED or refusal == "Misread"
+    return f"NotMade {int(row['cost'])} {refusal}" if is_tried else f"NotTried {refusal}"
+
+
+def answer_of(row, name):
+    """The answer of a row, whose edit has this name, as a term."""
     report = unescape(row["stderr"])
     if report:
-        refusal = antt_refusal(report)
-        return f"NotMade {int(row['cost'])} {refusal}" if "cost" in row else f"Refused {refusal}"
+        return antt_not_made(row, name, antt_refusal(report))
     outcome = f"Becomes {antt_text(bytes_of(row, 'stdout'))}"
     if "spans" not in row:
         return outcome
@@ -77,14 +92,14 @@ def rows_of(table):
         steps = meaning_of(bytes_of(row, "script")) if row["status"] in ("0", "1") else []
         if len(steps) == 1 and is_edit(steps[0]):
             _, *edit = steps[0]
-            yield row["name"], [bare(antt_text(bytes_of(row, "makefile"))), bare(antt_edit(*edit)), answer_of(row)]
+            yield row["name"], [bare(antt_text(bytes_of(row, "makefile"))), bare(antt_edit(*edit)), answer_of(row, edit[0])]
 
 
 IMPORTS = [
     *EDIT_IMPORTS,
-    ("Rattle.mk_edit_language.specs.declared.refusal.Refusal.TheVariants", REFUSALS),
+    ("Rattle.mk_edit_language.specs.declared.refusal.Refusal.TheVariants", list(REFUSALS.values())),
     ("Rattle.mk_edit_language.specs.declared.refusal.Field.TheVariants", "field"),
-    ("Rattle.mk_rows.proofs.edits.Outcomes", "outcome Outcome account Account span Becomes Refused Accepted NotMade".split()),
+    ("Rattle.mk_rows.proofs.edits.Outcomes", "outcome Outcome account Account span Becomes Refused Accepted NotMade NotTried".split()),
 ]
 
 

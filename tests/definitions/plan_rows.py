@@ -6,10 +6,10 @@ runs each row through the library, and prints which rows it answers in another w
 
     plan_rows.py    the rows, which the crate keeps as its file stdin
 
-The tables are those of tests/cases/edits, tests/cases/runs.tsv and tests/cases/random-runs.tsv, and `long`,
-which is written here; a name given last, as `corners`, takes that table alone. The rows whose script or
-command line has a fault, so that no command runs, are left out (status 2), and the queries, which are no
-edits.
+The tables are those of tests/cases/edits, and of tests/cases runs.tsv, random-runs.tsv, further-edits.tsv and
+further-runs.tsv; and `long`, which is written here. A name given last, as `corners`, takes that table alone.
+The rows whose script or command line has a fault, so that no command runs, are left out (status 2), and so
+are those with a word before a command, `try` or `or`.
 
 A line of two columns, `table` and a name, begins a table. Each line below it is a row of the columns
 
@@ -35,7 +35,7 @@ import sys
 from pathlib import Path
 
 from row_tables import bytes_of, rows_of_table, unescape
-from script_rows import command_lines_of
+from script_rows import command_lines_of, meaning_of
 
 CASES = Path(__file__).resolve().parent.parent / "cases"
 TABLES = {
@@ -46,6 +46,8 @@ TABLES = {
     "random-recipes": CASES / "edits" / "random-recipes.tsv",
     "runs": CASES / "runs.tsv",
     "random-runs": CASES / "random-runs.tsv",
+    "further-edits": CASES / "further-edits.tsv",
+    "further-runs": CASES / "further-runs.tsv",
 }
 # A run over a makefile that is long enough for an index of its lines.
 LONG = [
@@ -96,9 +98,15 @@ def row_columns(row):
     return ["row", row["name"], str(depth), escape(bytes_of(row, "makefile")), expected, *limits, *commands]
 
 
+def has_commands_alone(row):
+    """Whether each step of a row is a command alone."""
+    steps = meaning_of(bytes_of(row, "script"))
+    return all(isinstance(step, tuple) and step[0] != "try" for step in steps)
+
+
 def rows_of(table):
     """The rows of a table in which the commands run."""
-    return [row for row in rows_of_table(table) if row["status"] != BAD_RUN]
+    return [row for row in rows_of_table(table) if row["status"] != BAD_RUN and has_commands_alone(row)]
 
 
 def print_rows(name):

@@ -40,6 +40,9 @@ EDITS = {
     b"append": ("AppendValue", [], 2),
     b"add": ("AddWord", [], 2),
     b"drop": ("RemoveWord", [], 2),
+    b"prepend": ("PrependValue", [], 2),
+    b"replace": ("ReplaceWord", [], 3),
+    b"subst": ("SubstituteValue", [], 3),
     b"unset": ("RemoveAssign", [], 1),
     b"unrule": ("RemoveRule", [], 1),
     b"depend": ("AddPrereq", [False], 2),
@@ -128,6 +131,9 @@ def edit_of(nth, word, fields):
         if word == b"assign":
             return ("AddAssign", place, first, known(FLAVORS, sign), last)
         return ("AddRule", place, first, known(SEPARATORS, sign), last)
+    if word == b"operator":
+        name, sign = taken(fields, 2)
+        return ("SetOperator", nth, name, known(FLAVORS, sign))
     if word == b"recipe-set":
         target, number, text = taken(fields, 3)
         return ("SetRecipe", nth, target, number_of(number), text)
@@ -216,7 +222,10 @@ def stated(meaning):
 # ---- terms
 
 # Where the number of the line is among the arguments of an edit.
-NTH_AT = {name: len(first) for name, first, _ in EDITS.values()} | dict.fromkeys(("SetRecipe", "RemoveRecipe", "InsertRecipe"), 0)
+NTH_AT = {name: len(first) for name, first, _ in EDITS.values()}
+NTH_AT |= dict.fromkeys(("SetOperator", "SetRecipe", "RemoveRecipe", "InsertRecipe"), 0)
+# The signs that stand third among the arguments of an edit.
+SIGNS = {"AddAssign": FLAVORS, "AddRule": SEPARATORS, "SetOperator": FLAVORS}
 
 
 def antt_nth(nth):
@@ -225,7 +234,7 @@ def antt_nth(nth):
 
 
 def antt_change(kind, text):
-    """A change of a value as a term."""
+    """A change of a value or a line as a term."""
     return f"(edits.{kind} {text})"
 
 
@@ -247,6 +256,10 @@ FORMS = {
     "AddWord": f"ChangeValue (One {{0}}) {{1}} {antt_change('Add', '{2}')}",
     "RemoveWord": f"ChangeValue (One {{0}}) {{1}} {antt_change('Remove', '{2}')}",
     "ChangeValues": "ChangeValue Every {0} {1}",
+    "PrependValue": f"ChangeLine {{0}} {{1}} {antt_change('Prepend', '{2}')}",
+    "ReplaceWord": f"ChangeLine {{0}} {{1}} {antt_change('ReplaceWord', '{2} {3}')}",
+    "SubstituteValue": f"ChangeLine {{0}} {{1}} {antt_change('Substitute', '{2} {3}')}",
+    "SetOperator": f"ChangeLine {{0}} {{1}} {antt_change('SetOperator', '{2}')}",
     "AddAssign": "AddLine {0} (NewAssign {1} {2} {3})",
     "RemoveAssign": "RemoveLines (OfAssign {0} {1})",
     "AddRule": "AddLine {0} (NewRule {1} {2} {3})",
@@ -264,13 +277,13 @@ FORMS = {
 # The words of the forms.
 FORM_WORDS = (
     "One Every NewAssign NewRule AddPrereq RemovePrereq ByNumber ByText Last At OfAssign OfRule OfRecipe"
-    " ChangeValue ChangePrereqs AddLine AddRecipe SetRecipe RemoveLines RenameTarget"
+    " ChangeValue ChangeLine ChangePrereqs AddLine AddRecipe SetRecipe RemoveLines RenameTarget"
 ).split()
 
 
 def antt_edit(name, *arguments):
     """An edit as a term."""
-    sign = {"AddAssign": FLAVORS, "AddRule": SEPARATORS}.get(name)
+    sign = SIGNS.get(name)
     terms = [
         antt_nth(part) if at == NTH_AT.get(name) else sign[part] if sign and at == 2 else antt_argument(name, part)
         for at, part in enumerate(arguments)

@@ -13,13 +13,13 @@ from tests.soak.cases import USUAL_DEPTH, Case
 from .inputs import QUERIES, input_of
 
 # Each has makefiles, scripts and reports.
-RUNS = ("runs", "corner-runs", "edits/corners")
+RUNS = ("runs", "corner-runs", "edits/corners", "further-edits")
 MAKEFILES = ("queries", "corner-queries", "readings/worked")
 # A makefile for the scripts of a table that has no makefiles.
 TEXT = b"X = 1\na: b\n\tc\n"
 LONGEST = 60
 OTHER_COMMANDS = (
-    b"assign rule recipe-set recipe-del recipe-insert recipe-replace recipe-remove rename nth all bottom".split()
+    b"operator assign rule recipe-set recipe-del recipe-insert recipe-replace recipe-remove rename nth all bottom".split()
 )
 COMMANDS = [*EDITS, *PLACES, *CALLS, *OTHER_COMMANDS]
 WORDS = [

@@ -44,8 +44,12 @@ def value(name, unit, closing=b"", shown=None, is_closed=True):
         values = [(unit, count), (closing, count), (b"x", 1)]
         said = [(b"1:0: LONG = ", 1), (shown or unit, count), (closing, count), (b"x\n", 1)]
         long = [(b"LONG = ", 1), *values]
+        other = [(unit.replace(b"x", b"y"), count), (closing, count), (b"y\n", 1)]
         edits = [
             ("set it", b"set LONG two", [(b"LONG = two\n", 1)]),
+            ("put a text before it", b"prepend LONG two", [(b"LONG = two ", 1), *values, (b"\n", 1)]),
+            ("replace a text in it", b"subst LONG x y", [(b"LONG = ", 1), *other]),
+            ("its operator", b"operator LONG :=", [(b"LONG := ", 1), *values, (b"\n", 1)]),
             ("unset it", b"unset LONG", []),
         ]
         if is_closed:
@@ -62,6 +66,8 @@ def one_fold(size):
     edits = (
         ("set it", b"set LONG two", [*part, (b"two\n", 1)]),
         ("append to it", b"append LONG two", [*part, (b"x two\n", 1)]),
+        ("put a text before it", b"prepend LONG two", [*part, (b"two x\n", 1)]),
+        ("its operator", b"operator LONG :=", [(b"LONG := ", 1), (b"\\\n", count), (b"x\n", 1)]),
         ("unset it", b"unset LONG", []),
     )
     return Shape("one fold", [*part, (b"x\n", 1)], {"vars": [(b"1:0: LONG = x\n", 1)]}, edits)

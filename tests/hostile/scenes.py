@@ -26,6 +26,10 @@ EDITS = {
     "append": (b"append LAST two", b"= one", b"= one two"),
     "add": (b"add LAST two", b"= one", b"= one two"),
     "drop": (b"drop LAST one", b"one # c\n", b"# c\n"),
+    "prepend": (b"prepend LAST two", b"= one", b"= two one"),
+    "replace": (b"replace LAST one two", b"= one", b"= two"),
+    "subst": (b"subst LAST ne ld", b"= one", b"= old"),
+    "operator": (b"operator LAST :=", b"LAST =", b"LAST :="),
     "all set": (b"all set LAST two", b"= one", b"= two"),
     "all append": (b"all append LAST two", b"= one", b"= one two"),
     "all add": (b"all add LAST two", b"= one", b"= one two"),
@@ -52,6 +56,7 @@ BOTTOM = {
 # One list of every kind, each fit for what those before it leave, and then as many undos.
 ALL = (
     b"set LAST two\nappend LAST three\nadd LAST four\ndrop LAST three\n"
+    b'prepend LAST five\nreplace LAST five six\nsubst LAST "six " ""\noperator LAST :=\n'
     b"all append LAST five\nall drop LAST four\nassign after-var LAST NEW = 1\n"
     b'rule before-rule last new : "a b"\ndepend last c\ndepend-order last d\nundepend last a\n'
     b"recipe last third\nrecipe-set last 2 fourth\nrecipe-del last 1\n"

@@ -35,8 +35,8 @@ DEFINED = [
 ]
 # In how many makefiles a byte or two are put in or taken out anywhere, and which.
 NOISY = 0.2
-NOISE = b"\\ # : = ; $ ( ) { | & ? \\# a % $$ ,".split()
-NOISE += [b" ", b"\t", b"\t\t", b"\n", b"\\\n", b"\r", b"\f"]
+SIGNS = b"\\ # : = ; $ ( ) { | & ? \\# a % $$ ,".split()
+NOISE = SIGNS + [b" ", b"\t", b"\t\t", b"\n", b"\\\n", b"\r", b"\f"]
 BYTE_ORDER_MARK = b"\xef\xbb\xbf"
 # What groups.py tells, and what is near to it.
 HOSTILE = [
@@ -51,6 +51,8 @@ HOSTILE = [
 ]
 
 
+# The operators that an edit brings.
+OPERATORS = b"= := ::= ?= +=".split()
 # What an edit brings now and then: values, words and recipe lines near to the edge of their tests.
 CORNERED = 0.08
 VALUES = [b"\\\\ a", b"%", b"a:", b"= b", b":= b", b"'\"'", b"$(NONE)", b"a\\ b", b"$$", b"+= x"]
@@ -338,6 +340,19 @@ class Editor:
         words = [it for of, value in self.values if of == name for it in reading.texts(reading.units(value))]
         return self.one(words) if words and self.source.random() < 0.9 else self.word()
 
+    def part(self, name):
+        """A part of a value of a variable, most often."""
+        values = [value for of, value in self.values if of == name and value]
+        if not values or self.source.random() < 0.1:
+            return self.word()
+        value = self.one(values)
+        at = self.source.randrange(len(value))
+        return value[at : at + self.one([1, 1, 2, 3, len(value)])]
+
+    def new_part(self):
+        """What stands in the place of a part."""
+        return self.one([b"", b" ", b"x", b"a b", self.one(SIGNS), self.word()])
+
     def command(self):
         if self.writer.chance(CORNERED):
             return self.one(LINES)
@@ -366,8 +381,7 @@ class Editor:
 
     def assign(self):
         name = self.one(VARIABLES)
-        operator = self.one([b"=", b":=", b"::=", b"?=", b"+="])
-        return self.place(), name, operator, self.value(name)
+        return self.place(), name, self.one(OPERATORS), self.value(name)
 
     def rule(self):
         is_double = self.source.random() < 0.2
@@ -387,6 +401,10 @@ FIELDS = {
     "append": lambda it: it.for_name(lambda name: it.value(name) or b"more"),
     "add": lambda it: it.for_name(lambda _: it.word()),
     "drop": lambda it: it.for_name(it.held),
+    "prepend": lambda it: it.for_name(lambda name: it.value(name) or b"more"),
+    "replace": lambda it: it.for_name(it.held, lambda name: it.value(name) or b"more"),
+    "subst": lambda it: it.for_name(it.part, lambda _: it.new_part()),
+    "operator": lambda it: it.for_name(lambda _: it.one(OPERATORS)),
     "all set": lambda it: it.for_every_line(it.value),
     "all append": lambda it: it.for_every_line(lambda name: it.value(name) or b"more"),
     "all add": lambda it: it.for_every_line(lambda _: it.word()),

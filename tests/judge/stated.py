@@ -14,7 +14,7 @@ from .expected import Item
 from .values import shown
 
 OF_EVERY_LINE = ("all set", "all append", "all add", "all drop")
-OF_VARIABLES = ("set", "append", "add", "drop", "unset", "assign", *OF_EVERY_LINE)
+OF_VARIABLES = ("set", "append", "add", "drop", "prepend", "replace", "subst", "operator", "unset", "assign", *OF_EVERY_LINE)
 
 
 def field(text):
@@ -108,6 +108,39 @@ def drop(of, nth, name, word):
         return kept
 
     return with_value(of, nth, name, change)
+
+
+def prepend(of, nth, name, more):
+    return with_value(of, nth, name, lambda old: more + b" " + old if old else more)
+
+
+def replace(of, nth, name, word, new):
+    """The value with a text in the place of the word; the runs of blanks stay."""
+
+    def change(old):
+        runs = itertools.groupby(reading.units(old), reading.is_blank)
+        texts = [b"".join(units) for _, units in runs]
+        return b"".join(new if it == word else it for it in texts)
+
+    return with_value(of, nth, name, change)
+
+
+def substitute(of, nth, name, old, new):
+    """The value with a text in the place of another; blanks at its end are then blanks after it."""
+    at = addressed(of, nth, assigns(name))
+    *front, value = of[at].parts
+    units = reading.units(value.replace(old, new))
+    blanks = b"".join(itertools.takewhile(reading.is_blank, reversed(units)))[::-1]
+    value = b"".join(reading.trimmed(units))
+    of[at] = Item("Assign", (*front, value), blanks + of[at].tail if value else b"")
+    return of
+
+
+def operator(of, nth, name, sign):
+    at = addressed(of, nth, assigns(name))
+    modifiers, _, _, value = of[at].parts
+    of[at] = of[at]._replace(parts=(modifiers, name, sign, value))
+    return of
 
 
 def at_every_line(command):
@@ -227,6 +260,10 @@ CHANGES = {
     "append": append,
     "add": append,
     "drop": drop,
+    "prepend": prepend,
+    "replace": replace,
+    "subst": substitute,
+    "operator": operator,
     "unset": unset,
     "assign": assign,
     "rule": rule,

@@ -35,6 +35,8 @@ NOT_ASKED = (
     "references itself",
     "empty variable name",
 )
+# What it says of a reference from which a text was taken, or in which another was put.
+CUT_REFERENCES = ("unterminated", "insufficient number of arguments")
 
 
 class Verdict(NamedTuple):
@@ -91,7 +93,8 @@ class Judge:
     def stopped(text, edited, edit, fault):
         """The verdict on an edit after which make stops, or warns that it takes a rule for another."""
         is_of_value = edit[0] in stated.OF_VARIABLES and depends(text, edit)
-        if any(it in fault for it in NOT_ASKED) or is_of_value and "missing separator" in fault:
+        is_cut = edit[0] == "subst" and any(it in fault for it in CUT_REFERENCES)
+        if any(it in fault for it in NOT_ASKED) or is_of_value and "missing separator" in fault or is_cut:
             return Verdict(GROUP, "make_stops_at_what_mkedit_does_not_ask")
         return excused_or_found([text, edited], [f"make stops: {fault}"])
 

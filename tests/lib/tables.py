@@ -19,22 +19,21 @@ from tests import TOP
 from tests.lib.checks import Outcome
 
 CASES = TOP / "tests/cases"
-TABLES = (
-    "queries",
-    "corner-queries",
-    "chosen-queries",
+# The tables of runs, whose answers come from elsewhere.
+RUNS = (
     "runs",
     "corner-runs",
     "random-runs",
     "alternatives",
-    "notes",
-    "edit-notes",
     "edits/corners",
     "edits/random",
     "edits/random-recipes",
     "edits/words",
     "edits/every-value",
+    "further-edits",
+    "further-runs",
 )
+TABLES = ("queries", "corner-queries", "chosen-queries", "notes", "edit-notes", *RUNS)
 # The option of a query that says of what alone it tells.
 OPTIONS = {"vars": "--name", "rules": "--target", "recipes": "--target"}
 ESCAPES = {"\\\\": b"\\", "\\t": b"\t", "\\n": b"\n", "\\r": b"\r"}

@@ -34,7 +34,7 @@ class Explanations(RoomCase):
 
     def test_the_sources_are_those_of_the_definitions(self):
         self.assertEqual([(str(it.number), it.name) for it in sources()], refusals())
-        self.assertEqual(len(refusals()), 20)
+        self.assertEqual(len(refusals()), 21)
 
     def test_each_example_of_an_explanation_is_so(self):
         for it in sources():
@@ -45,7 +45,7 @@ class Explanations(RoomCase):
                 self.assertIn(f": refused {it.number} {it.name}", it.report)
 
     def test_another_word_is_no_refusal(self):
-        words = ("0", "21", "014", "+14", "-1", "14.", " 14", "14 ", "", "Lean", "Leans ", "all")
+        words = ("0", "22", "014", "+14", "-1", "14.", " 14", "14 ", "", "Lean", "Leans ", "all")
         lines = [["explain", "--", it] for it in words]
         for line in (*lines, ["explain"], ["explain", "14", "15"], ["explain", "-k", "14"]):
             self.assert_bad_command_line(*line)

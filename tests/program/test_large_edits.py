@@ -21,6 +21,10 @@ LONG_LINES = {
     "append": (b"append CC @", b"CC = gcc # c\n", b"CC = gcc @ # c\n"),
     "add": (b"add CC @", b"CC = gcc # c\n", b"CC = gcc @ # c\n"),
     "drop": (b"drop CC gcc", b"CC = gcc @ # c\n", b"CC = @ # c\n"),
+    "prepend": (b"prepend CC @", b"CC = gcc # c\n", b"CC = @ gcc # c\n"),
+    "replace": (b"replace CC gcc @", b"CC = gcc # c\n", b"CC = @ # c\n"),
+    "subst": (b"subst CC gcc @", b"CC = gcc # c\n", b"CC = @ # c\n"),
+    "operator": (b"operator CC :=", b"CC = @ # c\n", b"CC := @ # c\n"),
     "all set": (b"all set CC @", b"CC = gcc # c\n", b"CC = @ # c\n"),
     "all append": (b"all append CC @", b"CC = gcc # c\n", b"CC = gcc @ # c\n"),
     "all add": (b"all add CC @", b"CC = gcc # c\n", b"CC = gcc @ # c\n"),
@@ -46,6 +50,10 @@ LISTS = {
     "append": (b"append V%d b\n", b"V%d = a b\n"),
     "add": (b"add V%d b\n", b"V%d = a b\n"),
     "drop": (b"drop V%d a\n", b"V%d = \n"),
+    "prepend": (b"prepend V%d b\n", b"V%d = b a\n"),
+    "replace": (b"replace V%d a b\n", b"V%d = b\n"),
+    "subst": (b"subst V%d a bc\n", b"V%d = bc\n"),
+    "operator": (b"operator V%d ?=\n", b"V%d ?= a\n"),
 }
 
 
@@ -87,6 +95,43 @@ class LargeEdits(RoomCase):
         self.assert_edit(b"all set A 12", b"A = 1\n" * MANY, b"A = 12\n" * MANY)
         self.assert_edit(b"all add A c", b"A = b\nA = b c\n" * MANY, b"A = b c\n" * 2 * MANY)
         self.assert_edit(b"all drop A c", b"A = b\nA = b c\n" * MANY, b"A = b\n" * 2 * MANY)
+
+    def test_a_long_value_may_have_a_million_occurrences(self):
+        for command, before, after in (
+            (b"subst A a b", b"a" * MANY, b"b" * MANY),
+            (b"subst A a bc", b"a" * MANY, b"bc" * MANY),
+            (b'subst A " a" ""', b"a" + b" a" * MANY, b"a"),
+            (b"subst A aaa b", b"a" * MANY, b"b" * (MANY // 3) + b"a" * (MANY % 3)),
+            (b"replace A a bc", b"a" + b" a" * MANY, b"bc" + b" bc" * MANY),
+            (b"replace A a b", b"a" + b" a b" * MANY, b"b" + b" b b" * MANY),
+        ):
+            with self.subTest(command):
+                self.assert_edit(command, b"A = " + before + b" # c\n", b"A = " + after + b" # c\n")
+
+    def test_a_long_text_that_nearly_occurs_everywhere_is_soon_found(self):
+        """Four times the value and the text take at most ten times as long.
+
+        To compare the text at each place of the value would take sixteen times as long.
+        """
+        few, many = (self.seconds_of_a_text(size) for size in (MANY // 10, 4 * MANY // 10))
+        self.assertLess(many, 10 * max(few, 0.01), "a text is compared at each place")
+
+    def seconds_of_a_text(self, size):
+        """The seconds to replace a text of this size that stands at the end of a value twice as long."""
+        self.room.write("large", b"A = " + b"a" * 2 * size + b"b\n")
+        return self.seconds(b"subst A " + b"a" * size + b"b c\n", b"A = " + b"a" * size + b"c\n")
+
+    def test_a_value_of_many_folds_is_soon_changed(self):
+        """Four times the lines take at most ten times as long, where each has a word and an occurrence."""
+        for command, new in ((b"subst A b cd\n", b"cd"), (b"replace A ab x\n", b"x")):
+            old = b" \\\n  ab"
+            line = old.replace(b"ab" if new == b"x" else b"b", new)
+            seconds = []
+            for count in (MANY // 20, 4 * MANY // 20):
+                self.room.write("large", b"A =" + old * count + b"\n")
+                seconds.append(self.seconds(command, b"A =" + line * count + b"\n"))
+            with self.subTest(command):
+                self.assertLess(seconds[1], 10 * max(seconds[0], 0.01), "a fold is passed again and again")
 
     def seconds(self, script, wanted):
         """The least processor time of some runs of a script, whose text has to be the wanted one."""

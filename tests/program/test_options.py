@@ -49,6 +49,7 @@ TAKEN = [
     (1, None, "refused 4 NoSuch", "get X | get --nth 2 CC | get --nth=0 CC | get --nth 4294967295 CC | get -- -x | get X -"),
     (0, "4 NoSuch", None, "explain 4 | explain NoSuch | explain nosuch | explain NOSUCH | explain -- 4"),
     (0, "20 NoMemory", None, "explain 20 | explain NoMemory"),
+    (0, "21 Misread", None, "explain 21 | explain misread"),
     (0, "mkedit session 1", None, """
         session Makefile | session -- Makefile | session ./- --new | session -d 1 Makefile | session --depth=10000 a --new
         session --protocol Makefile | session --json Makefile | session --new absent | session --color always Makefile
@@ -136,8 +137,8 @@ REFUSED = {
             edit --report Json script | edit --diff --report= script Makefile | edit --report xml -e undo""",
         "invalid value for '--backup <SUFFIX>': it may neither be empty nor have a '/'": """
             edit -i --backup '' script Makefile | edit -i --backup=a/b script Makefile | edit --backup / -i script""",
-        "invalid value for '<REFUSAL>': it is no number from 1 to 20, and no refusal has this name": """
-            explain 0 | explain 21 | explain 04 | explain +4 | explain '' | explain No | explain 'NoSuch ' | explain -- -4""",
+        "invalid value for '<REFUSAL>': it is no number from 1 to 21, and no refusal has this name": """
+            explain 0 | explain 22 | explain 04 | explain +4 | explain '' | explain No | explain 'NoSuch ' | explain -- -4""",
         "a SCRIPT is required, or '--expression <COMMAND>'": "edit | edit -k | edit --diff | edit -i | edit -o out",
         "SCRIPT and FILE cannot both be standard input, which FILE is where it is '-' or left out": """
             edit - | edit - - | edit -k - | edit -- - - | edit -d 5 --diff -""",

@@ -145,9 +145,28 @@ class Session(RoomCase):
         )
         self.assertEqual(talk.answer("get X"), b"2\n")
 
+    def test_an_edit_whose_line_would_be_misread_changes_nothing(self):
+        self.room.write("folded", b"F = a \\\n  b # c\n")
+        talk = self.talk("folded")
+        self.assert_replies(
+            talk,
+            ("prepend F x", "ok"),
+            ("replace F a $(y)", "ok"),
+            ('subst F ) ""', "refused 21 Misread"),
+            ('try subst F ) ""', "refused 21 Misread"),
+            ('try subst F q ""', "ok"),
+            ('subst F " b" ""', "ok"),
+            ("operator F :=", "ok"),
+            ("nth 2 operator F =", "refused 4 NoSuch"),
+            ("operator F ==", "fault not a command"),
+        )
+        self.assertEqual(talk.answer("print"), b"F := x $(y) # c\n")
+        wanted = b'undo operator F :=\nundo subst F " b" ""\nundo replace F a $(y)\nundo prepend F x\n'
+        self.assertEqual(talk.answer("history"), wanted)
+
     def test_help_says_what_the_program_says(self):
         talk = self.talk("Makefile")
-        for word in ("set", "recipe-insert", "or"):
+        for word in ("set", "recipe-insert", "subst", "or"):
             self.assertEqual(talk.answer(f"help {word}"), self.room.run("help", word).stdout)
         for word in ("vars", "Set", "\udcff"):
             line = f"help {word}".encode("utf-8", "surrogateescape")

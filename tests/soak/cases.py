@@ -156,6 +156,9 @@ def keeps_other_bytes(before, after, spans):
 
 def wrong_undoing(room, case):
     """Whether the first bytes fail to come back where the whole script is undone."""
+    # (a return at the end would become a part of the line end behind it)
+    if case.script.endswith(b"\r"):
+        return []
     commands = case.script.count(b"\n") + 1
     room.write("undone", case.script + b"\ncancel\n" + b"undo\n" * commands)
     got = room.run("edit", "-k", "-d", str(GREATEST_DEPTH), "undone", "Makefile")

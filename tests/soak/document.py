@@ -143,6 +143,22 @@ def value_places(line):
     return places[end - len(value)], places[end], places[whole]
 
 
+def cell_places(line):
+    """Of an assignment: where each byte of its value stands in the text, and where the value ends."""
+    _, places = raw_places(line)
+    start, _, _ = value_places(line)
+    at = places.index(start)
+    return places[at : at + len(line.parts[-1]) + 1]
+
+
+def operator_places(line):
+    """Of an assignment: where its operator begins and ends."""
+    joined, places = raw_places(line)
+    start, _, _ = value_places(line)
+    before = joined[: places.index(start)].rstrip(b" \t")
+    return places[len(before) - len(line.parts[2])], places[len(before)]
+
+
 def value_words(line):
     """The words of an assignment's value."""
     joined, places = raw_places(line)

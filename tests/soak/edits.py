@@ -5,9 +5,10 @@ refusal in their order, and hands out the spans of the edit and the reading that
 """
 
 import itertools
+import re
 from typing import NamedTuple
 
-from argument_rows import is_closed, is_command, is_name, is_target, is_value, is_word, texts_of_units
+from argument_rows import is_clean, is_closed, is_command, is_name, is_target, is_value, is_word, texts_of_units
 from line_rows import is_open
 from tests.lib import reading
 
@@ -26,6 +27,7 @@ NAMES = dict(
         1,
     )
 )
+NAMES[21] = "Misread"
 
 
 class Refused(Exception):
@@ -244,6 +246,95 @@ class ChangeValues(Edit):
         changing = [at for at in found if self.does_something(doc.lines[at])]
         refuse(6 if isinstance(self.of_one, RemoveWord) else 7, not changing)
         return changed(doc, changing, self.of_one)
+
+
+class CheckedByReading(OfVariable):
+    """An edit of an assignment's line that is refused where the new line does not read as it is stated to."""
+
+    def parts_in(self, line):
+        """The spans in the line, and the parts of its item afterwards."""
+        raise NotImplementedError
+
+    def plan_in(self, doc):
+        at, items = self.find(doc), items_of(doc.lines)
+        spans, parts = self.parts_in(doc.lines[at])
+        items[at] = ("Assign", *parts)
+        return spans, items
+
+    def plan(self, text, limit=LIMIT):
+        plan = super().plan(text, limit)
+        doc = document.read(text)
+        at = self.find(doc)
+        line = doc.lines[at]
+        raw = replaced(line.raw, [Span(it.start - line.start, it.end - line.start, it.new) for it in plan.spans])
+        lines = document.read(replaced(text, plan.spans)).lines
+        refuse(21, len(lines) <= at or lines[at].raw != raw)
+        refuse(21, lines[at].item != ("Assign", *self.parts_in(line)[1]))
+        refuse(21, is_open(raw) and not is_open(line.raw))
+        return plan
+
+
+class PrependValue(CheckedByReading):
+    def fields(self):
+        return [("name", self.name, is_name), ("value", self.value, lambda it: it and is_value(it))]
+
+    def parts_in(self, line):
+        *others, old = line.parts
+        start, _, _ = document.value_places(line)
+        new = self.value + b" " if old else self.value
+        return [Span(start, start, new)], (*others, new + old)
+
+
+class ReplaceWord(CheckedByReading):
+    def __init__(self, nth, name, word, value):
+        super().__init__(nth, name, value)
+        self.word = word
+
+    def fields(self):
+        value = ("value", self.value, lambda it: it and is_value(it))
+        return [("name", self.name, is_name), ("word", self.word, is_value_word), value]
+
+    def parts_in(self, line):
+        *others, old = line.parts
+        found = [it for it in document.value_words(line) if it.text == self.word]
+        refuse(6, not found)
+        groups = itertools.groupby(reading.units(old), reading.is_blank)
+        pieces = [b"".join(group) for _, group in groups]
+        value = b"".join(self.value if it == self.word else it for it in pieces)
+        return [Span(it.start, it.end, self.value) for it in found], (*others, value)
+
+
+def is_text(text):
+    """Whether a text may be looked for."""
+    return text != b"" and is_clean(text)
+
+
+class SubstituteValue(CheckedByReading):
+    def __init__(self, nth, name, old, new):
+        super().__init__(nth, name, new)
+        self.old = old
+
+    def fields(self):
+        return [("name", self.name, is_name), ("from", self.old, is_text), ("to", self.value, is_clean)]
+
+    def parts_in(self, line):
+        *others, value = line.parts
+        places = document.cell_places(line)
+        found = [it.start() for it in re.finditer(re.escape(self.old), value)]
+        refuse(6, not found)
+        spans = [Span(places[at], places[at + len(self.old)], self.value) for at in found]
+        new = reading.trimmed(reading.units(value.replace(self.old, self.value)))
+        return spans, (*others, b"".join(new))
+
+
+class SetOperator(CheckedByReading):
+    def fields(self):
+        return [("name", self.name, is_name)]
+
+    def parts_in(self, line):
+        modifiers, name, _, value = line.parts
+        start, end = document.operator_places(line)
+        return [Span(start, end, self.value)], (modifiers, name, self.value, value)
 
 
 class RemoveAssign(OfVariable):
@@ -575,6 +666,10 @@ KINDS = (
     AddWord,
     RemoveWord,
     ChangeValues,
+    PrependValue,
+    ReplaceWord,
+    SubstituteValue,
+    SetOperator,
     AddAssign,
     RemoveAssign,
     AddRule,

@@ -15,6 +15,7 @@ from .session import Session
 from .vocabulary import (
     BAD_FIELDS,
     COMMANDS,
+    HOSTILE,
     NAMES,
     NO_COMMANDS,
     OPERATORS,
@@ -25,7 +26,17 @@ from .vocabulary import (
 )
 
 # The edits with their weights, by what they need in the makefile.
-OF_NAMES = {b"set": 10, b"append": 8, b"add": 7, b"drop": 7, b"unset": 9}
+OF_NAMES = {
+    b"set": 10,
+    b"append": 8,
+    b"add": 7,
+    b"drop": 7,
+    b"prepend": 7,
+    b"replace": 7,
+    b"subst": 8,
+    b"operator": 6,
+    b"unset": 9,
+}
 OF_RULES = {
     b"unrule": 10,
     b"depend": 7,
@@ -241,9 +252,37 @@ class Scripts(Drawing):
         name = self.name()
         return self.of_value(b"drop", name, self.word_of(name, 0.8))
 
-    def unset(self):
+    def of_name(self, word, name, *rest):
+        return [*self.number(len(self.document.assignments(name))), word, name, *rest]
+
+    def prepend(self):
+        return self.of_name(b"prepend", self.name(), self.value() or self.one([b"v", b"v", b""]))
+
+    def replace(self):
         name = self.name()
-        return [*self.number(len(self.document.assignments(name))), b"unset", name]
+        new = self.value() or self.one([b"v", b"v", b""])
+        return self.of_name(b"replace", name, self.word_of(name, 0.85), new)
+
+    def text_of(self, name):
+        """A part of a value of this variable, where there is one that is not empty; else any word."""
+        values = [self.document.lines[at].parts[-1] for at in self.document.assignments(name)]
+        values = [it for it in values if it]
+        if not values or self.chance(0.12):
+            return self.bad_or(self.one(WORDS))
+        value = self.one(values)
+        start = self.source.randrange(len(value))
+        return self.bad_or(value[start : start + self.one([1, 1, 1, 2, 3, 5, len(value)])])
+
+    def subst(self):
+        name = self.name()
+        new = self.one(HOSTILE) if self.chance(0.25) else self.one([b"", b"x", b" ", b"a b", *VALUES])
+        return self.of_name(b"subst", name, self.text_of(name), self.bad_or(new))
+
+    def operator(self):
+        return self.of_name(b"operator", self.name(), self.one(OPERATORS))
+
+    def unset(self):
+        return self.of_name(b"unset", self.name())
 
     def assign(self):
         number, place = self.place()

@@ -6,12 +6,10 @@
 import sys
 
 from tests.lib.checks import Outcome, Tally, differences
-from tests.lib.tables import rows, unescape
+from tests.lib.tables import RUNS, rows, unescape
 
 from .cases import USUAL_DEPTH
 from .judge import judged
-
-TABLES = ("runs", "corner-runs", "random-runs", "alternatives", "edits/corners", "edits/random", "edits/random-recipes", "edits/words", "edits/every-value")
 
 
 def verdict_on(row):
@@ -38,7 +36,7 @@ def problems_of(row):
 
 def judged_rows():
     """The name of each row, and what the judge says otherwise."""
-    for table in TABLES:
+    for table in RUNS:
         for _, row in rows(table):
             yield f"the judge on {table}: {row['name']}", list(problems_of(row))
 

@@ -33,8 +33,9 @@ SENTENCES = {
         "meant."
     ),
     "Absent": (
-        "The word to remove is no prerequisite of the rule, or no word of the value, and with `all` of no "
-        "value of the name; the rule has no K-th recipe line, or none whose text is OLD."
+        "The word to remove or to replace is no prerequisite of the rule, or no word of the value, and with "
+        "`all` of no value of the name; the value does not have the text FROM; the rule has no K-th recipe "
+        "line, or none whose text is OLD."
     ),
     "Already": (
         "The word is already in the list of prerequisites, or in the value, to which the command adds it, and"
@@ -62,6 +63,10 @@ SENTENCES = {
     "GroupOpen": "`undo`, `redo` or `begin` stands inside a group.",
     "NoGroup": "`end` or `cancel` stands outside a group.",
     "NoMemory": "Memory ran out.",
+    "Misread": (
+        "The new line would not read as the edit says: for instance, the new text has a `#`, an open "
+        "reference or a backslash at its end, or `subst` takes out a `)` before a comment."
+    ),
     # made until here
 }
 

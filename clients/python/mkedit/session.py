@@ -109,6 +109,22 @@ class Session:
         """Removes a word from each value of a name."""
         self._do("drop", name, word, before="all")
 
+    def prepend(self, name: str, value: str, nth: Optional[int] = None) -> None:
+        """Puts a text before a value."""
+        self._do("prepend", name, value, nth=nth)
+
+    def replace(self, name: str, word: str, value: str, nth: Optional[int] = None) -> None:
+        """Replaces a word of a value by a text."""
+        self._do("replace", name, word, value, nth=nth)
+
+    def subst(self, name: str, old: str, new: str, nth: Optional[int] = None) -> None:
+        """Replaces each occurrence of a text in a value."""
+        self._do("subst", name, old, new, nth=nth)
+
+    def operator(self, name: str, operator: Operator, nth: Optional[int] = None) -> None:
+        """Replaces the operator of an assignment."""
+        self._do("operator", name, one_of(OPERATORS, operator), nth=nth)
+
     def unset(self, name: str, nth: Optional[int] = None) -> None:
         """Removes an assignment."""
         self._do("unset", name, nth=nth)

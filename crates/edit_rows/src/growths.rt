@@ -10,7 +10,8 @@ use test_support::difference::{Stop, holds};
 
 /// Runs the commands of a row in a session, once for each of their growths, which is refused then.
 ///
-/// - A command that finds no memory changes nothing, and is made afterwards.
+/// - A command that finds no memory changes nothing, and is made afterwards. Of the refusals none but
+///   `Misread` may be hidden by it.
 /// - The text at the end is the expected one.
 /// - The end of a group, undoing all and redoing it take no memory.
 pub fn check_growths<'h>(alloc: Global, heap: &'h Heap, row: &Row<'_, 'h>) -> Result<(), Stop> {
@@ -52,6 +53,8 @@ fn check_commands<'h>(
         if answer == Err(Refusal::NoMemory) && heap.has_refused() {
             let what = "a command without memory leaves the size of the text";
             holds(alloc, what, session.doc().size() == size)?;
+            let may_be_hidden = expectation.reply == "done" || expectation.reply == "21 Misread";
+            holds(alloc, "no memory hides no refusal", may_be_hidden)?;
             check_again(alloc, session, expectation)?;
         } else {
             let what = "the reply where a growth may be refused";

@@ -56,6 +56,58 @@ makes
     CFLAGS = -O2 # c
 ";
 
+const PREPEND: &str = "\
+Puts text before a value.
+
+Is refused with BadArgument, Reserved, RecipePrefix, NoSuch, Ambiguous, TooLong or Misread.
+
+Example: over
+    LDLIBS = -lm # c
+the script
+    prepend LDLIBS -lz
+makes
+    LDLIBS = -lz -lm # c
+";
+
+const REPLACE: &str = "\
+Replaces a word of a value by text.
+
+Is refused with BadArgument, Reserved, RecipePrefix, NoSuch, Ambiguous, Absent, TooLong or Misread.
+
+Example: over
+    CFLAGS = -O2 -Wall # c
+the script
+    replace CFLAGS -O2 \"-O3 -g\"
+makes
+    CFLAGS = -O3 -g -Wall # c
+";
+
+const SUBST: &str = "\
+Replaces each occurrence of a text in a value, also within words.
+
+Is refused with BadArgument, Reserved, RecipePrefix, NoSuch, Ambiguous, Absent, TooLong or Misread.
+
+Example: over
+    DIRS = /usr/local/bin:/usr/local/lib
+the script
+    subst DIRS /usr/local /usr
+makes
+    DIRS = /usr/bin:/usr/lib
+";
+
+const OPERATOR: &str = "\
+Replaces the operator of an assignment, and keeps its value.
+
+Is refused with BadArgument, Reserved, RecipePrefix, NoSuch, Ambiguous, TooLong or Misread.
+
+Example: over
+    CC = gcc
+the script
+    operator CC ?=
+makes
+    CC ?= gcc
+";
+
 const UNSET: &str = "\
 Removes an assignment.
 
@@ -408,11 +460,15 @@ makes
 ";
 
 /// What is said of each command of a script, and of the words that may stand before one.
-pub(crate) static TEXTS: [(&str, &str); 27] = [
+pub(crate) static TEXTS: [(&str, &str); 31] = [
     ("set", SET),
     ("append", APPEND),
     ("add", ADD),
     ("drop", DROP),
+    ("prepend", PREPEND),
+    ("replace", REPLACE),
+    ("subst", SUBST),
+    ("operator", OPERATOR),
     ("unset", UNSET),
     ("assign", ASSIGN),
     ("rule", RULE),

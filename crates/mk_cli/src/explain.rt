@@ -8,7 +8,7 @@ use mk_lines::{ByteSink, Fault};
 use std::str::FromStr;
 
 // Each refusal. Where it has a count or a field, this is any.
-const REFUSALS: [Refusal; 20] = [
+const REFUSALS: [Refusal; 21] = [
     Refusal::BadArgument(Field::Name),
     Refusal::Reserved,
     Refusal::RecipePrefix,
@@ -29,6 +29,7 @@ const REFUSALS: [Refusal; 20] = [
     Refusal::GroupOpen,
     Refusal::NoGroup,
     Refusal::NoMemory,
+    Refusal::Misread,
 ];
 
 // Whether the word is the refusal's name, in any case, or its number in decimal digits.

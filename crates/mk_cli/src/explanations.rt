@@ -9,12 +9,13 @@ const BAD_ARGUMENT: &str = "\
 A field is not what it has to be. The report names the first such field.
 `name` has only ASCII letters, digits, underscores, dots and hyphens, so no `$(X)`.
 `value` has no blank at either end, no `#` that would begin a comment, no backslash and no lone `$` at
-its end, and no reference that is not closed, such as `$(X`. With `append` it is not empty either.
+its end, and no reference that is not closed, such as `$(X`. With `append`, `prepend` and `replace`
+it is not empty either. `from` is not empty.
 `target`, `word`, `old` and `new` are one word each, without a blank outside a reference. `targets`
 and `prereqs` are such words, and `targets` is not empty. Outside a reference no word has a `#`,
 colon, semicolon, equals sign, vertical bar, backslash or lone `$`, and each reference is closed. No
-target ends in `&`. `place` contains such a name or such a target. With `add` and `drop`, `word` is a
-word of a value: it follows the rules for `value`, and is not empty.
+target ends in `&`. `place` contains such a name or such a target. With `add`, `drop` and `replace`,
+`word` is a word of a value: it follows the rules for `value`, and is not empty.
 `line` does not end in a backslash, and neither does `old` of `recipe-replace` and `recipe-remove`,
 which is a whole line. No field has a CR or a NUL.
 
@@ -106,9 +107,9 @@ target-specific assignments do not count. Or change all of them: `all set CC cla
 ";
 
 const ABSENT: &str = "\
-The word to remove is no prerequisite of the rule, or no word of the value, and with `all` of no value
-of the name; the rule has no K-th recipe line, or none whose text is OLD. For `recipe-insert` K may be
-one more than the number of recipe lines.
+The word to remove or to replace is no prerequisite of the rule, or no word of the value, and with
+`all` of no value of the name; the value does not have the text FROM; the rule has no K-th recipe line,
+or none whose text is OLD. For `recipe-insert` K may be one more than the number of recipe lines.
 
 Example: over
     hello: main.o
@@ -308,6 +309,20 @@ Example: a makefile has 16 MB, and `ulimit -v` leaves less memory than the run n
 Run it again with more memory.
 ";
 
+const MISREAD: &str = "\
+The new line would not read as the edit says: for instance, the new text has a `#`, an open reference
+or a backslash at its end, or `subst` takes out a `)` before a comment.
+
+Example: over
+    CFLAGS = -O2 -g
+the script
+    subst CFLAGS -g \"-g # slow\"
+is reported as
+    1: refused 21 Misread
+
+Look at the line, and use another text, such as `\\#`. Or give the whole value with `set`.
+";
+
 /// The cause of a refusal, an example of it and what to do, with an empty line between the three. A
 /// count or a field that the refusal has changes nothing.
 pub fn explanation(refusal: &Refusal) -> &'static str {
@@ -332,5 +347,6 @@ pub fn explanation(refusal: &Refusal) -> &'static str {
         Refusal::GroupOpen => GROUP_OPEN,
         Refusal::NoGroup => NO_GROUP,
         Refusal::NoMemory => NO_MEMORY,
+        Refusal::Misread => MISREAD,
     }
 }

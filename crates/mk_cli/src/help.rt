@@ -19,14 +19,15 @@ const EDIT_USAGE: &str = "mkedit edit [OPTIONS] SCRIPT [FILE]
 
 const EDIT: &str = "\
 A line of the script is a command, a comment that begins with #, or blank:
-    set NAME VALUE            append NAME VALUE           unset NAME
-    add NAME WORD             drop NAME WORD              nth N COMMAND    all COMMAND
+    set NAME VALUE            append NAME VALUE           prepend NAME VALUE
+    add NAME WORD             drop NAME WORD              replace NAME WORD VALUE
+    subst NAME FROM TO        operator NAME OP            unset NAME
     assign PLACE NAME OP VALUE                            rename OLD NEW
     rule PLACE TARGETS SEP PREREQS                        unrule TARGET
     depend TARGET WORD        depend-order TARGET WORD    undepend TARGET WORD
     recipe TARGET LINE        recipe-set TARGET K LINE    recipe-del TARGET K
     recipe-insert TARGET K LINE                           recipe-remove TARGET OLD
-    recipe-replace TARGET OLD LINE
+    recipe-replace TARGET OLD LINE                        nth N COMMAND    all COMMAND
     undo    redo    begin    end    cancel                try COMMAND    or COMMAND
 PLACE is bottom, before-var NAME, after-var NAME or before-rule TARGET. OP is one of
 = := ::= :::= ?= += != and SEP one of : and ::. Put double quotes around a field that has blanks in it

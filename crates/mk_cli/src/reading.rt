@@ -340,7 +340,7 @@ where
         Some(("explain", words)) => match words.get_one(REFUSAL.id) {
             Some(refusal) => Ok(Request::Explain(refusal)),
             None => Err(Fault::Invalid(
-                "invalid value for '<REFUSAL>': it is no number from 1 to 20, and no refusal has this name",
+                "invalid value for '<REFUSAL>': it is no number from 1 to 21, and no refusal has this name",
             )),
         },
         Some(("session", words)) => Ok(Request::Session(session_words(words)?)),

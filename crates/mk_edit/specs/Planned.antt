@@ -13,7 +13,7 @@ use Rattle.mk_edit_language.specs.Changes.{change}
 use Rattle.mk_edit_language.specs.Costs.{cost, size}
 use Rattle.mk_edit_language.specs.Refusals.{spans, text_after}
 use Rattle.mk_edit_language.specs.declared.refusal.Refusal.{Refusal}
-use Rattle.mk_edit_language.specs.declared.refusal.Refusal.TheVariants.{NoMemory}
+use Rattle.mk_edit_language.specs.declared.refusal.Refusal.TheVariants.{NoMemory, Misread}
 use Rattle.mk_patch.specs.Moves.{Move, FitMoves, after_moves, held_by, taken_by}
 use Rattle.mk_edit.specs.PlannedMoves.{follows_unended}
 
@@ -41,11 +41,15 @@ pub record IsPlanned (e : Edit) (ls : List LocatedLine) (patch : List Move) : Ty
   pub held : held_by patch ≡ cost (located_text ls) e + ended_lines ls e
   pub taken : taken_by patch ≡ size (located_text ls) e + ended_lines ls e
 
--- A refusal of an edit of a text: the first refusal whose cause holds; or NoMemory, if no cause
--- holds and a growth was refused.
+-- no cause of an edit holds, or none but the last, that the new line is misread
+abbrev pub IsUnrefused : (text : List ℕ) → Edit → Type 0
+IsUnrefused t e = ((rs : List Replacement) × (spans t e ≡ Ok rs)) ⊎ (spans t e ≡ Err Misread)
+
+-- A refusal of an edit of a text: the first refusal whose cause holds; or NoMemory, if a growth was
+-- refused and no cause holds, but perhaps the last, which needs the new line.
 abbrev pub IsRefusal : (text : List ℕ) → Edit → Refusal → Type 0
 IsRefusal t e r =
-    (spans t e ≡ Err r) ⊎ ((r ≡ NoMemory) × (rs : List Replacement) × (spans t e ≡ Ok rs))
+    (spans t e ≡ Err r) ⊎ ((r ≡ NoMemory) × IsUnrefused t e)
 
 -- The planning of an edit answers a planned patch, or a refusal of the edit. It reads anew as many
 -- lines as the edit costs, or at most that many if the edit is refused. The two numbers are those

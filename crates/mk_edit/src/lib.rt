@@ -27,6 +27,7 @@
 //! - `change_values_survey`: what a change of values finds among the lines.
 //! - `change_values_causes`: the causes of refusal of a change of values.
 //! - `change_value`: a change of the value of one assignment, planned.
+//! - `change_line`: a change of an assignment's line that is checked by reading, planned.
 //! - `change_values_patch`: the patch of a change of values whose causes are decided.
 //! - `change_values`: a change of all values of a name, planned.
 //! - `rename_target_places`: the lines that a rename exchanges and their places, noted.
@@ -40,6 +41,7 @@ mod add_line;
 mod add_prereq;
 mod add_recipe;
 mod assignment;
+mod change_line;
 mod change_value;
 mod change_values;
 mod change_values_causes;

@@ -10,7 +10,7 @@ ghost use Rattle.mk_tree.specs.LineTexts.{line_in};
 ghost use Rattle.mk_tree.specs.LocatedLines.{last_line, located_line};
 ghost use Rattle.mk_tree.specs.Trees.{line_view};
 ghost use Rattle.mk_lines.specs.LogicalLines.{logical_lines};
-ghost use Rattle.mk_patch.specs.Moves.{IsPlain, TakeOut};
+ghost use Rattle.mk_patch.specs.Moves.{Exchange, IsPlain, TakeOut};
 ghost use Rattle.mk_patch.specs.StepMoves.{move_of};
 ghost use Rattle.mk_edit.specs.Planned.{ReadsAnew};
 ghost use Rattle.mk_edit.specs.PlannedMoves.{CanInsert, CanReplace, follows_unended, inserting_moves, is_unended, last_bytes_ended, replacing_moves};
@@ -45,9 +45,25 @@ pub(crate) fn replace_line<A: Allocator + Copy>(
 {
     // The contract of `len` bounds the number of lines, as reading asks.
     let _count = doc.len();
-    let mut patch = builder(alloc, 1)?;
     let line = read_line(alloc, bytes, place.context, meter)?;
-    patch.push(Step::Exchange(place.at, line));
+    exchange(alloc, place.at, line)
+}
+
+/// The patch that puts a line in the place of another.
+///
+/// # Errors
+///
+/// [`Refusal::NoMemory`] if a growth was refused.
+pub(crate) fn exchange<A: Allocator + Copy>(
+    alloc: A,
+    at: usize,
+    line: Line<A>,
+) -> Result<Patch<A>, Refusal>
+    ensures moves { IfOk result (λ patch. patch ≡ Exchange at (line_view line) ∷ []) }
+    ensures refused { IsOkUnless result Refusal.NoMemory }
+{
+    let mut patch = builder(alloc, 1)?;
+    patch.push(Step::Exchange(at, line));
     Ok(patch.finish())
 }
 

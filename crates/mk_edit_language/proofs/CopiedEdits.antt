@@ -73,6 +73,14 @@ edits-cloned R G d C e f (edit.RemoveWord k n v) (edit.RemoveWord l m w) h =
     cc (number-cloned e e k l h.0, text-cloned n.items m.items h.1.0.0, text-cloned v.items w.items h.1.1.0)
 edits-cloned R G d C e f (edit.ChangeValues n c) (edit.ChangeValues m g) h =
     cc (text-cloned n.items m.items h.0.0, changes-cloned R G d C e f c g h.1)
+edits-cloned R G d C e f (edit.PrependValue k n v) (edit.PrependValue l m w) h =
+    cc (number-cloned e e k l h.0, text-cloned n.items m.items h.1.0.0, text-cloned v.items w.items h.1.1.0)
+edits-cloned R G d C e f (edit.ReplaceWord k n o v) (edit.ReplaceWord l m u w) h =
+    cc (number-cloned e e k l h.0, text-cloned n.items m.items h.1.0.0, text-cloned o.items u.items h.1.1.0.0, text-cloned v.items w.items h.1.1.1.0)
+edits-cloned R G d C e f (edit.SubstituteValue k n o v) (edit.SubstituteValue l m u w) h =
+    cc (number-cloned e e k l h.0, text-cloned n.items m.items h.1.0.0, text-cloned o.items u.items h.1.1.0.0, text-cloned v.items w.items h.1.1.1.0)
+edits-cloned R G d C e f (edit.SetOperator k n i) (edit.SetOperator l m j) h =
+    cc (number-cloned e e k l h.0, text-cloned n.items m.items h.1.0.0, h.1.1)
 edits-cloned R G d C e f (edit.AddAssign p n i v) (edit.AddAssign q m j w) h =
     cc (places-cloned R G d C e f p q h.0, text-cloned n.items m.items h.1.0.0, h.1.1.0, text-cloned v.items w.items h.1.1.1.0)
 edits-cloned R G d C e f (edit.RemoveAssign k n) (edit.RemoveAssign l m) h =

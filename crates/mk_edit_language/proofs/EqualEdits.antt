@@ -113,6 +113,18 @@ edits-decide R G d e (edit.RemoveWord k n v) (edit.RemoveWord l m w) =
 edits-decide R G d e (edit.ChangeValues n c) (edit.ChangeValues m f) =
     Decides-like _ (λ h. cc) (λ h. (cc, cc))
     (also (bytes_eq-Decides n.items m.items) (changes-decide R G d e c f))
+edits-decide R G d e (edit.PrependValue k n v) (edit.PrependValue l m w) =
+    Decides-like _ (λ h. cc) (λ h. (cc, (cc, cc)))
+    (also (number-decides k l) (also (bytes_eq-Decides n.items m.items) (bytes_eq-Decides v.items w.items)))
+edits-decide R G d e (edit.ReplaceWord k n o v) (edit.ReplaceWord l m u w) =
+    Decides-like _ (λ h. cc) (λ h. (cc, (cc, (cc, cc))))
+    (also (number-decides k l) (also (bytes_eq-Decides n.items m.items) (also (bytes_eq-Decides o.items u.items) (bytes_eq-Decides v.items w.items))))
+edits-decide R G d e (edit.SubstituteValue k n o v) (edit.SubstituteValue l m u w) =
+    Decides-like _ (λ h. cc) (λ h. (cc, (cc, (cc, cc))))
+    (also (number-decides k l) (also (bytes_eq-Decides n.items m.items) (also (bytes_eq-Decides o.items u.items) (bytes_eq-Decides v.items w.items))))
+edits-decide R G d e (edit.SetOperator k n f) (edit.SetOperator l m g) =
+    Decides-like _ (λ h. cc) (λ h. (cc, (cc, cc)))
+    (also (number-decides k l) (also (bytes_eq-Decides n.items m.items) (flavor-decides f g)))
 edits-decide R G d e (edit.AddAssign p n f v) (edit.AddAssign q m g w) =
     Decides-like _ (λ h. cc) (λ h. (cc, (cc, (cc, cc))))
     (also (places-decide R G d e p q) (also (bytes_eq-Decides n.items m.items) (also (flavor-decides f g) (bytes_eq-Decides v.items w.items))))

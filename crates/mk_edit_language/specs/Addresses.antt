@@ -9,7 +9,7 @@ use Rattle.mk_class.specs.Classes.{Class}
 use Rattle.mk_class.specs.Classes.Class.{Assign, TargetAssign, Header}
 use Rattle.mk_class.specs.ClassedLines.{ClassedLine}
 use Rattle.mk_tree.specs.LineTexts.{StandingLine}
-use Rattle.mk_edit_language.specs.Edits.{Place, Bottom, BeforeVar, AfterVar, BeforeRule, One, Every, OfAssign, OfRule, OfRecipe, Edit, ChangeValue, ChangePrereqs, AddLine, AddRecipe, SetRecipe, RemoveLines, RenameTarget}
+use Rattle.mk_edit_language.specs.Edits.{Place, Bottom, BeforeVar, AfterVar, BeforeRule, One, Every, OfAssign, OfRule, OfRecipe, Edit, ChangeValue, ChangeLine, ChangePrereqs, AddLine, AddRecipe, SetRecipe, RemoveLines, RenameTarget}
 use Rattle.mk_edit_language.specs.Spots.{spots, picked}
 
 -- a variable by its name among the assignments, or a rule by a target among the headers
@@ -52,6 +52,7 @@ place_address (BeforeRule nth t) = Some (Rule nth t)
 abbrev pub address : Edit → Option Address
 address (ChangeValue (One nth) n c) = Some (Variable nth n)
 address (ChangeValue Every n c) = None
+address (ChangeLine nth n c) = Some (Variable nth n)
 address (ChangePrereqs nth t c) = Some (Rule nth t)
 address (AddLine p l) = place_address p
 address (AddRecipe nth t p c) = Some (Rule nth t)

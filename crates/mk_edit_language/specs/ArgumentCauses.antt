@@ -7,8 +7,8 @@ use Rattle.mk_lines.specs.Words.{words_in, is_gap}
 use Rattle.mk_class.specs.ListTests.{is_empty}
 use Rattle.mk_class.specs.Keywords.{is_reserved_word}
 use Rattle.mk_class.specs.RecipePrefix.{is_prefix_name}
-use Rattle.mk_class.specs.Arguments.{is_value, is_word, is_target, is_name, is_command}
-use Rattle.mk_edit_language.specs.Edits.{Place, Bottom, BeforeVar, AfterVar, BeforeRule, NewLine, NewAssign, NewRule, Every, ValueChange, Set, Append, Add, Remove, PrereqChange, AddPrereq, RemovePrereq, RecipeLine, ByNumber, ByText, Removal, OfAssign, OfRule, OfRecipe, Edit, ChangeValue, ChangePrereqs, AddLine, AddRecipe, SetRecipe, RemoveLines, RenameTarget}
+use Rattle.mk_class.specs.Arguments.{is_clean, is_value, is_word, is_target, is_name, is_command}
+use Rattle.mk_edit_language.specs.Edits.{Place, Bottom, BeforeVar, AfterVar, BeforeRule, NewLine, NewAssign, NewRule, Every, ValueChange, Set, Append, Add, Remove, LineChange, Prepend, ReplaceWord, Substitute, SetOperator, PrereqChange, AddPrereq, RemovePrereq, RecipeLine, ByNumber, ByText, Removal, OfAssign, OfRule, OfRecipe, Edit, ChangeValue, ChangeLine, ChangePrereqs, AddLine, AddRecipe, SetRecipe, RemoveLines, RenameTarget}
 use Rattle.mk_edit_language.specs.Addresses.{Address, Variable, Rule, address}
 use Rattle.mk_edit_language.specs.Causes.{where_holds}
 use Rattle.mk_edit_language.specs.declared.refusal.Field.{Field}
@@ -55,6 +55,15 @@ change_test (Append v) = Tested field.Value (is_value v && not (is_empty v))
 change_test (Add w) = Tested field.Word (is_value_word w)
 change_test (Remove w) = Tested field.Word (is_value_word w)
 
+-- the tests of the texts of a change of a line
+abbrev pub line_change_tests : LineChange → List FieldTest
+line_change_tests (Prepend v) = Tested field.Value (is_value v && not (is_empty v)) ∷ []
+line_change_tests (ReplaceWord w v) =
+    Tested field.Word (is_value_word w) ∷ Tested field.Value (is_value v && not (is_empty v)) ∷ []
+line_change_tests (Substitute f t) =
+    Tested field.From (is_clean f && not (is_empty f)) ∷ Tested field.To (is_clean t) ∷ []
+line_change_tests (SetOperator o) = []
+
 -- the test of the word of a change of prerequisites
 abbrev prereq_test : PrereqChange → FieldTest
 prereq_test (AddPrereq order w) = Tested field.Word (is_word w)
@@ -81,6 +90,7 @@ removal_tests (OfRecipe nth t w) = Tested field.Target (is_target t) ∷ recipe_
 -- the fields of an edit in their order
 abbrev pub field_tests : Edit → List FieldTest
 field_tests (ChangeValue w n c) = Tested field.Name (is_name n) ∷ change_test c ∷ []
+field_tests (ChangeLine nth n c) = Tested field.Name (is_name n) ∷ line_change_tests c
 field_tests (ChangePrereqs nth t c) = Tested field.Target (is_target t) ∷ prereq_test c ∷ []
 field_tests (AddLine p l) = Tested field.Place (is_place p) ∷ line_tests l
 field_tests (AddRecipe nth t p c) =

@@ -18,10 +18,11 @@ use Rattle.mk_class.specs.declared.rule.Separator.TheVariants.{SingleColon, Doub
 use Rattle.mk_tree.specs.Documents.{text_of}
 use Rattle.mk_tree.specs.Items.{Item, Assign, TargetAssign, Header, Recipe, Sets, items, items_of_line, header_item}
 use Rattle.mk_tree.specs.LineTexts.{StandingLine}
-use Rattle.mk_edit_language.specs.Edits.{NewLine, NewAssign, NewRule, One, Every, ValueChange, Set, Append, Add, Remove, PrereqChange, AddPrereq, RemovePrereq, Edit, ChangeValue, ChangePrereqs, AddLine, AddRecipe, SetRecipe, RemoveLines, RenameTarget}
+use Rattle.mk_edit_language.specs.Edits.{NewLine, NewAssign, NewRule, One, Every, ValueChange, Set, Append, Add, Remove, LineChange, PrereqChange, AddPrereq, RemovePrereq, Edit, ChangeValue, ChangeLine, ChangePrereqs, AddLine, AddRecipe, SetRecipe, RemoveLines, RenameTarget}
 use Rattle.mk_edit_language.specs.Addresses.{Variable, Rule, found}
 use Rattle.mk_edit_language.specs.Stretches.{Stretch, this_line, place_found, recipe_place, removed, recipe_found}
 use Rattle.mk_edit_language.specs.ValueChanges.{set_value_span, led_words, staying, from_first_word, is_changed}
+use Rattle.mk_edit_language.specs.LineChanges.{assigned_after}
 use Rattle.mk_edit_language.specs.EditSpans.{where_found}
 use Rattle.mk_edit_language.specs.declared.edit.RuleSeparator.{RuleSeparator}
 use Rattle.mk_edit_language.specs.declared.edit.RuleSeparator.TheVariants.{Single, Double}
@@ -92,6 +93,14 @@ with_values t n c at [] = []
 with_values t n c at (l ∷ ls) =
     changed_items t n c at l ++ with_values t n c (at + length l.bytes) ls
 
+-- the item of a line of this class after a change that is checked by reading
+abbrev pub line_item : LineChange → Class Cell → List Item
+line_item c (AssignLine a p) = Assign (assigned_after c a) ∷ []
+line_item c k = []
+
+abbrev pub with_line_changed : LineChange → StandingLine → List Item
+with_line_changed c s = with_items (line_item c s.line.class) (this_line s)
+
 -- ---- prerequisites and targets
 
 -- the item of a header, changed by `f`; no item if the line is no header
@@ -152,6 +161,8 @@ abbrev change_of : (text : List ℕ) → List ClassedLine → Edit → List Item
 change_of t ls (ChangeValue (One nth) n c) =
     where_found (with_value (value_changed t c)) (found ls (Variable nth n))
 change_of t ls (ChangeValue Every n c) = with_values t n c 0 ls
+change_of t ls (ChangeLine nth n c) =
+    where_found (with_line_changed c) (found ls (Variable nth n))
 change_of t ls (ChangePrereqs nth g c) =
     where_found (with_header (with_prereqs c)) (found ls (Rule nth g))
 change_of t ls (AddLine p l) =

@@ -10,11 +10,12 @@ use Rattle.mk_class.specs.Classes.Class.{Header}
 use Rattle.mk_class.specs.ClassedLines.{ClassedLine}
 use Rattle.mk_tree.specs.Documents.{text_of}
 use Rattle.mk_tree.specs.LineTexts.{StandingLine}
-use Rattle.mk_edit_language.specs.Edits.{One, Every, PrereqChange, AddPrereq, RemovePrereq, Edit, ChangeValue, ChangePrereqs, SetRecipe, RemoveLines, RenameTarget}
+use Rattle.mk_edit_language.specs.Edits.{One, Every, PrereqChange, AddPrereq, RemovePrereq, Edit, ChangeValue, ChangeLine, ChangePrereqs, SetRecipe, RemoveLines, RenameTarget}
 use Rattle.mk_edit_language.specs.Addresses.{Variable, Rule, found}
 use Rattle.mk_edit_language.specs.Stretches.{Stretch, insertion, removed, recipe_found}
 use Rattle.mk_edit_language.specs.NewLines.{new_line_span}
 use Rattle.mk_edit_language.specs.ValueChanges.{value_spans, change_spans, changed_line_spans}
+use Rattle.mk_edit_language.specs.LineChanges.{line_change_spans}
 use Rattle.mk_edit_language.specs.WordPieces.{add_pieces, remove_pieces, renamed_pieces}
 
 -- the span of whole lines with their line ends
@@ -68,6 +69,8 @@ abbrev pub spans_of : (text : List ℕ) → List ClassedLine → Edit → List R
 spans_of t ls (ChangeValue (One nth) n c) =
     where_found (value_spans (change_spans c)) (found ls (Variable nth n))
 spans_of t ls (ChangeValue Every n c) = spans_in_lines (changed_line_spans n c) 0 ls
+spans_of t ls (ChangeLine nth n c) =
+    where_found (value_spans (line_change_spans c)) (found ls (Variable nth n))
 spans_of t ls (ChangePrereqs nth g c) =
     where_found (word_spans (prereq_pieces c)) (found ls (Rule nth g))
 spans_of t ls (SetRecipe nth g w c) = where_found (recipe_span c) (recipe_found ls nth g w)

@@ -34,6 +34,14 @@ edit_of (edit.RemoveWord nth name word) =
     edits.ChangeValue (edits.One nth) name.items (edits.Remove word.items)
 edit_of (edit.ChangeValues name c) =
     edits.ChangeValue edits.Every name.items (value_change_of c)
+edit_of (edit.PrependValue nth name value) =
+    edits.ChangeLine nth name.items (edits.Prepend value.items)
+edit_of (edit.ReplaceWord nth name word value) =
+    edits.ChangeLine nth name.items (edits.ReplaceWord word.items value.items)
+edit_of (edit.SubstituteValue nth name from to) =
+    edits.ChangeLine nth name.items (edits.Substitute from.items to.items)
+edit_of (edit.SetOperator nth name operator) =
+    edits.ChangeLine nth name.items (edits.SetOperator operator)
 edit_of (edit.AddAssign p name flavor value) =
     edits.AddLine (place_of p) (edits.NewAssign name.items flavor value.items)
 edit_of (edit.RemoveAssign nth name) = edits.RemoveLines (edits.OfAssign nth name.items)

@@ -32,6 +32,15 @@ pub data ValueChange : Type 0 where
   Add : (word : List ℕ) → ValueChange
   Remove : (word : List ℕ) → ValueChange
 
+-- What an edit that is checked by reading does to the line of an assignment: it puts a text before
+-- the value, puts a text in the place of each word of the value that is this one, puts a text in the
+-- place of each occurrence of another in the value, or gives the line another operator.
+pub data LineChange : Type 0 where
+  Prepend : (value : List ℕ) → LineChange
+  ReplaceWord : (word value : List ℕ) → LineChange
+  Substitute : (from to : List ℕ) → LineChange
+  SetOperator : (flavor : Flavor) → LineChange
+
 -- What an edit does to the prerequisites of a rule: it puts a word after the order-only or the normal
 -- ones, or takes a word out of both.
 pub data PrereqChange : Type 0 where
@@ -58,6 +67,7 @@ pub data Removal : Type 0 where
 -- An edit. `nth` is the number of the line, from 1, among the lines of the same name or target.
 pub data Edit : Type 0 where
   ChangeValue : (which : Which) → (name : List ℕ) → (change : ValueChange) → Edit
+  ChangeLine : (nth : Option ℕ) → (name : List ℕ) → (change : LineChange) → Edit
   ChangePrereqs : (nth : Option ℕ) → (target : List ℕ) → (change : PrereqChange) → Edit
   AddLine : (place : Place) → (line : NewLine) → Edit
   AddRecipe : (nth : Option ℕ) → (target : List ℕ) → (place : RecipePlace) → (line : List ℕ) → Edit

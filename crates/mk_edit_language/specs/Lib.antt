@@ -12,6 +12,7 @@ pub mod NewLines
 pub mod Lengths
 pub mod WordPieces
 pub mod ValueChanges
+pub mod LineChanges
 pub mod EditSpans
 pub mod RisingSpans
 -- Causes of refusal, each by itself

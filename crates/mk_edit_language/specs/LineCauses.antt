@@ -1,5 +1,5 @@
 -- The causes that the lines around a change decide, or the size of the result: OpenValue, OpenLine,
--- OpenDefine, Leans and TooLong.
+-- OpenDefine, Leans and TooLong; and Misread, which the new line decides.
 -- Told in docs/EDITS.md, "Refusals".
 use Rattle.std.specs.Prelude.{ℕ, Bool, false, not, ◌&&◌, ◌||◌, nat_lt, List, [], ◌∷◌, ◌++◌, length, Option, Some, None}
 use Rattle.std.specs.List.{list_any}
@@ -19,16 +19,18 @@ use Rattle.mk_class.specs.Classes.{Class}
 use Rattle.mk_class.specs.ClassedLines.{ClassedLine}
 use Rattle.mk_class.specs.declared.context.RuleFlag.{RuleFlag}
 use Rattle.mk_class.specs.declared.context.RuleFlag.TheVariants.{Off, Rule}
-use Rattle.mk_edit_language.specs.Edits.{Place, Bottom, NewAssign, Which, One, Every, ValueChange, Set, Append, Add, Remove, Edit, ChangeValue, AddLine}
-use Rattle.mk_edit_language.specs.Addresses.{Variable}
+use Rattle.mk_edit_language.specs.Edits.{Place, Bottom, NewAssign, Which, One, Every, ValueChange, Set, Append, Add, Remove, LineChange, Edit, ChangeValue, ChangeLine, AddLine}
+use Rattle.mk_edit_language.specs.Addresses.{Variable, found}
 use Rattle.mk_edit_language.specs.Stretches.{Stretch, insertion, removal}
 use Rattle.mk_tree.specs.Documents.{context_of}
 use Rattle.mk_tree.specs.Leaning.{leans}
+use Rattle.mk_tree.specs.LineTexts.{StandingLine}
 use Rattle.mk_edit_language.specs.ValueChanges.{assignment_passes, is_changed}
+use Rattle.mk_edit_language.specs.LineChanges.{is_misread}
 use Rattle.mk_edit_language.specs.RuleCauses.{class_meant}
 use Rattle.mk_edit_language.specs.Causes.{where_holds}
 use Rattle.mk_edit_language.specs.declared.refusal.Refusal.{Refusal}
-use Rattle.mk_edit_language.specs.declared.refusal.Refusal.TheVariants.{OpenValue, OpenLine, OpenDefine, Leans, TooLong}
+use Rattle.mk_edit_language.specs.declared.refusal.Refusal.TheVariants.{OpenValue, OpenLine, OpenDefine, Leans, TooLong, Misread}
 
 -- ---- OpenValue: the value is not closed; a new word would be read together with its end; or what
 -- ---- follows a word that goes would be read together with the word before it
@@ -117,3 +119,15 @@ leaning ls e = where_holds (new_line_leans e (insertion ls e) || removal_leans (
 
 abbrev pub too_long : (text : List ℕ) → List Replacement → Option Refusal
 too_long t rs = where_holds (nat_lt max_text (length (replaced 0 t rs))) TooLong
+
+-- ---- Misread: the line that the edit would write does not read as the edit says
+
+-- whether the line that is found would be misread after a change
+abbrev pub is_found_misread : LineChange → Option StandingLine → Bool
+is_found_misread c None = false
+is_found_misread c (Some s) = is_misread c (context_of s.above) s.line.bytes s.line.class
+
+abbrev pub misread : List ClassedLine → Edit → Option Refusal
+misread ls (ChangeLine nth n c) =
+    where_holds (is_found_misread c (found ls (Variable nth n))) Misread
+misread ls e = None

@@ -1,7 +1,7 @@
 -- An edit of the line that has a number, in place of the only one.
 -- Told in docs/LIBRARY.md, "Making edits".
 use Rattle.std.specs.Prelude.{ℕ, Some}
-use Rattle.mk_edit_language.specs.Edits.{Place, Bottom, BeforeVar, AfterVar, BeforeRule, One, Every, Removal, OfAssign, OfRule, OfRecipe, Edit, ChangeValue, ChangePrereqs, AddLine, AddRecipe, SetRecipe, RemoveLines, RenameTarget}
+use Rattle.mk_edit_language.specs.Edits.{Place, Bottom, BeforeVar, AfterVar, BeforeRule, One, Every, Removal, OfAssign, OfRule, OfRecipe, Edit, ChangeValue, ChangeLine, ChangePrereqs, AddLine, AddRecipe, SetRecipe, RemoveLines, RenameTarget}
 
 -- a place with this number; the end of the text has none
 abbrev pub numbered_place : (number : ℕ) → Place → Place
@@ -21,6 +21,7 @@ numbered_removal k (OfRecipe nth target which) = OfRecipe (Some k) target which
 abbrev pub numbered : (number : ℕ) → Edit → Edit
 numbered k (ChangeValue (One nth) n c) = ChangeValue (One (Some k)) n c
 numbered k (ChangeValue Every n c) = ChangeValue Every n c
+numbered k (ChangeLine nth n c) = ChangeLine (Some k) n c
 numbered k (ChangePrereqs nth g c) = ChangePrereqs (Some k) g c
 numbered k (AddLine p l) = AddLine (numbered_place k p) l
 numbered k (AddRecipe nth g p l) = AddRecipe (Some k) g p l

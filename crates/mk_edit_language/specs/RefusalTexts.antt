@@ -4,7 +4,7 @@ use Rattle.std.specs.Prelude.{ℕ, List, codes}
 use Rattle.mk_edit_language.specs.declared.refusal.Field.{Field}
 use Rattle.mk_edit_language.specs.declared.refusal.Field.TheVariants as field
 use Rattle.mk_edit_language.specs.declared.refusal.Refusal.{Refusal}
-use Rattle.mk_edit_language.specs.declared.refusal.Refusal.TheVariants.{BadArgument, Reserved, RecipePrefix, NoSuch, Ambiguous, Absent, Already, Taken, SharedRule, Straddles, OpenValue, OpenLine, OpenDefine, Leans, TooLong, NothingToUndo, NothingToRedo, GroupOpen, NoGroup, NoMemory}
+use Rattle.mk_edit_language.specs.declared.refusal.Refusal.TheVariants.{BadArgument, Reserved, RecipePrefix, NoSuch, Ambiguous, Absent, Already, Taken, SharedRule, Straddles, OpenValue, OpenLine, OpenDefine, Leans, TooLong, NothingToUndo, NothingToRedo, GroupOpen, NoGroup, NoMemory, Misread}
 use Rattle.mk_edit_language.specs.declared.refusal.Detail.{Detail}
 use Rattle.mk_edit_language.specs.declared.refusal.Detail.TheVariants as detail
 
@@ -30,6 +30,7 @@ number_of NothingToRedo = 17
 number_of GroupOpen = 18
 number_of NoGroup = 19
 number_of NoMemory = 20
+number_of Misread = 21
 
 -- the name of a refusal
 abbrev pub name_of : Refusal → List ℕ
@@ -53,6 +54,7 @@ name_of NothingToRedo = codes "NothingToRedo"
 name_of GroupOpen = codes "GroupOpen"
 name_of NoGroup = codes "NoGroup"
 name_of NoMemory = codes "NoMemory"
+name_of Misread = codes "Misread"
 
 -- the count or the field that a refusal has, or Nothing
 abbrev pub detail_of : Refusal → Detail
@@ -73,3 +75,5 @@ field_name field.Word = codes "word"
 field_name field.Line = codes "line"
 field_name field.Old = codes "old"
 field_name field.New = codes "new"
+field_name field.From = codes "from"
+field_name field.To = codes "to"

@@ -8,7 +8,7 @@ use Rattle.mk_edit_language.specs.EditSpans.{spans_of}
 use Rattle.mk_edit_language.specs.ArgumentCauses.{bad_argument, reserved}
 use Rattle.mk_edit_language.specs.AddressCauses.{unread_prefix, no_such, ambiguous, prefix_led}
 use Rattle.mk_edit_language.specs.RuleCauses.{absent, already, taken, shared_rule, straddles}
-use Rattle.mk_edit_language.specs.LineCauses.{open_value, open_line, open_define, leaning, too_long}
+use Rattle.mk_edit_language.specs.LineCauses.{open_value, open_line, open_define, leaning, too_long, misread}
 use Rattle.mk_edit_language.specs.declared.refusal.Refusal.{Refusal}
 
 -- The causes in their order. The cause that a written line would begin with the recipe prefix is
@@ -31,6 +31,7 @@ causes t ls e =
     ∷ open_define ls e
     ∷ leaning ls e
     ∷ too_long t (spans_of t ls e)
+    ∷ misread ls e
     ∷ []
 
 -- the first cause that holds

@@ -11,10 +11,11 @@ use Rattle.mk_class.specs.Classes.Class.{Header}
 use Rattle.mk_class.specs.ClassedLines.{ClassedLine}
 use Rattle.mk_tree.specs.RecipeLines.{recipe_run}
 use Rattle.mk_tree.specs.LineTexts.{StandingLine}
-use Rattle.mk_edit_language.specs.Edits.{Which, One, Every, ValueChange, Add, Remove, PrereqChange, AddPrereq, RemovePrereq, RecipeLine, ByNumber, ByText, At, OfRule, OfRecipe, Edit, ChangeValue, ChangePrereqs, AddRecipe, SetRecipe, RemoveLines, RenameTarget}
+use Rattle.mk_edit_language.specs.Edits.{Which, One, Every, ValueChange, Add, Remove, PrereqChange, AddPrereq, RemovePrereq, RecipeLine, ByNumber, ByText, At, OfRule, OfRecipe, Edit, ChangeValue, ChangeLine, ChangePrereqs, AddRecipe, SetRecipe, RemoveLines, RenameTarget}
 use Rattle.mk_edit_language.specs.Addresses.{Address, Variable, Rule, found, targets_of, is_a_target}
 use Rattle.mk_edit_language.specs.Stretches.{has_text, recipe_found, recipes_found, recipe_place}
-use Rattle.mk_edit_language.specs.ValueChanges.{has_effect, is_changed}
+use Rattle.mk_edit_language.specs.ValueChanges.{assignment_passes, has_effect, is_changed}
+use Rattle.mk_edit_language.specs.LineChanges.{is_line_changed}
 use Rattle.mk_edit_language.specs.Causes.{where_holds}
 use Rattle.mk_edit_language.specs.declared.refusal.Refusal.{Refusal}
 use Rattle.mk_edit_language.specs.declared.refusal.Refusal.TheVariants.{Ambiguous, Absent, Already, Taken, SharedRule, Straddles}
@@ -34,7 +35,7 @@ header_passes p (Some (Header h)) = p h
 header_passes p k = false
 
 -- ---- Absent: the word is no word of the value, or of any value of the name, or no prerequisite;
--- ---- there is no recipe line of this number or of this text, or no place of this number for a new
+-- ---- the text does not occur in the value; there is no recipe line of this number or of this text, or no place of this number for a new
 -- ---- one
 
 -- whether the change does something to a value of the name that is meant
@@ -77,6 +78,8 @@ no_recipe ls nth t (ByText o) = not_one (recipes_of_text ls nth t o)
 abbrev pub absent : List ClassedLine → Edit → Option Refusal
 absent ls (ChangeValue w n (Remove x)) =
     where_holds (not (is_any_changed ls w n (Remove x))) Absent
+absent ls (ChangeLine nth n c) =
+    where_holds (not (assignment_passes (is_line_changed c) (class_meant ls (Variable nth n)))) Absent
 absent ls (ChangePrereqs nth t (RemovePrereq w)) =
     where_holds (not (header_passes (has_prereq (RemovePrereq w)) (class_meant ls (Rule nth t))))
     Absent

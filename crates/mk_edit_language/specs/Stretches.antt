@@ -7,7 +7,7 @@ use Rattle.mk_class.specs.Classes.{is_recipe}
 use Rattle.mk_class.specs.ClassedLines.{ClassedLine}
 use Rattle.mk_tree.specs.RecipeLines.{recipe_run, after_recipe, recipe_lines}
 use Rattle.mk_tree.specs.LineTexts.{StandingLine}
-use Rattle.mk_edit_language.specs.Edits.{Place, Bottom, BeforeVar, AfterVar, BeforeRule, One, Every, RecipeLine, ByNumber, ByText, RecipePlace, Last, At, Removal, OfAssign, OfRule, OfRecipe, Edit, ChangeValue, ChangePrereqs, AddLine, AddRecipe, SetRecipe, RemoveLines, RenameTarget}
+use Rattle.mk_edit_language.specs.Edits.{Place, Bottom, BeforeVar, AfterVar, BeforeRule, One, Every, RecipeLine, ByNumber, ByText, RecipePlace, Last, At, Removal, OfAssign, OfRule, OfRecipe, Edit, ChangeValue, ChangeLine, ChangePrereqs, AddLine, AddRecipe, SetRecipe, RemoveLines, RenameTarget}
 use Rattle.mk_edit_language.specs.Spots.{spots, nth_of}
 use Rattle.mk_edit_language.specs.Addresses.{Variable, Rule, found}
 
@@ -129,6 +129,7 @@ between s = record { above = s.above; lines = []; below = s.below }
 abbrev pub touched_by : List ClassedLine → Edit → Option Stretch
 touched_by ls (ChangeValue (One nth) n c) = option_map this_line (found ls (Variable nth n))
 touched_by ls (ChangeValue Every n c) = None
+touched_by ls (ChangeLine nth n c) = option_map this_line (found ls (Variable nth n))
 touched_by ls (ChangePrereqs nth t c) = option_map this_line (found ls (Rule nth t))
 touched_by ls (SetRecipe nth t w c) = option_map this_line (recipe_found ls nth t w)
 touched_by ls (RemoveLines r) = removed ls r

@@ -121,6 +121,51 @@ pub enum Edit<A: Allocator = Global> {
         /// What is done to each value.
         change: ValueChange<A>,
     },
+    /// Puts a text before a variable's value, with a space between them if the value is not empty.
+    /// Refused as `Misread` where the line would not be read so.
+    PrependValue {
+        /// Which of the assignments of this name, from 1.
+        nth: Option<u32>,
+        /// The name of the variable.
+        name: Vec<u8, A>,
+        /// The text, which is not empty.
+        value: Vec<u8, A>,
+    },
+    /// Puts a text in the place of a word of a variable's value, wherever it stands there. Refused
+    /// as `Misread` where the line would not be read so.
+    ReplaceWord {
+        /// Which of the assignments of this name, from 1.
+        nth: Option<u32>,
+        /// The name of the variable.
+        name: Vec<u8, A>,
+        /// The word.
+        word: Vec<u8, A>,
+        /// The text in its place, which is not empty.
+        value: Vec<u8, A>,
+    },
+    /// Puts a text in the place of each occurrence of another in a variable's value. Occurrences
+    /// are taken from the left, none overlapping the one before. A fold counts as the space that it
+    /// is read as. Refused as `Misread` where the line would not be read so.
+    SubstituteValue {
+        /// Which of the assignments of this name, from 1.
+        nth: Option<u32>,
+        /// The name of the variable.
+        name: Vec<u8, A>,
+        /// The text to look for, which is not empty.
+        from: Vec<u8, A>,
+        /// The text in its place, which may be empty.
+        to: Vec<u8, A>,
+    },
+    /// Gives an assignment another operator. Refused as `Misread` where the line would not be read
+    /// so.
+    SetOperator {
+        /// Which of the assignments of this name, from 1.
+        nth: Option<u32>,
+        /// The name of the variable.
+        name: Vec<u8, A>,
+        /// The new operator.
+        operator: Flavor,
+    },
     /// Puts in the line of an assignment.
     AddAssign {
         /// Where the line goes.

@@ -13,6 +13,8 @@ pub mod outside;
 /// | a text appended | the assignment has the old value, a space and the text; no space where the old value is empty or its last byte is a fold |
 /// | a word taken out | the assignment has the old value without each such word and the blanks before it, or after it where no word stays before; where no word stays at all, what a value set to nothing gives |
 /// | every value of a name changed | each assignment of the name has what the edit of its value alone gives; where a word is added, those that have it stay as they are, and where one is taken out, those that do not |
+/// | a text put before a value, a word or a text replaced in it | the assignment has the value so made; after a text is replaced, without the blanks at its ends |
+/// | an operator changed | the assignment has this operator |
 /// | a new assignment, a new rule, a new recipe line | its item comes in at its place |
 /// | an assignment or a recipe line removed | its item goes |
 /// | a rule removed | the items of its header and of its recipe lines go |

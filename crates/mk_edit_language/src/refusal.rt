@@ -19,7 +19,7 @@ pub enum Field {
     Prereqs,
     /// The target of a rule.
     Target,
-    /// A prerequisite.
+    /// A word of a value, or a prerequisite.
     Word,
     /// The command of a recipe line.
     Line,
@@ -27,6 +27,10 @@ pub enum Field {
     Old,
     /// The new name of that target.
     New,
+    /// The text that is looked for in a value.
+    From,
+    /// The text in its place.
+    To,
 }
 
 impl Field {
@@ -45,6 +49,8 @@ impl Field {
             Field::Line => "line",
             Field::Old => "old",
             Field::New => "new",
+            Field::From => "from",
+            Field::To => "to",
         }
     }
 }
@@ -52,10 +58,11 @@ impl Field {
 /// Why a call was refused: an edit, an undo or a redo, or the begin or end of a group. A refused
 /// call changes nothing.
 ///
-/// The first fifteen are the causes of an edit. They are tested in the order of their numbers, with
-/// one exception: that a line which is written would begin with the recipe prefix is tested after
-/// `Ambiguous`, since that test needs the line's place. The first cause that holds is answered.
-/// Memory is asked for after all of them, so `NoMemory` hides none of them.
+/// The first fifteen and `Misread` are the causes of an edit. They are tested in the order of their
+/// numbers, with one exception: that a line which is written would begin with the recipe prefix is
+/// tested after `Ambiguous`, since that test needs the line's place. The first cause that holds is
+/// answered. Memory is asked for after all of them but `Misread`, which needs the new line, so
+/// `NoMemory` hides no other.
 ///
 /// A refusal is shown by its name. The numbers and names are this project's profile.
 #[derive(Clone, Copy, Debug, PartialEq, Eq, Error)]
@@ -73,7 +80,8 @@ pub enum Refusal {
     NoSuch,
     /// The edit gives no number, and this many lines fit its address, more than one.
     Ambiguous(u64),
-    /// The rule does not have that prerequisite, or has no recipe line of that number.
+    /// The value does not have that word or that text; the rule does not have that prerequisite, or
+    /// has no such recipe line.
     Absent,
     /// The rule already has that prerequisite, in the same list.
     Already,
@@ -104,6 +112,8 @@ pub enum Refusal {
     NoGroup,
     /// A growth was refused: the allocator had no memory for it.
     NoMemory,
+    /// A line that the edit would write does not read as the edit says.
+    Misread,
 }
 
 /// What a refusal says in addition to its name.
@@ -118,7 +128,7 @@ pub enum Detail {
 }
 
 impl Refusal {
-    /// The number of the refusal, from 1 to 20. Takes no memory.
+    /// The number of the refusal, from 1 to 21. Takes no memory.
     pub fn number(&self) -> u8
         ensures { result ≡ number_of self.now }
     {
@@ -143,6 +153,7 @@ impl Refusal {
             Refusal::GroupOpen => 18,
             Refusal::NoGroup => 19,
             Refusal::NoMemory => 20,
+            Refusal::Misread => 21,
         }
     }
 
@@ -171,6 +182,7 @@ impl Refusal {
             Refusal::GroupOpen => "GroupOpen",
             Refusal::NoGroup => "NoGroup",
             Refusal::NoMemory => "NoMemory",
+            Refusal::Misread => "Misread",
         }
     }
 

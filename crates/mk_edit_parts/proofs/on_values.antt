@@ -4,3 +4,4 @@ pub mod ValueCells
 pub mod BaredEnds
 pub mod StayingWords
 pub mod ValueBytes
+pub mod PlacesNoted

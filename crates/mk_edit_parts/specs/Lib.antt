@@ -13,6 +13,7 @@ pub mod RecipeWalks
 -- The words of a value
 pub mod SeenAssignments
 pub mod ValuePieces
+pub mod LineChangePlaces
 -- The words of a rule's line
 pub mod SeenHeaders
 pub mod WordCuts

@@ -1,7 +1,7 @@
 //! The causes of refusal that the fields of an edit decide by themselves.
 ghost use Rattle.std.specs.Prelude.{◌≡◌, ◌||◌, ◌&&◌, ◌∷◌, [], not};
 ghost use Rattle.std.specs.List.{list_any};
-ghost use Rattle.mk_class.specs.Arguments.{is_command, is_name, is_target, is_value, is_word};
+ghost use Rattle.mk_class.specs.Arguments.{is_barred_byte, is_clean, is_command, is_name, is_target, is_value, is_word};
 ghost use Rattle.mk_class.specs.Keywords.{is_reserved_word};
 ghost use Rattle.mk_class.specs.ListTests.{is_empty};
 ghost use Rattle.mk_class.specs.RecipePrefix.{is_prefix_name};
@@ -36,6 +36,27 @@ pub fn bad_field<A: Allocator>(edit: &Edit<A>) -> Option<Field>
             bad_name_or(name, Field::Word, is_value_word(word))
         }
         Edit::ChangeValues { name, change } => bad_change(name, change),
+        Edit::PrependValue { name, value, .. } => bad_name_or(name, Field::Value, is_tail(value)),
+        Edit::ReplaceWord {
+            name,
+            word,
+            value,
+            ..
+        } => bad_name_or_two(
+            name,
+            Field::Word,
+            is_value_word(word),
+            Field::Value,
+            is_tail(value),
+        ),
+        Edit::SubstituteValue { name, from, to, .. } => bad_name_or_two(
+            name,
+            Field::From,
+            is_clean(from) && !from.is_empty(),
+            Field::To,
+            is_clean(to),
+        ),
+        Edit::SetOperator { name, .. } => failed(Field::Name, is_name(name)),
         Edit::RemoveAssign { name, .. } => failed(Field::Name, is_name(name)),
         Edit::AddRule {
             targets,
@@ -125,6 +146,46 @@ fn bad_name_or(name: &[u8], other: Field, passes: bool) -> Option<Field>
         ≡ first_failed (Tested field.Name (is_name name.now) ∷ Tested other passes ∷ []) }
 {
     first_failed(Field::Name, is_name(name), other, passes)
+}
+
+// The name of a variable if it fails its test, or else the first of two other fields that does.
+fn bad_name_or_two(
+    name: &[u8],
+    one: Field,
+    one_passes: bool,
+    other: Field,
+    other_passes: bool,
+) -> Option<Field>
+    ensures { field_refusal result
+        ≡ first_failed (Tested field.Name (is_name name.now) ∷ Tested one one_passes
+        ∷ Tested other other_passes ∷ []) }
+{
+    if is_name(name) {
+        first_failed(one, one_passes, other, other_passes)
+    } else {
+        Some(Field::Name)
+    }
+}
+
+// Whether a text has no line feed, carriage return or NUL.
+fn is_clean(text: &[u8]) -> bool
+    ensures { result ≡ is_clean text.now }
+{
+    !has_barred_byte(text)
+}
+
+// Whether a text has a line feed, a carriage return or a NUL.
+fn has_barred_byte(text: &[u8]) -> bool
+    ensures { result ≡ list_any is_barred_byte text.now }
+{
+    text.iter().any(|byte| is_barred_byte(*byte))
+}
+
+// Whether a byte is a line feed, a carriage return or a NUL.
+fn is_barred_byte(byte: u8) -> bool
+    ensures { result ≡ is_barred_byte byte }
+{
+    matches!(byte, b'\n' | b'\r' | 0)
 }
 
 // The first field that fails its test, of the name of a variable and the text of a change of its

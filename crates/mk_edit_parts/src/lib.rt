@@ -27,6 +27,8 @@
 //! - [`glance`]: whether a word may be one of a text's words, and from where on.
 //! - [`tally`]: the count of these words.
 //! - [`renamed_line`]: the bytes of a line after a rename.
+//! - [`line_change`]: the places of an assignment's line that a change replaces, if the change is
+//!   checked by reading.
 #![tactic(auto)]
 
 pub mod address;
@@ -35,6 +37,7 @@ pub mod candidates;
 pub mod find;
 pub mod glance;
 pub mod lean;
+pub mod line_change;
 pub mod line_end;
 pub mod line_test;
 pub mod new_line;

@@ -42,7 +42,7 @@ pub fn renamed_bytes<A: Allocator + Copy>(
         bytes.items ≡ renamed_text from.now to.now (line_view line.now)) }
 {
     if let (1, Some(word)) = (tally.words, tally.first) {
-        return with_word(alloc, line.bytes(), word, to, room);
+        return rewritten(alloc, line.bytes(), &[word], to, room);
     }
     let parts = parts_of(line, class);
     let mut bytes = Vec::with_capacity(alloc, room)?;
@@ -53,22 +53,32 @@ pub fn renamed_bytes<A: Allocator + Copy>(
     Ok(bytes)
 }
 
-// The bytes of a line with a new word in the place of one of its words.
-fn with_word<A: Allocator>(
+/// A text with a new text in the place of each of some ranges of it, which stand in order and apart.
+/// `room` is the memory that is taken at first.
+///
+/// # Errors
+///
+/// [`AllocError`] if there is no memory for it.
+pub fn rewritten<A: Allocator>(
     alloc: A,
-    line: &[u8],
-    word: Span,
-    to: &[u8],
+    text: &[u8],
+    ranges: &[Span],
+    new: &[u8],
     room: usize,
 ) -> Result<Vec<u8, A>, AllocError>
-    requires rises { word.start ≤ word.end }
-    requires within { word.end ≤ length line.now }
-    ensures { IfOk result (λ bytes. bytes.items ≡ rewritten line.now to.now (word ∷ [])) }
+    requires { AreApart 0 (length text.now) ranges.now }
+    ensures { IfOk result (λ all. all.items ≡ rewritten text.now new.now ranges.now) }
 {
-    let mut bytes = Vec::with_capacity(alloc, room)?;
-    write_word(&mut bytes, line, 0, word, to)?;
-    bytes.extend_from_slice(rest(line, word.end))?;
-    Ok(bytes)
+    let mut all = Vec::with_capacity(alloc, room)?;
+    let mut done = 0;
+    let mut left = ranges;
+    'left: while let [range, after @ ..] = left {
+        write_word(&mut all, text, done, *range, new)?;
+        done = range.end;
+        left = after;
+    }
+    all.extend_from_slice(rest(text, done))?;
+    Ok(all)
 }
 
 // Writes a line from an offset up to the end of the last word of a part that is replaced, and

@@ -61,7 +61,7 @@ refused-as_set t nth n v r i h =
     let all : first_cause (causes t ls e) ≡ Some r = five-first (bad_argument e) (reserved e) (unread_prefix ls) (no_such ls e) (ambiguous ls e) _ r same in
     ap (λ z. unless_refused z (spans_of t ls e)) all
 
-only-long : (o : Option Refusal) → first_cause (o ∷ []) ≡ o
+only-long : (o : Option Refusal) → first_cause (o ∷ None ∷ []) ≡ o
 only-long None = refl
 only-long (Some r) = refl
 

@@ -33,11 +33,14 @@ pub(crate) fn number_in(address: Address<'_>) -> Option<u32> {
     }
 }
 
-/// The word that an edit adds to lines, or takes out of them, or the new name of a target.
+/// The word that an edit adds to lines, or takes out of them, the text that it replaces in a value, or the new
+/// name of a target.
 pub(crate) fn word_of<A: Allocator>(edit: &Edit<A>) -> Option<&[u8]> {
     match edit {
         Edit::AddWord { word, .. }
         | Edit::RemoveWord { word, .. }
+        | Edit::ReplaceWord { word, .. }
+        | Edit::SubstituteValue { from: word, .. }
         | Edit::AddPrereq { word, .. }
         | Edit::RemovePrereq { word, .. }
         | Edit::RenameTarget { to: word, .. }

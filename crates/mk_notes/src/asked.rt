@@ -37,8 +37,8 @@ impl<'a, A: Allocator, B: Allocator + Copy> Notes<'a, A, B> {
         self.fields(&[word.as_bytes(), about, new])
     }
 
-    // Puts the name or the target of the lines that an edit means, and the word or the number of a recipe
-    // line that it is about.
+    // Puts the name or the target of the lines that an edit means, and the word, the text or the number of a
+    // recipe line that it is about.
     fn asked_of_line<C: Allocator>(&mut self, edit: &Edit<C>) -> Result<(), AllocError> {
         if let Some(address) = meant_by(edit) {
             self.fields(&[name_in(address)])?;
@@ -71,6 +71,10 @@ fn command_word<A: Allocator>(edit: &Edit<A>) -> &'static str {
         Edit::AppendValue { .. } => "append",
         Edit::AddWord { .. } => "add",
         Edit::RemoveWord { .. } => "drop",
+        Edit::PrependValue { .. } => "prepend",
+        Edit::ReplaceWord { .. } => "replace",
+        Edit::SubstituteValue { .. } => "subst",
+        Edit::SetOperator { .. } => "operator",
         Edit::ChangeValues { change, .. } => match change {
             ValueChange::Set(_) => "all set",
             ValueChange::Append(_) => "all append",

@@ -43,6 +43,8 @@ fn text_of_field<A: Allocator>(edit: &Edit<A>, field: Field) -> Tested<'_> {
             Field::Value,
             Edit::SetValue { value, .. }
             | Edit::AppendValue { value, .. }
+            | Edit::PrependValue { value, .. }
+            | Edit::ReplaceWord { value, .. }
             | Edit::AddAssign { value, .. }
             | Edit::ChangeValues {
                 change: ValueChange::Set(value) | ValueChange::Append(value),
@@ -53,11 +55,18 @@ fn text_of_field<A: Allocator>(edit: &Edit<A>, field: Field) -> Tested<'_> {
             Field::Word,
             Edit::AddWord { word, .. }
             | Edit::RemoveWord { word, .. }
+            | Edit::ReplaceWord { word, .. }
             | Edit::ChangeValues {
                 change: ValueChange::Add(word) | ValueChange::Remove(word),
                 ..
             },
         ) => Tested::new("the word", word, Test::ValueWord),
+        (Field::From, Edit::SubstituteValue { from, .. }) => {
+            Tested::new("the text to replace", from, Test::Text)
+        }
+        (Field::To, Edit::SubstituteValue { to, .. }) => {
+            Tested::new("the new text", to, Test::Text)
+        }
         (Field::Name, Edit::AddAssign { name, .. } | Edit::ChangeValues { name, .. }) => {
             Tested::new("the name", name, Test::Name)
         }

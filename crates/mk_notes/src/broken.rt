@@ -19,6 +19,8 @@ pub(crate) enum Test {
     Word,
     /// The text of a recipe line.
     Line,
+    /// A piece of a value.
+    Text,
 }
 
 /// The rule that a text breaks that is not what it has to be.
@@ -29,7 +31,7 @@ pub(crate) fn broken(text: &[u8], test: Test) -> &'static str {
     let barred = barred_byte(text);
     match test {
         Test::Name => "has other characters than ASCII letters, digits, `_`, `.` and `-`",
-        Test::Line => barred.unwrap_or(ENDS_IN_BACKSLASH),
+        Test::Line | Test::Text => barred.unwrap_or(ENDS_IN_BACKSLASH),
         Test::Value | Test::ValueWord | Test::Word => barred
             .or(outer_blank(text))
             .or(open_end(text))
@@ -74,8 +76,8 @@ pub(crate) fn open_end(text: &[u8]) -> Option<&'static str> {
     }
 }
 
-// The unit of a text that may not stand in what it has to be, if it has one.
-fn barred_unit(text: &[u8], test: Test) -> Option<&'static str> {
+/// The unit of a text that may not stand in what it has to be, if it has one.
+pub(crate) fn barred_unit(text: &[u8], test: Test) -> Option<&'static str> {
     for at in units(text) {
         let unit = text.get(at.start..at.end).unwrap_or_default();
         let said = said_of_unit(unit, test);

@@ -41,7 +41,8 @@ impl<'a, A: Allocator, B: Allocator + Copy> Notes<'a, A, B> {
     ) -> Result<(), AllocError> {
         let said = match edit {
             Edit::AddWord { .. } => "@ has the word @ already",
-            Edit::RemoveWord { .. } => "@ has no word @",
+            Edit::RemoveWord { .. } | Edit::ReplaceWord { .. } => "@ has no word @",
+            Edit::SubstituteValue { .. } => "the value of @ does not have the text `@`",
             Edit::ChangeValues {
                 change: ValueChange::Add(_),
                 ..

@@ -16,8 +16,8 @@
 //! - `address`: the lines that an edit means.
 //! - `asked`: what an edit asks for.
 //! - `broken`: which rule a text breaks.
-//! - `bad_field`, `open_value`, `idle`: the sentences on a field that may not stand there, on a value that is
-//!   open, and on an edit that finds nothing to do.
+//! - `bad_field`, `open_value`, `idle`, `misread`: the sentences on a field that may not stand there, on a
+//!   value that is open, on an edit that finds nothing to do, and on a line that would not read as its edit says.
 //! - `sentence`: the sentence of each refusal of an edit.
 //! - `error`: the line on a refusal.
 //! - `tally`: which words of a makefile may stand in several lines.
@@ -39,6 +39,7 @@ mod error;
 mod idle;
 mod line;
 mod made;
+mod misread;
 mod new_rule;
 mod open_value;
 mod part;

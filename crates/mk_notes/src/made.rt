@@ -27,8 +27,8 @@ impl<B: Allocator + Copy> RunNotes<'_, B> {
     /// | Edit | Notes |
     /// |---|---|
     /// | each but `RemoveAssign`, `RemoveRule`, `ChangeValues` and `RenameTarget` | where the changed line is in a conditional: that make may skip it, and the line |
-    /// | `SetValue`, `AppendValue`, `AddWord`, `RemoveWord` | where the operator is `?=`: that make takes the value only where the variable has none, and the line |
-    /// | the same, and `AddAssign` | where the variable is assigned again below, and not in another branch of the same conditional: that it is, and the lines that assign it |
+    /// | `SetValue`, `AppendValue`, `AddWord`, `RemoveWord`, `PrependValue`, `ReplaceWord`, `SubstituteValue` | where the operator is `?=`: that make takes the value only where the variable has none, and the line |
+    /// | the same, `SetOperator` and `AddAssign` | where the variable is assigned again below, and not in another branch of the same conditional: that it is, and the lines that assign it |
     /// | the same | where it is assigned in another branch of the same conditional: that it is, and the lines that assign it |
     /// | the same, and anywhere in the makefile `RemoveAssign` and `ChangeValues` | where lines below seem to assign it that are not read: that they do, and these lines |
     /// | `AddRule` | for each of its first ten targets that has a rule with colons of the other kind: that make stops if it reads both, and the lines of these rules |
@@ -76,7 +76,8 @@ impl<'a, A: Allocator, B: Allocator + Copy> Notes<'a, A, B> {
         }
         let changed = changed_line(self.doc, edit);
         if let Some(at) = changed {
-            self.on_line(at, matches!(edit, Edit::AddAssign { .. }))?;
+            let says_operator = matches!(edit, Edit::AddAssign { .. } | Edit::SetOperator { .. });
+            self.on_line(at, says_operator)?;
         }
         match (edit, changed) {
             (Edit::AddRule { targets, .. }, _) => self.new_rule(tally, edit, targets, changed),
@@ -95,10 +96,11 @@ impl<'a, A: Allocator, B: Allocator + Copy> Notes<'a, A, B> {
     }
 
     // Puts the notes on the changed line itself: whether it is in a conditional, and whether its operator is
-    // `?=`, if it was there before.
-    fn on_line(&mut self, at: Position, is_new: bool) -> Result<(), AllocError> {
+    // `?=`, if the edit does not say the operator.
+    fn on_line(&mut self, at: Position, says_operator: bool) -> Result<(), AllocError> {
         let assignment = self.doc.get(at.index).and_then(|line| line.assignment());
-        let default = assignment.filter(|it| matches!(it.flavor(), Flavor::Conditional) && !is_new);
+        let default = assignment.filter(|it| matches!(it.flavor(), Flavor::Conditional)
+            && !says_operator);
         if at.conditionals > 0 {
             self.script(&[b"this change is in a conditional, and make may skip it"])?;
         }

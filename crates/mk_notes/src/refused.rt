@@ -30,6 +30,7 @@ impl<C: Allocator + Copy> RunNotes<'_, C> {
     /// | `Ambiguous` | the lines that fit the address, and what tells one of them; the line of the rule, if several of its recipe lines have the text |
     /// | `NoSuch` | if the number is too high, the lines of the name; otherwise the lines of other names that are spelled alike, and those that begin with the name and that no edit looks at |
     /// | `Absent`, `Already`, `SharedRule` | the line that the edit means; with `all` those of the name |
+    /// | `Misread` | the line that the edit means |
     /// | `OpenValue` | the line that the edit means; with `all` those that would be changed and whose value is open, except for a fold at its end, or all of the name if there are none |
     /// | `Straddles` | the line of the rule, and the first line of a conditional below it |
     /// | `Taken` | the lines for the new name |
@@ -119,9 +120,11 @@ impl<'a, A: Allocator, C: Allocator + Copy> Notes<'a, A, C> {
                 self.meant(edit, address)?;
                 self.line(conditional_below(self.doc, address))
             }
-            Refusal::Absent | Refusal::Already | Refusal::SharedRule(_) | Refusal::OpenValue => self
-                .meant(edit, address)
-                .map(|_| ()),
+            Refusal::Absent
+            | Refusal::Already
+            | Refusal::SharedRule(_)
+            | Refusal::OpenValue
+            | Refusal::Misread => self.meant(edit, address).map(|_| ()),
             _ => Ok(()),
         }
     }

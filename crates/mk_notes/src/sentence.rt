@@ -58,6 +58,7 @@ impl<'a, A: Allocator, B: Allocator + Copy> Notes<'a, A, B> {
                 self.say("a conditional directive stands in the recipe of @", &[name])
             }
             (Refusal::OpenValue, _) => self.open_value(edit, address),
+            (Refusal::Misread, _) => self.misread(edit),
             _ => self.plain_sentence(refusal),
         }
     }

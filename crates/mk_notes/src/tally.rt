@@ -68,6 +68,12 @@ impl<A: Allocator + Copy> Tally<A> {
     pub(crate) fn follow<B: Allocator>(&mut self, edit: &Edit<B>) -> Result<(), AllocError> {
         match edit {
             Edit::AddAssign { name, flavor, .. } => self.assign(name, *flavor),
+            // The line itself is counted already.
+            Edit::SetOperator {
+                name,
+                operator: Flavor::Conditional,
+                ..
+            } => self.add(Use::Default, name, 1),
             Edit::RemoveAssign { name, .. } => self.assign(name, Flavor::Conditional),
             Edit::AddRule { targets, .. } => {
                 for target in WordTexts::new(targets) {

@@ -6,3 +6,4 @@ mod RandomRecipes
 mod CornerEdits
 mod WordEdits
 mod EveryValue
+mod FurtherEdits

@@ -5,3 +5,4 @@ mod WorkedScripts
 mod RandomScripts
 mod CornerScripts
 mod AlternativeScripts
+mod FurtherScripts

@@ -1,7 +1,7 @@
 -- How a run of the code may end: with the result that the definitions give it, or for want of
 -- memory, or because a device failed.
 -- Told in docs/PROOFS.md, "A run".
-use Rattle.std.specs.Prelude.{◌≡◌, ◌⊎◌, ◌↔◌, ℕ, Bool, true, false, IsTrue, List, ◌∷◌, ◌++◌, Option, Some, None, Result, Ok, Err, OnOk, IfErr, IfSome, is_ok}
+use Rattle.std.specs.Prelude.{◌≡◌, ◌⊎◌, ◌↔◌, ℕ, Bool, true, false, IsTrue, List, ◌∷◌, ◌++◌, Option, Some, None, Result, Err, OnOk, IfErr, IfSome, is_ok}
 use Rattle.std.specs.Io.KnownBytes.{Appends, Keeps}
 use Rattle.mk_lines.specs.Device.{AppendsPrefix, TakesAtMost, count_if}
 use Rattle.mk_lines.specs.declared.fault.Fault.{Fault}
@@ -11,7 +11,7 @@ use Rattle.mk_edit_language.specs.Edits.{Edit}
 use Rattle.mk_history.specs.Machine as machine
 use Rattle.mk_history.specs.Machine.{Command}
 use Rattle.mk_history.specs.Shown.{Shown, shown_opened}
-use Rattle.mk_session.specs.Sessions.{IsBadDepth, Seen, answer}
+use Rattle.mk_session.specs.Sessions.{IsBadDepth, Seen, answer, IsUnrefused}
 use Rattle.mk_session.specs.Calls.{takes_memory}
 use Rattle.mk_script.specs.Scripts.{Step, IsScript}
 use Rattle.mk_run.specs.ExecutedSteps.{Tries, step_end, executed_steps}
@@ -50,20 +50,20 @@ abbrev pub GoesOn : (keep_going : Bool) → (refused : ℕ) → Type 0
 GoesOn k n = k ≡ false → n ≡ 0
 
 -- A command of one of the steps found no memory. The steps before it were executed, and this is their
--- report. The step tries the command, which takes memory, and the machine does not refuse it.
+-- report. The step tries the command, which takes memory, and the machine does not refuse it, but
+-- perhaps as Misread.
 pub record IsShort (keep_going : Bool) (steps : List Step) (first : Shown (List ℕ))
     (report : List ℕ) : Type 0 where
   pub earlier : List Step
   pub step : Step
   pub later : List Step
   pub command : Command Edit
-  pub new : Shown (List ℕ)
   pub steps_are : steps ≡ earlier ++ step ∷ later
   pub reached : GoesOn keep_going (executed_steps keep_going earlier first).refused
   pub reported : report ≡ (executed_steps keep_going earlier first).report
   pub tries : Tries step (executed_steps keep_going earlier first).shown command
   pub takes : takes_memory command ≡ true
-  pub granted : answer command (executed_steps keep_going earlier first).shown ≡ Ok new
+  pub unrefused : IsUnrefused (answer command (executed_steps keep_going earlier first).shown)
 
 -- A command of a run that comes to this result found no memory.
 pub record IsShortRun (makefile script : List ℕ) (depth : ℕ) (keep_going : Bool)

@@ -8,7 +8,7 @@ use Rattle.mk_edit_language.specs.declared.refusal.Refusal.TheVariants as refusa
 use Rattle.mk_history.specs.Machine as machine
 use Rattle.mk_history.specs.Machine.{Command}
 use Rattle.mk_history.specs.Shown.{Shown}
-use Rattle.mk_session.specs.Sessions.{Seen, seen_opened, answer, session_refusal}
+use Rattle.mk_session.specs.Sessions.{Seen, seen_opened, answer, IsUnrefused, session_refusal}
 use Rattle.mk_session.specs.Calls.{takes_memory}
 use Rattle.mk_script.specs.Scripts.{Step, IsScript, HasNoCommand}
 use Rattle.mk_run.specs.ExecutedSteps.{StepEnd, is_missing, is_met, Tries, step_end, executed_steps}
@@ -73,13 +73,13 @@ pub record IsStepRefused (end : StepEnd) (refused : RefusedCommand) (old new : S
   pub told : refused.refusal ≡ session_refusal cause
   pub same : new ≡ old
 
--- A command that a step tries found no memory; nothing has changed.
+-- A command that a step tries found no memory, and the machine does not refuse it, but perhaps as
+-- Misread; nothing has changed.
 pub record IsStepShort (IsTried : Command Edit → Type 0) (old new : Shown (List ℕ)) : Type 0 where
   pub command : Command Edit
-  pub after : Shown (List ℕ)
   pub tried : IsTried command
   pub takes : takes_memory command ≡ true
-  pub granted : answer command old ≡ Ok after
+  pub unrefused : IsUnrefused (answer command old)
   pub same : new ≡ old
 
 -- A step that comes to this end, and tries these commands, was executed: it is done, or its refusal is

@@ -2,7 +2,7 @@
 -- Told in docs/EDITS.md, "The script".
 use Rattle.std.specs.Prelude.{◌≡◌, ℕ, Bool, true, false, List, [], ◌∷◌, ◌++◌, map, Option, Some, None, codes}
 use Rattle.mk_class.specs.OperatorTexts.{operator_text}
-use Rattle.mk_edit_language.specs.Edits.{Place, Bottom, BeforeVar, AfterVar, BeforeRule, NewAssign, NewRule, One, Every, ValueChange, Set, Append, Add, Remove, AddPrereq, RemovePrereq, ByNumber, ByText, Last, At, OfAssign, OfRule, OfRecipe, Edit, ChangeValue, ChangePrereqs, AddLine, AddRecipe, SetRecipe, RemoveLines, RenameTarget}
+use Rattle.mk_edit_language.specs.Edits.{Place, Bottom, BeforeVar, AfterVar, BeforeRule, NewAssign, NewRule, One, Every, ValueChange, Set, Append, Add, Remove, LineChange, Prepend, ReplaceWord, Substitute, SetOperator, AddPrereq, RemovePrereq, ByNumber, ByText, Last, At, OfAssign, OfRule, OfRecipe, Edit, ChangeValue, ChangeLine, ChangePrereqs, AddLine, AddRecipe, SetRecipe, RemoveLines, RenameTarget}
 use Rattle.mk_edit_language.specs.NewLines.{rule_separator_text}
 use Rattle.mk_history.specs.Machine.{Command, Apply, Undo, Redo, Begin, End, Cancel}
 use Rattle.mk_script.specs.Numbers.{number}
@@ -48,6 +48,14 @@ change_words name (Append value) = codes "append" ∷ name ∷ value ∷ []
 change_words name (Add word) = codes "add" ∷ name ∷ word ∷ []
 change_words name (Remove word) = codes "drop" ∷ name ∷ word ∷ []
 
+-- the words of a change of the line of an assignment
+abbrev pub line_change_words : (name : List ℕ) → LineChange → List (List ℕ)
+line_change_words name (Prepend value) = codes "prepend" ∷ name ∷ value ∷ []
+line_change_words name (ReplaceWord word value) = codes "replace" ∷ name ∷ word ∷ value ∷ []
+line_change_words name (Substitute from to) = codes "subst" ∷ name ∷ from ∷ to ∷ []
+line_change_words name (SetOperator flavor) =
+    codes "operator" ∷ name ∷ operator_text flavor ∷ []
+
 -- ---- the table
 
 -- the fields of a command
@@ -56,6 +64,8 @@ command_fields (Apply (ChangeValue (One nth) name change)) =
     after_nth nth (texts (change_words name change))
 command_fields (Apply (ChangeValue Every name change)) =
     texts (codes "all" ∷ change_words name change)
+command_fields (Apply (ChangeLine nth name change)) =
+    after_nth nth (texts (line_change_words name change))
 command_fields (Apply (AddLine place (NewAssign name flavor value))) =
     after_nth (nth_of_place place)
     (texts (codes "assign" ∷ (place_words place ++ name ∷ operator_text flavor ∷ value ∷ [])))

@@ -6,7 +6,7 @@ ghost use Rattle.std.specs.Prelude.{◌≡◌, option_map};
 ghost use Rattle.mk_edit_language.specs.Edits as edits;
 ghost use Rattle.mk_edit_language.specs.EditViews.{edit_of, place_of, value_change_of};
 ghost use Rattle.mk_script.specs.SeenFields.{field_texts};
-ghost use Rattle.mk_script.specs.CommandReading.{add_line, before_three, edit_with, last_three, line_edit, new_assign, new_rule, numbered, place_in, recipe_edit, three, two};
+ghost use Rattle.mk_script.specs.CommandReading.{add_line, before_three, edit_with, last_three, line_edit, new_assign, new_rule, numbered, operator_edit, place_in, recipe_edit, three, two};
 ghost use Rattle.mk_script.specs.ReaderAnswers.{IsRead, copied_numbered, copied_three, copied_two, which_of};
 
 use crate::fault::LineFault;
@@ -179,6 +179,29 @@ fn make_line_edit<A: Allocator + Copy>(
     ensures { IsRead edit_of (line_edit nth word (field_texts fields.now)) result }
 {
     match word {
+        Word::Prepend => {
+            let (name, value) = two_copied(alloc, fields)?;
+            Ok(Edit::PrependValue { nth, name, value })
+        }
+        Word::Replace => {
+            let (name, word, value) = three_copied(alloc, fields)?;
+            Ok(Edit::ReplaceWord {
+                nth,
+                name,
+                word,
+                value,
+            })
+        }
+        Word::Subst => {
+            let (name, from, to) = three_copied(alloc, fields)?;
+            Ok(Edit::SubstituteValue {
+                nth,
+                name,
+                from,
+                to,
+            })
+        }
+        Word::Operator => make_operator(alloc, nth, fields),
         Word::Unset => {
             let name = one(fields)?.to_vec(alloc)?;
             Ok(Edit::RemoveAssign { nth, name })
@@ -204,6 +227,26 @@ fn make_line_edit<A: Allocator + Copy>(
         }
         _ => make_recipe_edit(alloc, nth, word, fields),
     }
+}
+
+// `operator NAME OP`.
+fn make_operator<A: Allocator + Copy>(
+    alloc: A,
+    nth: Option<u32>,
+    fields: &[Field<'_>],
+) -> Result<Edit<A>, LineFault>
+    ensures { IsRead edit_of (operator_edit nth (field_texts fields.now)) result }
+{
+    let (name, operator) = two(fields)?;
+    let Some(operator) = flavor(operator) else {
+        return Err(LineFault::NotACommand);
+    };
+    let name = name.to_vec(alloc)?;
+    Ok(Edit::SetOperator {
+        nth,
+        name,
+        operator,
+    })
 }
 
 // `assign PLACE NAME OP VALUE`.

@@ -34,6 +34,10 @@ pub(crate) enum Word {
     Append,
     Add,
     Drop,
+    Prepend,
+    Replace,
+    Subst,
+    Operator,
     Unset,
     Assign,
     Rule,
@@ -79,11 +83,15 @@ impl CommandForm {
 pub(crate) type Row = (&'static str, CommandKind, Word);
 
 /// All commands of a script, and the words that may stand before one.
-pub(crate) const COMMANDS: [(&str, CommandKind, Word); 27] = [
+pub(crate) const COMMANDS: [(&str, CommandKind, Word); 31] = [
     ("set NAME VALUE", ValueEdit, Word::Set),
     ("append NAME VALUE", ValueEdit, Word::Append),
     ("add NAME WORD", ValueEdit, Word::Add),
     ("drop NAME WORD", ValueEdit, Word::Drop),
+    ("prepend NAME VALUE", NumberedEdit, Word::Prepend),
+    ("replace NAME WORD VALUE", NumberedEdit, Word::Replace),
+    ("subst NAME FROM TO", NumberedEdit, Word::Subst),
+    ("operator NAME OP", NumberedEdit, Word::Operator),
     ("unset NAME", NumberedEdit, Word::Unset),
     ("assign PLACE NAME OP VALUE", NumberedEdit, Word::Assign),
     ("rule PLACE TARGETS SEP PREREQS", NumberedEdit, Word::Rule),

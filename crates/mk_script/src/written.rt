@@ -85,6 +85,24 @@ fn command_text<A: Allocator + Copy, B: Allocator>(
         Edit::AddWord { nth, name, word } => said(alloc, *nth, b"add", &[name, word]),
         Edit::RemoveWord { nth, name, word } => said(alloc, *nth, b"drop", &[name, word]),
         Edit::ChangeValues { name, change } => change_text(alloc, name, change),
+        Edit::PrependValue { nth, name, value } => said(alloc, *nth, b"prepend", &[name, value]),
+        Edit::ReplaceWord {
+            nth,
+            name,
+            word,
+            value,
+        } => said(alloc, *nth, b"replace", &[name, word, value]),
+        Edit::SubstituteValue {
+            nth,
+            name,
+            from,
+            to,
+        } => said(alloc, *nth, b"subst", &[name, from, to]),
+        Edit::SetOperator {
+            nth,
+            name,
+            operator: flavor,
+        } => said(alloc, *nth, b"operator", &[name, operator(*flavor)]),
         Edit::AddAssign {
             place,
             name,

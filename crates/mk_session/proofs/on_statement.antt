@@ -4,6 +4,7 @@ pub mod LineWords
 pub mod PlacedLines
 pub mod RecipePlaces
 pub mod ValuesStated
+pub mod LinesStated
 pub mod RulesStated
 pub mod NewRulesStated
 pub mod RuleGoesStated

@@ -9,10 +9,9 @@ use Rattle.mk_edit_language.specs.declared.refusal.Refusal.{Refusal}
 use Rattle.mk_edit_language.specs.declared.refusal.Refusal.TheVariants as refusal
 use Rattle.mk_history.specs.Machine as machine
 use Rattle.mk_history.specs.Machine.{Command, Apply, Begin, Machine, next, text}
-use Rattle.mk_history.specs.Shown.{Shown}
 use Rattle.mk_history.specs.CallSteps as steps
 use Rattle.mk_history.specs.CallSteps.{Granted, Refused, NoMemory, IsStep}
-use Rattle.mk_session.specs.Sessions.{Seen, answer, edited, session_refusal}
+use Rattle.mk_session.specs.Sessions.{Seen, answer, edited, IsUnrefused, session_refusal}
 
 -- what a call replies: it was done, it was refused, or it found no memory
 abbrev pub Reply : Type 0
@@ -36,13 +35,12 @@ cost_on t (Apply e) = cost t e
 cost_on t c = 0
 
 -- A call leads from what is seen to what is seen next. It is one step of the machine; it finds no
--- memory only if it takes memory and the machine grants it; and it reads at most as many lines as
--- it costs.
+-- memory only if it takes memory and the machine grants it, or refuses it as Misread; and it reads at
+-- most as many lines as it costs.
 pub record IsCall (call : Call) (before after : Seen) : Type 0 where
   pub step : IsStep answer call.0 call.1 before.shown after.shown
   pub memory : call.1 ≡ NoMemory → takes_memory call.0 ≡ true
-  pub granted_else : call.1 ≡ NoMemory
-      → (new : Shown (List ℕ)) × (answer call.0 before.shown ≡ Ok new)
+  pub unrefused : call.1 ≡ NoMemory → IsUnrefused (answer call.0 before.shown)
   pub few_read : after.rereads ≤ before.rereads + cost_on before.shown.text call.0
 
 -- what a call gave back tells its reply

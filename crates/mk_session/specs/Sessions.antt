@@ -8,7 +8,7 @@ use Rattle.mk_tree.specs.Documents.{IsTooDeep}
 use Rattle.mk_edit_language.specs.Edits.{Edit}
 use Rattle.mk_edit_language.specs.Refusals.{spans}
 use Rattle.mk_edit_language.specs.declared.refusal.Refusal.{Refusal}
-use Rattle.mk_edit_language.specs.declared.refusal.Refusal.TheVariants.{NoMemory, NothingToUndo, NothingToRedo, GroupOpen, NoGroup}
+use Rattle.mk_edit_language.specs.declared.refusal.Refusal.TheVariants.{NoMemory, Misread, NothingToUndo, NothingToRedo, GroupOpen, NoGroup}
 use Rattle.mk_lines.specs.declared.fault.Fault as fault
 use Rattle.mk_lines.specs.declared.fault.Fault.TheVariants.{TooLong, TooDeep, BadDepth}
 use Rattle.mk_history.specs.Machine as machine
@@ -45,12 +45,16 @@ seen_opened d t = record { shown = shown_opened d t; rereads = 0 }
 
 -- ---- refusals and faults
 
--- A refusal of an edit: that of the machine; or NoMemory, if the machine accepts the edit and a
--- growth was refused.
+-- an answer is no refusal, or that of an edit for its last cause, that the new line is misread
+abbrev pub IsUnrefused : Result (Shown (List ℕ)) (machine.Refusal Refusal) → Type 0
+IsUnrefused a = ((new : Shown (List ℕ)) × (a ≡ Ok new)) ⊎ (a ≡ Err (EditRefused Misread))
+
+-- A refusal of an edit: that of the machine; or NoMemory, if a growth was refused, and the machine
+-- accepts the edit or refuses it as Misread, for which the new line is needed.
 abbrev pub IsEditRefusal : Edit → Shown (List ℕ) → Refusal → Type 0
 IsEditRefusal e s r =
     (answer (Apply e) s ≡ Err (EditRefused r))
-    ⊎ ((r ≡ NoMemory) × (new : Shown (List ℕ)) × (answer (Apply e) s ≡ Ok new))
+    ⊎ ((r ≡ NoMemory) × IsUnrefused (answer (Apply e) s))
 
 -- A fault of opening a text: a bad depth first; then a text that is too long; then a text that is
 -- too deep; and otherwise that a growth was refused. Memory is needed to see how deep a text is, so

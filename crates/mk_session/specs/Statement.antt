@@ -8,7 +8,7 @@ use Rattle.mk_lines.specs.PhysicalLines.{without_line_end}
 use Rattle.mk_lines.specs.LogicalLines.{logical_lines}
 use Rattle.mk_history.specs.Shown.{Shown, shown_opened, shown_edited, shown_ended}
 use Rattle.mk_edit_language.specs.declared.edit.Edit.{Edit}
-use Rattle.mk_edit_language.specs.declared.edit.Edit.TheVariants.{SetValue, AppendValue, AddWord, RemoveWord, ChangeValues, AddAssign, RemoveAssign, AddRule, RemoveRule, AddPrereq, RemovePrereq, AddRecipe, SetRecipe, RemoveRecipe, InsertRecipe, SetRecipeByText, RemoveRecipeByText, RenameTarget}
+use Rattle.mk_edit_language.specs.declared.edit.Edit.TheVariants.{SetValue, AppendValue, AddWord, RemoveWord, PrependValue, ReplaceWord, SubstituteValue, SetOperator, ChangeValues, AddAssign, RemoveAssign, AddRule, RemoveRule, AddPrereq, RemovePrereq, AddRecipe, SetRecipe, RemoveRecipe, InsertRecipe, SetRecipeByText, RemoveRecipeByText, RenameTarget}
 use Rattle.mk_edit_language.specs.declared.command.Command.{Command}
 use Rattle.mk_edit_language.specs.declared.command.Command.TheVariants.{Apply, Undo, Redo, Begin, End, Cancel}
 
@@ -47,10 +47,6 @@ abbrev pub IsOfRecipe : (above : Lines) → (line : List ℕ) → Type 0
 IsOfRecipe up l = IsRecipe up l ⊎ (Has (35 ∷ []) l
     ⊎ (list_any (λ b. nat_lt 32 b && not (b == 92)) l ≡ false))
 
--- no line
-abbrev pub Nothing : (above lines : Lines) → Type 0
-Nothing up ls = ls ≡ []
-
 -- one line with a word before a sign, and with a text
 abbrev pub Line : (word : List ℕ) → (sign : ℕ) → (text : List ℕ) → (above lines : Lines) → Type 0
 Line w s t up ls = (l : List ℕ) × (ls ≡ l ∷ []) × Names w s l × Has t l
@@ -65,14 +61,12 @@ Rule g up ls = (l : List ℕ) × (rs : Lines) × (ls ≡ l ∷ rs) × Names g 58
 
 -- ---- an edit
 
--- Lines at one place become others. All lines above and below stay. A last line that has no line end
+-- Lines at one place, or no line, become others. All lines above and below stay. A last line that has no line end
 -- gets one, where a new line comes behind it.
 abbrev pub Become : (Old New : (above lines : Lines) → Type 0) → (before after : Lines) → Type 0
-Become Old New ls ms =
-    (above : Lines) × (old : Lines) × (new : Lines) × (below : Lines) × (ended : Lines)
-    × (ls ≡ above ++ (old ++ below)) × Old above old
-    × (ms ≡ ended ++ (new ++ below)) × New above new
-    × AllZip (λ l m. (m ≡ l) ⊎ (without_line_end m ≡ l)) above ended
+Become Old New ls ms = (up : Lines) × (old : Lines) × (new : Lines) × (down : Lines) × (ended : Lines)
+    × (ls ≡ up ++ (old ++ down)) × Old up old × (ms ≡ ended ++ (new ++ down)) × New up new
+    × AllZip (λ l m. (m ≡ l) ⊎ (without_line_end m ≡ l)) up ended
 
 -- parts of a line, each with a word behind it
 abbrev pub joined : (word : List ℕ) → (parts : List (List ℕ)) → List ℕ
@@ -90,19 +84,23 @@ Does (SetValue k n v) = Become (Line n.items 61 []) (Line n.items 61 v.items)
 Does (AppendValue k n v) = Become (Line n.items 61 []) (Line n.items 61 v.items)
 Does (AddWord k n w) = Become (Line n.items 61 []) (Line n.items 61 w.items)
 Does (RemoveWord k n w) = Become (Line n.items 61 []) (Line n.items 61 [])
+Does (PrependValue k n v) = Become (Line n.items 61 []) (Line n.items 61 v.items)
+Does (ReplaceWord k n w v) = Become (Line n.items 61 []) (Line n.items 61 v.items)
+Does (SubstituteValue k n f t) = Become (Line n.items 61 []) (Line n.items 61 t.items)
+Does (SetOperator k n f) = Become (Line n.items 61 []) (Line n.items 61 [])
 Does (ChangeValues n c) = AllZip (λ l m. (m ≡ l) ⊎ (Names n.items 61 l × Names n.items 61 m))
-Does (AddAssign p n f v) = Become Nothing (Line n.items 61 v.items)
-Does (RemoveAssign k n) = Become (Line n.items 61 []) Nothing
-Does (AddRule p gs s ws) = Become Nothing (Line gs.items 58 [])
-Does (RemoveRule k g) = Become (Rule g.items) Nothing
+Does (AddAssign p n f v) = Become (λ up ls. ls ≡ []) (Line n.items 61 v.items)
+Does (RemoveAssign k n) = Become (Line n.items 61 []) (λ up ls. ls ≡ [])
+Does (AddRule p gs s ws) = Become (λ up ls. ls ≡ []) (Line gs.items 58 [])
+Does (RemoveRule k g) = Become (Rule g.items) (λ up ls. ls ≡ [])
 Does (AddPrereq o k g w) = Become (Line g.items 58 []) (Line g.items 58 w.items)
 Does (RemovePrereq k g w) = Become (Line g.items 58 []) (Line g.items 58 [])
-Does (AddRecipe k g c) = Become Nothing (Recipe g.items c.items)
+Does (AddRecipe k g c) = Become (λ up ls. ls ≡ []) (Recipe g.items c.items)
 Does (SetRecipe k g i c) = Become (Recipe g.items []) (Recipe g.items c.items)
-Does (RemoveRecipe k g i) = Become (Recipe g.items []) Nothing
-Does (InsertRecipe k g i c) = Become Nothing (Recipe g.items c.items)
+Does (RemoveRecipe k g i) = Become (Recipe g.items []) (λ up ls. ls ≡ [])
+Does (InsertRecipe k g i c) = Become (λ up ls. ls ≡ []) (Recipe g.items c.items)
 Does (SetRecipeByText k g o c) = Become (Recipe g.items o.items) (Recipe g.items c.items)
-Does (RemoveRecipeByText k g o) = Become (Recipe g.items o.items) Nothing
+Does (RemoveRecipeByText k g o) = Become (Recipe g.items o.items) (λ up ls. ls ≡ [])
 Does (RenameTarget o n) = AllZip (Renames o.items n.items)
 
 -- ---- the calls of a session

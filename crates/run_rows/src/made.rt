@@ -49,6 +49,10 @@ fn edit_at(heap: &Heap, number: u64) -> Result<Edit<&Heap>, AllocError> {
         20 => Ok(Edit::set(heap, b"A", b"b")?.nth(2)),
         21 => place_at(heap, 0)?.rule(heap, b"A", RuleSeparator::Single, b"b"),
         22 => place_at(heap, 0)?.rule(heap, b"A", RuleSeparator::Double, b"b"),
+        28 => Edit::prepend(heap, b"A", b"b"),
+        29 => Edit::replace_word(heap, b"A", b"b", b"c"),
+        30 => Edit::substitute(heap, b"A", b"b", b"c"),
+        31 => Edit::operator(heap, b"A", Flavor::Simple),
         place => place_at(heap, place)?.assign(heap, b"A", Flavor::Simple, b"b"),
     }
 }
@@ -104,6 +108,10 @@ fn apply_at(session: &mut Session<&Heap>, number: u64) -> Result<(), Refusal> {
         18 => session.recipe_replace(b"A", b"b", b"c"),
         19 => session.recipe_remove(b"A", b"b"),
         20 => session.assign(Place::Bottom, b"A", Flavor::Simple, b"b"),
+        22 => session.prepend(b"A", b"b"),
+        23 => session.replace_word(b"A", b"b", b"c"),
+        24 => session.substitute(b"A", b"b", b"c"),
+        25 => session.operator(b"A", Flavor::Simple),
         _ => session.rule(Place::Bottom, b"A", RuleSeparator::Single, b"b"),
     }
 }

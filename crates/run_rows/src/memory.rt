@@ -49,7 +49,8 @@ pub fn by_lines(
 }
 
 /// Whether an edit takes at most so many bytes more than one of short lines: the new bytes of its lines, or
-/// the index that is made for it, and no second copy of either.
+/// the index that is made for it, and no second copy of either. An edit that is checked by reading also takes
+/// the text of the new line up to the end of its value, and the value.
 pub fn by_bytes(
     case: &Case<'_>,
     makefile: &[u8],

@@ -1,5 +1,5 @@
 -- The causes of refusal that the place of a new line decides, by their tests on a document.
-use Rattle.std.proofs.Common.{◌≡◌, refl, sym, ap, ◌∙◌, arith, ℕ, ◌+◌, ◌-◌, ◌==◌, ◌&&◌, ◌||◌, Bool, true, false, not, cond, List, [], ◌∷◌, ◌++◌, length, take, drop, length-append, Some, None}
+use Rattle.std.proofs.Common.{◌≡◌, refl, sym, ap, ◌∙◌, arith, ℕ, ◌+◌, ◌-◌, ◌==◌, ◌&&◌, ◌||◌, Bool, true, false, not, cond, List, [], ◌∷◌, ◌++◌, length, take, drop, length-append, Option, Some, None}
 use Rattle.std.specs.Prelude.{nat_lt}
 use Rattle.std.proofs.lemmas.List.{take-append-drop}
 use Rattle.std.proofs.Math.Bool.{or-false}
@@ -8,26 +8,44 @@ use Rattle.mk_lines.specs.LogicalLines.{is_open}
 use Rattle.mk_lines.specs.PhysicalLines.{line_end_bytes, file_line_end}
 use Rattle.mk_lines.specs.Pieces.{replaced}
 use Rattle.mk_lines.specs.declared.ends.End.{End}
+use Rattle.mk_class.specs.Contexts.{Context}
 use Rattle.mk_class.specs.ListTests.{is_empty, last_passes}
+use Rattle.mk_class.specs.RecipePrefix.{is_prefix_led}
 use Rattle.mk_class.specs.ClassedLines.{ClassedLine, classed_lines}
 use Rattle.mk_tree.specs.Documents.{IsFaithful, text_of, context_of}
 use Rattle.mk_tree.specs.Leaning.{is_same_flag, leans}
 use Rattle.mk_tree.specs.NewLineEnds.{missing_line_end, lacks_line_end}
 use Rattle.mk_tree.specs.LocatedLines.{LocatedLine, located_text, size_of, last_line}
 use Rattle.mk_tree.proofs.on_changes.Sizes.{size_of-text}
+use Rattle.mk_edit_language.specs.AddressCauses.{begins_new_line, prefix_led}
 use Rattle.mk_edit_language.specs.Causes.{where_holds}
 use Rattle.mk_edit_language.specs.Edits.{Place, Bottom, BeforeVar, AfterVar, BeforeRule, Edit, AddLine, AddRecipe}
 use Rattle.mk_edit_language.specs.LineCauses.{follows_open_line, open_line, open_define, open_define_at, flag_below_new, new_line_leans, removal_leans, leaning, too_long}
 use Rattle.mk_edit_language.specs.NewLines.{new_text, new_line_span}
 use Rattle.mk_edit_language.specs.EditSpans.{spans_of, where_found}
 use Rattle.mk_edit_language.specs.Stretches.{Stretch, bottom, insertion, removal, place_found}
-use Rattle.mk_edit_language.specs.declared.refusal.Refusal.TheVariants.{OpenLine, OpenDefine, Leans, TooLong}
-use Rattle.mk_edit.specs.Insertions.{IsInsertedAt, IsOfNewLine, is_bottom, is_at_bottom, is_open_line, ends_length}
+use Rattle.mk_edit_language.specs.declared.refusal.Refusal.TheVariants.{RecipePrefix, OpenLine, OpenDefine, Leans, TooLong}
+use Rattle.mk_edit.specs.Insertions.{IsDecidedByPlace, IsInsertedAt, IsOfNewLine, IsOfPlace, is_bottom, is_at_bottom, is_open_line, ends_length}
 use Rattle.mk_edit_parts.specs.LineRanges.{is_led_first_located}
 use Rattle.mk_edit.specs.PlannedMoves.{is_unended, follows_unended}
 use Rattle.mk_edit_parts.specs.declared.seek.Found.{Found}
+use Rattle.mk_edit_parts.specs.Found.{IsAddressed}
+use Rattle.mk_edit_parts.proofs.CauseLemmas.{passed}
 use Rattle.mk_edit_parts.proofs.on_finding.LeanLemmas.{led_first-located}
 use Rattle.mk_edit.proofs.on_new_lines.InsertionLemmas.{place-in, follows-last}
+use Rattle.mk_edit.proofs.on_plans.CausePlans.{addressed-own}
+
+-- if the new line of a place does not begin with the prefix, its place decides
+pub decided-there : (e : Edit) (ls : List LocatedLine) (f place : Found) → IsOfPlace e → IsAddressed e ls f → IsInsertedAt ls (insertion (classed_lines (located_text ls)) e) place
+    → is_prefix_led place.context.prefix (new_text place.context.prefix e) ≡ false → IsDecidedByPlace (located_text ls) e
+decided-there (AddLine p l) ls f place o A I k =
+    let cs = classed_lines (located_text ls) in
+    let e = AddLine p l in
+    let led : prefix_led cs e ≡ None =
+    ap (λ (o : Option Stretch). where_holds (begins_new_line e o) RecipePrefix) I.stretch_is
+    ∙ (ap (λ (c : Context). where_holds (is_prefix_led c.prefix (new_text c.prefix e)) RecipePrefix) I.context_is ∙ ap (λ b. where_holds b RecipePrefix) k) in
+    addressed-own e ls f _ A refl (passed (prefix_led cs e) _ _ led refl)
+decided-there e ls f place o A I k = absurd o
 
 -- ---- OpenLine
 

@@ -1,19 +1,19 @@
 -- The causes of an edit that come after those that find its line, and what decides them.
-use Rattle.std.proofs.Common.{◌≡◌, refl, sym, ap, ◌∙◌, arith, ℕ, ◌+◌, ◌<◌, ◌≤◌, List, [], ◌∷◌, ◌||◌, Bool, true, false, length, Option, Some, None}
+use Rattle.std.proofs.Common.{◌≡◌, refl, sym, ap, ◌∙◌, arith, ℕ, ◌+◌, ◌<◌, ◌≤◌, List, [], ◌∷◌, ◌++◌, ◌||◌, Bool, true, false, length, Option, Some, None}
 use Rattle.std.specs.Prelude.{nat_lt}
 use Rattle.std.proofs.lemmas.Bool.{lt-ltb, le-ltb, ltb-true, ltb-false}
 use Rattle.mk_lines.specs.Limits.{max_text}
 use Rattle.mk_lines.specs.Pieces.{Replacement, replaced}
 use Rattle.mk_class.specs.ClassedLines.{ClassedLine, classed_lines}
 use Rattle.mk_tree.specs.LocatedLines.{LocatedLine, located_text}
-use Rattle.mk_edit_language.specs.Edits.{Edit}
+use Rattle.mk_edit_language.specs.Edits.{Edit, ChangeValue, ChangeLine, ChangePrereqs, AddLine, AddRecipe, SetRecipe, RemoveLines, RenameTarget}
 use Rattle.mk_edit_language.specs.EditSpans.{spans_of}
 use Rattle.mk_edit_language.specs.Stretches.{Stretch, insertion, removal}
 use Rattle.mk_edit_language.specs.Causes.{where_holds}
 use Rattle.mk_edit_language.specs.ArgumentCauses.{bad_argument, reserved}
 use Rattle.mk_edit_language.specs.AddressCauses.{unread_prefix, no_such, ambiguous, prefix_led}
 use Rattle.mk_edit_language.specs.RuleCauses.{absent, already, taken, shared_rule, straddles}
-use Rattle.mk_edit_language.specs.LineCauses.{open_value, open_line, open_define, leaning, new_line_leans, removal_leans, too_long}
+use Rattle.mk_edit_language.specs.LineCauses.{open_value, open_line, open_define, leaning, new_line_leans, removal_leans, too_long, misread}
 use Rattle.mk_edit_language.specs.Lengths.{bytes_taken, bytes_put}
 use Rattle.mk_edit_language.specs.Refusals.{first_cause, causes}
 use Rattle.mk_edit_language.specs.declared.refusal.Refusal.{Refusal}
@@ -24,7 +24,7 @@ use Rattle.mk_edit_parts.specs.Found.{IsAddressed}
 use Rattle.mk_edit_parts.specs.declared.seek.Found.{Found}
 use Rattle.mk_edit_parts.proofs.CauseLemmas.{passed}
 
--- ---- an edit's own causes, in their order
+-- ---- an edit's own causes, in their order, but for Misread
 
 abbrev pub own_causes : (text : List ℕ) → List ClassedLine → Edit → List (Option Refusal)
 own_causes t ls e =
@@ -41,16 +41,52 @@ own_causes t ls e =
     ∷ too_long t (spans_of t ls e)
     ∷ []
 
--- the edit's own causes decide, once the line is found
-pub addressed-own : (e : Edit) (ls : List LocatedLine) (f : Found) (r : Option Refusal) → IsAddressed e ls f → first_cause (own_causes (located_text ls) (classed_lines (located_text ls)) e) ≡ r
+-- the edit's own causes, with Misread, decide, once the line is found
+pub addressed-all : (e : Edit) (ls : List LocatedLine) (f : Found) (r : Option Refusal) → IsAddressed e ls f
+    → first_cause (own_causes (located_text ls) (classed_lines (located_text ls)) e ++ misread (classed_lines (located_text ls)) e ∷ []) ≡ r
     → first_cause (causes (located_text ls) (classed_lines (located_text ls)) e) ≡ r
-addressed-own e ls f r A h =
+addressed-all e ls f r A h =
     let cs = classed_lines (located_text ls) in
     passed (bad_argument e) _ r A.arguments
     (passed (reserved e) _ r A.not_reserved
     (passed (unread_prefix cs) _ r A.prefix_read (passed (no_such cs e) _ r A.is_there (passed (ambiguous cs e) _ r A.is_one h))))
 
+-- causes before another that does not hold
+pub last-none : (cs : List (Option Refusal)) (o : Option Refusal) → o ≡ None → first_cause (cs ++ o ∷ []) ≡ first_cause cs
+last-none [] o h = ap (λ z. first_cause (z ∷ [])) h
+last-none (None ∷ cs) o h = last-none cs o h
+last-none (Some r ∷ cs) o h = refl
+
+-- a cause before others
+pub first-before : (cs ds : List (Option Refusal)) (r : Refusal) → first_cause cs ≡ Some r → first_cause (cs ++ ds) ≡ Some r
+first-before [] ds r h = absurd (cc)
+first-before (None ∷ cs) ds r h = first-before cs ds r h
+first-before (Some q ∷ cs) ds r h = h
+
+-- they decide without it, if it does not hold
+pub addressed-own : (e : Edit) (ls : List LocatedLine) (f : Found) (r : Option Refusal) → IsAddressed e ls f → misread (classed_lines (located_text ls)) e ≡ None
+    → first_cause (own_causes (located_text ls) (classed_lines (located_text ls)) e) ≡ r → first_cause (causes (located_text ls) (classed_lines (located_text ls)) e) ≡ r
+addressed-own e ls f r A m h =
+    addressed-all e ls f r A (last-none (own_causes (located_text ls) (classed_lines (located_text ls)) e) (misread (classed_lines (located_text ls)) e) m ∙ h)
+
+-- and so does one of them that holds
+pub addressed-first : (e : Edit) (ls : List LocatedLine) (f : Found) (r : Refusal) → IsAddressed e ls f
+    → first_cause (own_causes (located_text ls) (classed_lines (located_text ls)) e) ≡ Some r → first_cause (causes (located_text ls) (classed_lines (located_text ls)) e) ≡ Some r
+addressed-first e ls f r A h =
+    addressed-all e ls f (Some r) A (first-before (own_causes (located_text ls) (classed_lines (located_text ls)) e) (misread (classed_lines (located_text ls)) e ∷ []) r h)
+
 -- ---- Leans, of an edit that takes lines out
+
+-- an edit that takes lines out is never misread
+pub removal-read : (ls : List ClassedLine) (e : Edit) (s : Stretch) → removal ls e ≡ Some s → misread ls e ≡ None
+removal-read ls (ChangeLine nth n c) s h = absurd (cc)
+removal-read ls (ChangeValue w n c) s h = refl
+removal-read ls (ChangePrereqs nth g c) s h = refl
+removal-read ls (AddLine p l) s h = refl
+removal-read ls (AddRecipe nth g p c) s h = refl
+removal-read ls (SetRecipe nth g w c) s h = refl
+removal-read ls (RemoveLines r) s h = refl
+removal-read ls (RenameTarget o n) s h = refl
 
 pub removal-leaning : (ls : List ClassedLine) (e : Edit) (s : Stretch) (b : Bool) → insertion ls e ≡ None → removal ls e ≡ Some s → b ≡ removal_leans (Some s) → leaning ls e ≡ where_holds b Leans
 removal-leaning ls e s b i h k =

@@ -10,7 +10,7 @@ use Rattle.mk_tree.specs.Documents.{IsFaithful, document_lines, context_of}
 use Rattle.mk_tree.specs.LineTexts.{line_in}
 use Rattle.mk_tree.specs.LocatedLines.{LocatedLine, located_line, located_lines, located_text, size_of}
 use Rattle.mk_tree.proofs.on_documents.DocumentLemmas.{faithful-own}
-use Rattle.mk_edit_language.specs.Edits.{One, Every, Edit, ChangeValue, ChangePrereqs, AddLine, AddRecipe, SetRecipe, RemoveLines, RenameTarget}
+use Rattle.mk_edit_language.specs.Edits.{One, Every, Edit, ChangeValue, ChangeLine, ChangePrereqs, AddLine, AddRecipe, SetRecipe, RemoveLines, RenameTarget}
 use Rattle.mk_edit_language.specs.Stretches.{Stretch, between, insertion, touched_by}
 use Rattle.mk_edit_language.specs.Costs.{cost, size}
 use Rattle.mk_edit_language.specs.KeptLines.{edited_bytes, new_line_bytes}
@@ -92,6 +92,7 @@ pub record ChangesOne (t : List ℕ) (e : Edit) : Type 0 where
 pub changes-one : (t : List ℕ) (e : Edit) (rs : List Replacement) (s : Stretch) (m : List ℕ) → touched_by (classed_lines t) e ≡ Some s → 0 < length s.lines → edited_bytes t e s rs ≡ m ∷ [] → ChangesOne t e
 changes-one t (ChangeValue (One nth) n c) rs s m h few k = record { cost_is = refl; size_is = refl }
 changes-one t (ChangeValue Every n c) rs s m h few k = absurd (cc)
+changes-one t (ChangeLine nth n c) rs s m h few k = record { cost_is = refl; size_is = refl }
 changes-one t (ChangePrereqs nth g c) rs s m h few k = record { cost_is = refl; size_is = refl }
 changes-one t (SetRecipe nth g w c) rs s m h few k = record { cost_is = refl; size_is = refl }
 changes-one t (AddLine p l) rs s m h few k = absurd (touched-some (insertion (classed_lines t) (AddLine p l)) s h few)
@@ -124,7 +125,7 @@ refused-on e ls read r (Err q) i h = refused-first e ls read q (inl (h ∙ ap Er
 
 -- a growth was refused, before a line was read
 pub memory-first : (e : Edit) (ls : List LocatedLine) (read : ℕ) (rs : List Replacement) → spans (located_text ls) e ≡ Ok rs → Plans e ls read read (Err NoMemory)
-memory-first e ls read rs h = refused-first e ls read NoMemory (inr (refl, rs, h))
+memory-first e ls read rs h = refused-first e ls read NoMemory (inr (refl, inl (rs, h)))
 
 -- a call makes the planned moves, and reads as many lines as the edit costs
 pub moves-made : (e : Edit) (ls : List LocatedLine) (moves : List Move) (lines before after : ℕ) (r : Result (List Move) Refusal) → IsPlanned e ls moves → cost (located_text ls) e ≡ lines
@@ -132,17 +133,17 @@ pub moves-made : (e : Edit) (ls : List LocatedLine) (moves : List Move) (lines b
 moves-made e ls moves lines before after (Ok patch) P costs h R =
     record { planned = subst (IsPlanned e ls) (sym h) P; refused = tt; counted = rw costs R.counted; few_read = omega (arith, costs, R.few_read); forward = R.forward }
 moves-made e ls moves lines before after (Err x) P costs h R =
-    record { planned = tt; refused = inr (R.refused, P.replacements, P.spans_are); counted = tt; few_read = omega (arith, costs, R.few_read); forward = R.forward }
+    record { planned = tt; refused = inr (R.refused, inl (P.replacements, P.spans_are)); counted = tt; few_read = omega (arith, costs, R.few_read); forward = R.forward }
 
 -- a call plans an edit that no cause refuses, and reads as many lines as the edit costs
 pub accepted-planned : (e : Edit) (ls : List LocatedLine) (before after : ℕ) (r : Result (List Move) Refusal) → first_cause (causes (located_text ls) (classed_lines (located_text ls)) e) ≡ None
     → IfOk r (λ patch. IsPlanned e ls patch) → ReadsAnew (cost (located_text ls) e) before after r → Plans e ls before after r
 accepted-planned e ls before after (Ok patch) none P R = record { planned = P; refused = tt; counted = R.counted; few_read = R.few_read; forward = R.forward }
-accepted-planned e ls before after (Err x) none P R = record { planned = tt; refused = inr (R.refused, _, unrefused (located_text ls) e none); counted = tt; few_read = R.few_read; forward = R.forward }
+accepted-planned e ls before after (Err x) none P R = record { planned = tt; refused = inr (R.refused, inl (_, unrefused (located_text ls) e none)); counted = tt; few_read = R.few_read; forward = R.forward }
 
 -- a call makes the planned moves of an edit that costs nothing, and reads no line
 pub moves-unread : (e : Edit) (ls : List LocatedLine) (moves : List Move) (r : Result (List Move) Refusal) → IsPlanned e ls moves → cost (located_text ls) e ≡ 0
     → IfOk r (λ patch. patch ≡ moves) → IsOkUnless r NoMemory → (read : ℕ) → Plans e ls read read r
 moves-unread e ls moves (Ok patch) P costs h u read =
     moves-made e ls moves 0 read read (Ok patch) P costs h (record { refused = u; counted = ap (λ n. min n (2 ^ 64 - 1)) (omega arith); few_read = omega arith; forward = omega arith })
-moves-unread e ls moves (Err x) P costs h u read = refused-first e ls read x (inr (u, P.replacements, P.spans_are))
+moves-unread e ls moves (Err x) P costs h u read = refused-first e ls read x (inr (u, inl (P.replacements, P.spans_are)))

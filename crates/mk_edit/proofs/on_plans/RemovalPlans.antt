@@ -32,7 +32,7 @@ use Rattle.mk_edit_parts.proofs.CauseLemmas.{passed, holds, refused, unrefused}
 use Rattle.mk_edit_parts.proofs.on_finding.LeanLemmas.{led_first-located}
 use Rattle.mk_edit.proofs.on_plans.PlanLemmas.{faithful-length}
 use Rattle.mk_edit.proofs.on_plans.LinePlans.{IsTakenOut, lines-taken_out}
-use Rattle.mk_edit.proofs.on_plans.CausePlans.{own_causes, addressed-own, removal-leaning, never-long}
+use Rattle.mk_edit.proofs.on_plans.CausePlans.{own_causes, addressed-own, removal-read, removal-leaning, never-long}
 
 -- ---- some lines from a place on
 
@@ -107,7 +107,7 @@ taking_out-leans e ls f at count b A T h k =
     let t = located_text ls in
     let cs = classed_lines t in
     let lean : leaning cs e ≡ Some Leans = removal-leaning cs e (stretch_at cs at count) b T.none_put T.removal_is h ∙ ap (λ q. where_holds q Leans) k in
-    refused t e Leans (addressed-own e ls f (Some Leans) A (T.others ∙ holds (leaning cs e) _ Leans lean))
+    refused t e Leans (addressed-own e ls f (Some Leans) A (removal-read cs e _ T.removal_is) (T.others ∙ holds (leaning cs e) _ Leans lean))
 
 length-both : (ls : List ClassedLine) (at count : ℕ) → at + count ≤ length ls → (length (take at ls) ≡ at) × (length (take count (drop at ls)) ≡ count)
 length-both ls at count h = (grind (arith, common_steps), grind (arith, common_steps))
@@ -121,7 +121,7 @@ taking_out-planned e ls f at count b g few A T h k =
     let s = stretch_at cs at count in
     let lean : leaning cs e ≡ None = removal-leaning cs e s b T.none_put T.removal_is h ∙ ap (λ q. where_holds q Leans) k in
     let long : too_long t (spans_of t cs e) ≡ None = never-long t e T.no_bytes (omega (arith, size_of-text ls, few)) in
-    let spans_are = unrefused t e (addressed-own e ls f None A (T.others ∙ passed (leaning cs e) _ None lean (passed (too_long t (spans_of t cs e)) _ None long refl))) in
+    let spans_are = unrefused t e (addressed-own e ls f None A (removal-read cs e _ T.removal_is) (T.others ∙ passed (leaning cs e) _ None lean (passed (too_long t (spans_of t cs e)) _ None long refl))) in
     let n = length-both cs at count (omega (arith, T.in_range, faithful-length ls cs g refl)) in
     lines-taken_out e ls (spans_of t cs e) s at count g spans_are T.touched_is n.0 n.1 (T.nothing_left (spans_of t cs e)) T.cost_is T.size_is
 

@@ -175,7 +175,7 @@ add_prereq order nth g w ls f h A = record {
 
     taken : (l : LocatedLine) (at : header.Header) → false ≡ has_prereq (AddPrereq order w) x → Some l ≡ slice_get ls f.at → IsHeaderAt l at → size_of ls + length (line_text_new order w l at) ≤ max_text → spans t e ≡ Ok rs
     taken l at q k p z =
-        own-accepted e ls f A
+        own-accepted e ls f A refl
         (passed (already lines e) _ None (already-asked order nth g w ls f false R q)
         (passed (too_long t rs) [] None (decided ∙ ap (λ b. where_holds b TooLong) (le-ltb (max_text + bytes_taken rs) (length t + bytes_put rs) (omega (arith, z, longer l at k p, size_of-text ls)))) refl))
 

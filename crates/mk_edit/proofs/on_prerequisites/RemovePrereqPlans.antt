@@ -116,7 +116,7 @@ remove_prereq nth g w ls f h A = record {
     short z = never-long t e (ap bytes_put spans_are ∙ nothing-put (length (text_of s.above)) (remove_pieces w x) (remove-nothing w x)) (omega (arith, size_of-text ls, z))
 
     taken : size_of ls ≤ max_text → true ≡ has_prereq (RemovePrereq w) x → spans t e ≡ Ok (spans_of t lines e)
-    taken z q = own-accepted e ls f A (passed (absent lines e) _ None (asked true q) (passed (too_long t (spans_of t lines e)) [] None (short z) refl))
+    taken z q = own-accepted e ls f A refl (passed (absent lines e) _ None (asked true q) (passed (too_long t (spans_of t lines e)) [] None (short z) refl))
 
     old : old_cells (remove_pieces w x) ≡ concat (header_units x)
     old = header_pieces-whole x (kept x.targets) (removed_words w x.normal) (removed_words w x.order_only) (kept-old x.targets) (removed-old w x.normal) (removed-old w x.order_only)

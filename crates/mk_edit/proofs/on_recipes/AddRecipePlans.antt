@@ -163,7 +163,7 @@ add_recipe nth t p c ls f h A = record {
       let G = gap-at ls nth t f p at R m in
       omega (arith, G.place_is, faithful-length ls (G.stretch.above ++ G.stretch.below) h G.whole, length-append G.stretch.above G.stretch.below);
   straddling = λ at m b. own-refused e ls f Straddles A (passed (absent cls e) _ (Some Straddles) (there at m) (holds (straddles cls e) _ Straddles (straddles-is ls nth t f true R b)));
-  decided = λ at m b. addressed-own e ls f (first_cause (place_causes (located_text ls) e)) A (passed (absent cls e) _ _ (there at m) (passed (straddles cls e) _ _ (straddles-is ls nth t f false R b) refl));
+  decided = λ at m b. addressed-own e ls f (first_cause (place_causes (located_text ls) e)) A refl (passed (absent cls e) _ _ (there at m) (passed (straddles cls e) _ _ (straddles-is ls nth t f false R b) refl));
   inserted = λ at g m i q.
       let G = gap-at ls nth t f p at R m in
       inserted-between ls _ G.stretch g G.found_is G.whole (G.place_is ∙ sym i) q;

@@ -62,7 +62,7 @@ remove_recipe nth g w ls f h A = record {
   accepted = λ at z m.
       let T = recipe-meant ls nth g w f at h R m in
       let Q = found-some ls nth g f w at h R T.index in
-      let taken = own-accepted e ls f A
+      let taken = own-accepted e ls f A refl
       (passed (absent lines e) _ None T.one
       (passed (leaning lines e) _ None (not_leaning e ls nth g w at Q refl) (passed (too_long t (spans_of t lines e)) [] None (within-limit e ls nth g w at Q z refl) refl))) in
       lines-taken_out e ls (spans_of t lines e) (this_line Q.spot) at 1 h taken (ap (option_map this_line) Q.found_is) Q.place_is refl refl refl refl;

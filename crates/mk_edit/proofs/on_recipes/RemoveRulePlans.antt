@@ -95,7 +95,7 @@ remove_rule nth g ls f h A = record {
   straddling = λ l n i k m b. own-refused e ls f Straddles A
       (passed (shared_rule lines e) _ (Some Straddles) (one l n i k m) (holds (straddles lines e) _ Straddles (straddles-is ls nth g f true R b)));
   accepted = λ l n end z i k m b p.
-      let taken = own-accepted e ls f A
+      let taken = own-accepted e ls f A refl
       (passed (shared_rule lines e) _ None (one l n i k m)
       (passed (straddles lines e) _ None (straddles-is ls nth g f false R b)
       (passed (leaning lines e) _ None (removal-never_leans ls nth g f R) (passed (too_long t (spans_of t lines e)) [] None (within-limit ls nth g f R z) refl)))) in

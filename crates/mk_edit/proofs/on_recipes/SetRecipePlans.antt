@@ -101,7 +101,7 @@ set_recipe nth g w c ls f h A = record {
   range = λ at l r m k i.
       let T = recipe-meant ls nth g w f at h R m in
       subst (λ (z : Span). IsRangeEdit e ls at l z c) (sym i)
-      (command-range e nth g w c ls at l (found-some ls nth g f w at h R T.index) h k refl (λ rs. refl) refl (addressed-own e ls f _ A (passed (absent cs e) _ _ T.one refl)));
+      (command-range e nth g w c ls at l (found-some ls nth g f w at h R T.index) h k refl (λ rs. refl) refl (addressed-own e ls f _ A refl (passed (absent cs e) _ _ T.one refl)));
 }
   where
     e : Edit

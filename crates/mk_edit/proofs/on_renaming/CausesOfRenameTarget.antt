@@ -19,7 +19,7 @@ use Rattle.mk_edit_language.specs.ArgumentCauses.{bad_argument, reserved}
 use Rattle.mk_edit_language.specs.AddressCauses.{ambiguous, begins_some_renamed_line, is_unread_prefix, no_such, prefix_led, unread_prefix}
 use Rattle.mk_edit_language.specs.RuleCauses.{absent, already, shared_rule, straddles, taken}
 use Rattle.mk_edit_language.specs.Causes.{where_holds}
-use Rattle.mk_edit_language.specs.LineCauses.{leaning, open_define, open_line, open_value, too_long}
+use Rattle.mk_edit_language.specs.LineCauses.{leaning, open_define, open_line, open_value, too_long, misread}
 use Rattle.mk_edit_language.specs.Refusals.{causes, first_cause}
 use Rattle.mk_edit_language.specs.EditSpans.{spans_of}
 use Rattle.mk_edit_language.specs.declared.refusal.Field.TheVariants as field
@@ -52,7 +52,7 @@ new-some o n h =
 
 -- ---- the causes of an edit
 
--- the causes after those that the fields decide; `long` is the last of them
+-- the causes after those that the fields decide; `long` is TooLong
 abbrev after_fields : List ClassedLine → Edit → (long : Option Refusal) → List (Option Refusal)
 after_fields ls e long =
     unread_prefix ls
@@ -69,6 +69,7 @@ after_fields ls e long =
     ∷ open_define ls e
     ∷ leaning ls e
     ∷ long
+    ∷ misread ls e
     ∷ []
 
 -- ---- the causes that the fields decide
@@ -94,12 +95,13 @@ only-these : (t : List ℕ) (ls : List ClassedLine) (o n : List ℕ) (long : Opt
     → first_cause (after_fields ls (RenameTarget o n) long) ≡ first_cause (unread_prefix ls ∷ no_such ls (RenameTarget o n) ∷ prefix_led ls (RenameTarget o n) ∷ taken ls (RenameTarget o n) ∷ long ∷ [])
 only-these t ls o n long =
     let e = RenameTarget o n in
-    let last = long ∷ [] in
+    let last = long ∷ None ∷ [] in
+    let end = long ∷ [] in
     let others = shared_rule ls e ∷ straddles ls e ∷ open_value ls e ∷ open_line ls e ∷ open_define ls e ∷ leaning ls e ∷ last in
     let from_taken = absent ls e ∷ already ls e ∷ taken ls e ∷ others in
-    after-cause (unread_prefix ls) (no_such ls e ∷ ambiguous ls e ∷ prefix_led ls e ∷ from_taken) (no_such ls e ∷ prefix_led ls e ∷ taken ls e ∷ last)
-    (after-cause (no_such ls e) (ambiguous ls e ∷ prefix_led ls e ∷ from_taken) (prefix_led ls e ∷ taken ls e ∷ last)
-    (after-cause (prefix_led ls e) from_taken (taken ls e ∷ last) (after-cause (taken ls e) others last refl)))
+    after-cause (unread_prefix ls) (no_such ls e ∷ ambiguous ls e ∷ prefix_led ls e ∷ from_taken) (no_such ls e ∷ prefix_led ls e ∷ taken ls e ∷ end)
+    (after-cause (no_such ls e) (ambiguous ls e ∷ prefix_led ls e ∷ from_taken) (prefix_led ls e ∷ taken ls e ∷ end)
+    (after-cause (prefix_led ls e) from_taken (taken ls e ∷ end) (after-cause (taken ls e) others end (after-cause long (None ∷ []) [] refl))))
 
 -- if the fields of a rename are not bad, the first cause is one of five
 causes-are : (t : List ℕ) (ls : List ClassedLine) (o n : List ℕ) (l g : Bool) → bad_argument (RenameTarget o n) ≡ None → reserved (RenameTarget o n) ≡ None

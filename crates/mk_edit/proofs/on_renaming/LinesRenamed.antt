@@ -26,7 +26,7 @@ use Rattle.mk_edit_parts.specs.WordCuts.{last_end}
 -- ---- ranges that stand apart
 
 -- ranges stand apart if their replacements rise
-apart-rise : (a b : ℕ) (n : List ℕ) (ss : List Span) → Rise a b (replacing n ss) → AreApart a b ss
+pub apart-rise : (a b : ℕ) (n : List ℕ) (ss : List Span) → Rise a b (replacing n ss) → AreApart a b ss
 apart-rise a b n [] h = h
 apart-rise a b n (s ∷ ss) h = (h.0, h.1, apart-rise s.end b n ss h.2)
 
@@ -36,7 +36,7 @@ apart-bytes a b [] h = omega (arith, h)
 apart-bytes a b (s ∷ ss) h = omega (arith, h.0, h.1, apart-bytes s.end b ss h.2)
 
 -- a text from an offset on with a text for each of them is the text with the replacements made
-written-replaced : (l : List ℕ) (at : ℕ) (n : List ℕ) (ss : List Span) → AreApart at (length l) ss → written l at n ss ++ drop (last_end at ss) l ≡ replaced at (drop at l) (replacing n ss)
+pub written-replaced : (l : List ℕ) (at : ℕ) (n : List ℕ) (ss : List Span) → AreApart at (length l) ss → written l at n ss ++ drop (last_end at ss) l ≡ replaced at (drop at l) (replacing n ss)
 written-replaced l at n [] h = refl
 written-replaced l at n (s ∷ ss) h =
     let S = slice_range l at s.start in
@@ -86,11 +86,11 @@ renamed-length o n l h = omega (arith, written-length l.bytes 0 n (renamed_range
 
 -- ---- which lines hold a word
 
-replacing-number : (n : List ℕ) (ss : List Span) → length (replacing n ss) ≡ length ss
+pub replacing-number : (n : List ℕ) (ss : List Span) → length (replacing n ss) ≡ length ss
 replacing-number n [] = refl
 replacing-number n (s ∷ ss) = omega (arith, replacing-number n ss)
 
-replaced-some : (at : ℕ) (ps : List Piece) → nat_lt 0 (length (replacements at ps)) ≡ list_any is_replaced ps
+pub replaced-some : (at : ℕ) (ps : List Piece) → nat_lt 0 (length (replacements at ps)) ≡ list_any is_replaced ps
 replaced-some at [] = refl
 replaced-some at (Keep cs ∷ ps) = replaced-some (at + length (raw_text cs)) ps
 replaced-some at (Replace cs v ∷ ps) = lt-ltb 0 (length (replacements at (Replace cs v ∷ ps))) (omega arith)

@@ -29,12 +29,12 @@ put-append (r ∷ a) b = omega (arith, put-append a b)
 
 -- ---- it is the same wherever the pieces begin
 
-taken-moved : (at to : ℕ) (ps : List Piece) → bytes_taken (replacements at ps) ≡ bytes_taken (replacements to ps)
+pub taken-moved : (at to : ℕ) (ps : List Piece) → bytes_taken (replacements at ps) ≡ bytes_taken (replacements to ps)
 taken-moved at to [] = refl
 taken-moved at to (Keep cs ∷ ps) = taken-moved (at + length (raw_text cs)) (to + length (raw_text cs)) ps
 taken-moved at to (Replace cs v ∷ ps) = omega (arith, taken-moved (at + length (raw_text cs)) (to + length (raw_text cs)) ps)
 
-put-moved : (at to : ℕ) (ps : List Piece) → bytes_put (replacements at ps) ≡ bytes_put (replacements to ps)
+pub put-moved : (at to : ℕ) (ps : List Piece) → bytes_put (replacements at ps) ≡ bytes_put (replacements to ps)
 put-moved at to [] = refl
 put-moved at to (Keep cs ∷ ps) = put-moved (at + length (raw_text cs)) (to + length (raw_text cs)) ps
 put-moved at to (Replace cs v ∷ ps) = ap (λ z. length v + z) (put-moved (at + length (raw_text cs)) (to + length (raw_text cs)) ps)

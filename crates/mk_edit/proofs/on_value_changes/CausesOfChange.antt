@@ -1,5 +1,5 @@
 -- The causes of refusal of a change of values, by what the code finds among the lines of a document.
-use Rattle.std.proofs.Common.{◌≡◌, refl, sym, ap, ◌∙◌, ℕ, ◌+◌, ◌*◌, ◌≤◌, arith, Bool, false, not, List, [], ◌∷◌, length, filter, Option, Some, None}
+use Rattle.std.proofs.Common.{◌≡◌, refl, sym, ap, ◌∙◌, ℕ, ◌+◌, ◌*◌, ◌≤◌, arith, Bool, false, not, List, [], ◌∷◌, ◌++◌, length, filter, Option, Some, None}
 use Rattle.std.specs.Prelude.{nat_lt, ◌&&◌}
 use Rattle.std.specs.List.{list_any}
 use Rattle.mk_lines.specs.Limits.{max_text}
@@ -27,6 +27,7 @@ use Rattle.mk_edit_parts.proofs.on_finding.SeekLemmas.{any-told, unread-told}
 use Rattle.mk_edit.specs.ChangeValuesSurveys.{findings_on, first_of_findings, first_said, idle, nothing_found}
 use Rattle.mk_edit.specs.ValueChangeLines.{is_changed_located, put_by}
 use Rattle.mk_edit.specs.declared.change_values_survey.Findings.{Findings}
+use Rattle.mk_edit.proofs.on_plans.CausePlans.{last-none}
 use Rattle.mk_edit.proofs.on_renaming.CausesOfRenameTarget.{after-cause}
 use Rattle.mk_edit.proofs.on_value_changes.LinesTold.{changed-told, opened-told}
 use Rattle.mk_edit.proofs.on_value_changes.SizesOfChanges.{change-long, found-lines, found-open, found-spared, found-there, found-unread, is_long, is_opened, none-pass, spared_in}
@@ -70,13 +71,13 @@ causes-are : (t : List ℕ) (ls : List ClassedLine) (n : List ℕ) (c : ValueCha
 causes-are t ls n c i g b r j k =
     let e = ChangeValue Every n c in
     let long = too_long t (spans_of t ls e) in
-    let tail = from_absent ls e long in
+    let tail = from_absent ls e long ++ None ∷ [] in
     let short = idle_cause ls Every n c ∷ open_value ls e ∷ long ∷ [] in
     let whole : Option Refusal → Option Refusal → Option Refusal = λ y z. first_cause (unread_prefix ls ∷ no_such ls e ∷ y ∷ open_value ls e ∷ z ∷ []) in
     passed (bad_argument e) _ (whole i (where_holds g TooLong)) b
     (passed (reserved e) _ (whole i (where_holds g TooLong)) r
     (after-cause (unread_prefix ls) (no_such ls e ∷ ambiguous ls e ∷ prefix_led ls e ∷ tail) (no_such ls e ∷ short)
-    (after-cause (no_such ls e) (ambiguous ls e ∷ prefix_led ls e ∷ tail) short (few-own ls Every n c long))
+    (after-cause (no_such ls e) (ambiguous ls e ∷ prefix_led ls e ∷ tail) short (last-none (from_absent ls e long) None refl ∙ few-own ls Every n c long))
     ∙ (ap (λ z. whole z long) j ∙ ap (whole i) k)))
 
 -- ---- by what is found

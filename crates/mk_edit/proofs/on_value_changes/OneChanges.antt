@@ -140,7 +140,7 @@ module _ (ls : List LocatedLine) (nth : Option ℕ) (n : List ℕ) (c : ValueCha
       let long = too_long text (spans_of text lines edit) in
       let g = where_holds (nat_lt (max_text + spared_by c l) (size_of ls + put_by c)) TooLong in
       let own : first_cause (causes text lines edit) ≡ first_cause (i ∷ o ∷ g ∷ []) =
-      addressed-own edit ls f (first_cause (i ∷ o ∷ g ∷ [])) A
+      addressed-own edit ls f (first_cause (i ∷ o ∷ g ∷ [])) A refl
       (few-own lines (One nth) n c long
       ∙ (ap (λ z. first_cause (z ∷ open_value lines edit ∷ long ∷ [])) idle-is
       ∙ (ap (λ b. first_cause (i ∷ where_holds b OpenValue ∷ long ∷ [])) open-is ∙ ap (λ z. first_cause (i ∷ o ∷ z ∷ [])) (long-is few)))) in

@@ -13,7 +13,7 @@ abbrev shifted : ℕ → List Replacement → List Replacement
 shifted d [] = []
 shifted d (r ∷ rs) = record { start = d + r.start; end = d + r.end; new = r.new } ∷ shifted d rs
 
-replaced-shifted : (d a : ℕ) (t : List ℕ) (rs : List Replacement) → replaced (d + a) t (shifted d rs) ≡ replaced a t rs
+pub replaced-shifted : (d a : ℕ) (t : List ℕ) (rs : List Replacement) → replaced (d + a) t (shifted d rs) ≡ replaced a t rs
 replaced-shifted d a t [] = refl
 replaced-shifted d a t (r ∷ rs) =
     let x : (d + r.start) - (d + a) ≡ r.start - a = omega arith in
@@ -21,7 +21,7 @@ replaced-shifted d a t (r ∷ rs) =
     ap (λ z. take z t ++ (r.new ++ replaced (d + r.end) (drop ((d + r.end) - (d + a)) t) (shifted d rs))) x
     ∙ ap (λ z. take (r.start - a) t ++ (r.new ++ z)) (ap (λ z. replaced (d + r.end) (drop z t) (shifted d rs)) y ∙ replaced-shifted d r.end (drop (r.end - a) t) rs)
 
-replacements-shifted : (d a : ℕ) (ps : List Piece) → replacements (d + a) ps ≡ shifted d (replacements a ps)
+pub replacements-shifted : (d a : ℕ) (ps : List Piece) → replacements (d + a) ps ≡ shifted d (replacements a ps)
 replacements-shifted d a [] = refl
 replacements-shifted d a (Keep cs ∷ ps) =
     let e : d + a + length (raw_text cs) ≡ d + (a + length (raw_text cs)) = omega arith in

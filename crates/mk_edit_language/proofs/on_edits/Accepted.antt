@@ -11,7 +11,7 @@ use Rattle.mk_edit_language.specs.Causes.{where_holds}
 use Rattle.mk_edit_language.specs.ArgumentCauses.{FieldTest, Tested, first_failed, bad_argument, reserved}
 use Rattle.mk_edit_language.specs.AddressCauses.{unread_prefix, no_such, ambiguous, prefix_led, is_missing, is_several}
 use Rattle.mk_edit_language.specs.RuleCauses.{absent, already, taken, shared_rule, straddles}
-use Rattle.mk_edit_language.specs.LineCauses.{open_value, open_line, open_define, leaning, too_long}
+use Rattle.mk_edit_language.specs.LineCauses.{open_value, open_line, open_define, leaning, too_long, misread}
 use Rattle.mk_edit_language.specs.Refusals.{first_cause, unless_refused, causes, spans}
 use Rattle.mk_edit_language.specs.declared.refusal.Field.{Field}
 use Rattle.mk_edit_language.specs.declared.refusal.Refusal.{Refusal}
@@ -47,6 +47,7 @@ pub record IsAccepted (t : List ℕ) (e : Edit) (rs : List Replacement) : Type 0
   pub define_closed : open_define (classed_lines t) e ≡ None
   pub not_leaning : leaning (classed_lines t) e ≡ None
   pub not_long : too_long t (spans_of t (classed_lines t) e) ≡ None
+  pub not_misread : misread (classed_lines t) e ≡ None
   pub spans_are : spans_of t (classed_lines t) e ≡ rs
 
 -- no cause of an edit with spans holds
@@ -70,6 +71,7 @@ accepted t e rs h =
     let p = none-first (open_define ls e) _ o.1 in
     let q = none-first (leaning ls e) _ p.1 in
     let r = none-first (too_long t (spans_of t ls e)) _ q.1 in
+    let v = none-first (misread ls e) _ r.1 in
     record {
       arguments = a.0;
       not_reserved = b.0;
@@ -87,6 +89,7 @@ accepted t e rs h =
       define_closed = p.0;
       not_leaning = q.0;
       not_long = r.0;
+      not_misread = v.0;
       spans_are = u.1;
     }
 

@@ -6,7 +6,7 @@ use Rattle.mk_class.specs.ClassedLines.{ClassedLine}
 use Rattle.mk_tree.specs.RecipeLines.{recipe_run, after_recipe}
 use Rattle.mk_tree.proofs.on_changes.RecipeRunLemmas.{recipe_run-after}
 use Rattle.mk_tree.specs.LineTexts.{StandingLine}
-use Rattle.mk_edit_language.specs.Edits.{Place, Bottom, BeforeVar, AfterVar, BeforeRule, One, Every, ByNumber, RecipePlace, Last, At, Removal, OfAssign, OfRule, OfRecipe, Edit, ChangeValue, ChangePrereqs, AddLine, AddRecipe, SetRecipe, RemoveLines, RenameTarget}
+use Rattle.mk_edit_language.specs.Edits.{Place, Bottom, BeforeVar, AfterVar, BeforeRule, One, Every, ByNumber, RecipePlace, Last, At, Removal, OfAssign, OfRule, OfRecipe, Edit, ChangeValue, ChangeLine, ChangePrereqs, AddLine, AddRecipe, SetRecipe, RemoveLines, RenameTarget}
 use Rattle.mk_edit_language.specs.Spots.{nth_of}
 use Rattle.mk_edit_language.specs.Addresses.{Address, Variable, Rule, assigns, is_rule_for, found}
 use Rattle.mk_edit_language.specs.Stretches.{Stretch, this_line, before_line, after_line, bottom, whole_rule, after_rule, between, recipe_spots, recipe_gap, recipe_place, recipe_found, place_found, removed, touched_by, IsStretchOf}
@@ -81,6 +81,7 @@ removed-stretch ls (OfRecipe nth g w) s h = mapped (IsStretchOf ls) this_line (r
 -- the lines that an edit touches
 pub touched-stretch : (ls : List ClassedLine) (e : Edit) (s : Stretch) → touched_by ls e ≡ Some s → IsStretchOf ls s
 touched-stretch ls (ChangeValue (One nth) n c) s h = mapped (IsStretchOf ls) this_line (found ls (Variable nth n)) (λ x i. found-spot ls (Variable nth n) x i) s h
+touched-stretch ls (ChangeLine nth n c) s h = mapped (IsStretchOf ls) this_line (found ls (Variable nth n)) (λ x i. found-spot ls (Variable nth n) x i) s h
 touched-stretch ls (ChangePrereqs nth g c) s h = mapped (IsStretchOf ls) this_line (found ls (Rule nth g)) (λ x i. found-spot ls (Rule nth g) x i) s h
 touched-stretch ls (AddLine p l) s h = mapped (IsStretchOf ls) between (place_found ls p) (λ x i. place-gap ls p x i) s h
 touched-stretch ls (AddRecipe nth g p c) s h = mapped (IsStretchOf ls) between (recipe_place ls nth g p) (λ x i. recipe_place-gap ls nth g p x i) s h

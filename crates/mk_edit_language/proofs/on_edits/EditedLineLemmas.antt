@@ -17,7 +17,7 @@ use Rattle.mk_tree.specs.LineTexts.{line_in}
 use Rattle.mk_tree.specs.NewLineEnds.{above_ended}
 use Rattle.mk_edit_language.specs.NewLines.{assign_text}
 use Rattle.mk_tree.proofs.on_documents.LinesInText.{line-in_text}
-use Rattle.mk_edit_language.specs.Edits.{NewAssign, Every, Place, Edit, ChangeValue, ChangePrereqs, AddLine, AddRecipe, SetRecipe, RemoveLines, RenameTarget}
+use Rattle.mk_edit_language.specs.Edits.{NewAssign, Every, Place, Edit, ChangeValue, ChangeLine, ChangePrereqs, AddLine, AddRecipe, SetRecipe, RemoveLines, RenameTarget}
 use Rattle.mk_edit_language.specs.Stretches.{Stretch, between, place_found, insertion, removal, touched_by}
 use Rattle.mk_edit_language.specs.KeptLines.{IsOfOnePlace, respanned_bytes, edited_bytes, edited_lines, above_after}
 use Rattle.mk_edit_language.specs.Refusals.{spans, text_after}
@@ -83,6 +83,7 @@ taken-out t e rs s p h b =
 pub removed-lines : (e : Edit) (t : List ℕ) (rs : List Replacement) (s : Stretch) → spans t e ≡ Ok rs → removal (classed_lines t) e ≡ Some s → classed_lines (text_after t e) ≡ s.above ++ s.below
 removed-lines (RemoveLines r) t rs s h k = taken-out t (RemoveLines r) rs s k h refl
 removed-lines (ChangeValue w n c) t rs s h k = absurd (cc)
+removed-lines (ChangeLine nth n c) t rs s h k = absurd (cc)
 removed-lines (ChangePrereqs nth g c) t rs s h k = absurd (cc)
 removed-lines (AddLine p l) t rs s h k = absurd (cc)
 removed-lines (AddRecipe nth g p c) t rs s h k = absurd (cc)

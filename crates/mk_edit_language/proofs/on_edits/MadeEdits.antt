@@ -1,26 +1,31 @@
 -- Each accepted edit of one place: what it leaves, and what the text after it reads as.
-use Rattle.std.proofs.Common.{◌≡◌, refl, sym, ap, ◌∙◌, subst, arith, ℕ, List, [], ◌∷◌, ◌++◌, Bool, true, false, not, length, Option, Some, None, option_map}
+use Rattle.std.proofs.Common.{◌≡◌, refl, sym, ap, ◌∙◌, subst, arith, ℕ, List, [], ◌∷◌, ◌++◌, Bool, true, false, not, ◌&&◌, length, ◌+◌, Option, Some, None, option_map}
+use Rattle.std.proofs.lemmas.Bool.{and_parts, not-false}
 use Rattle.std.specs.Prelude.{Ok}
 use Rattle.mk_lines.specs.Cells.{Cell}
 use Rattle.mk_lines.specs.Pieces.{Replacement, replacements, replaced}
+use Rattle.mk_class.specs.Assignments.{Assignment}
 use Rattle.mk_class.specs.Headers
 use Rattle.mk_class.specs.Arguments.{is_command, is_target, is_word}
 use Rattle.mk_class.specs.Classes.{Class, is_conditional}
 use Rattle.mk_class.specs.ClassedLines.{ClassedLine, classed_lines}
-use Rattle.mk_tree.specs.Documents.{text_of}
-use Rattle.mk_tree.specs.Items.{Recipe, header_item}
+use Rattle.mk_class.specs.ClassTable.{class_of}
+use Rattle.mk_tree.specs.Documents.{text_of, context_of}
+use Rattle.mk_tree.specs.Items.{Assign as AssignItem, Recipe, header_item}
 use Rattle.mk_tree.specs.LineTexts.{StandingLine}
-use Rattle.mk_edit_language.specs.Edits.{Place, NewLine, NewAssign, NewRule, One, Every, ValueChange, PrereqChange, AddPrereq, RemovePrereq, RecipeLine, ByNumber, ByText, RecipePlace, Removal, Edit, ChangeValue, ChangePrereqs, AddLine, AddRecipe, SetRecipe, RemoveLines, RenameTarget}
+use Rattle.mk_edit_language.specs.Edits.{Place, NewLine, NewAssign, NewRule, One, Every, ValueChange, LineChange, PrereqChange, AddPrereq, RemovePrereq, RecipeLine, ByNumber, ByText, RecipePlace, Removal, Edit, ChangeValue, ChangeLine, ChangePrereqs, AddLine, AddRecipe, SetRecipe, RemoveLines, RenameTarget}
 use Rattle.mk_edit_language.specs.Stretches.{Stretch, this_line}
 use Rattle.mk_edit_language.specs.ValueChanges.{assignment_spans, value_spans, change_spans}
+use Rattle.mk_edit_language.specs.LineChanges.{line_pieces, line_change_spans, assigned_after, line_after, fits_line, reads_as, is_misread}
 use Rattle.mk_edit_language.specs.NewLines.{new_line_span}
 use Rattle.mk_edit_language.specs.EditSpans.{removed_span, recipe_span, word_spans, prereq_pieces, where_found}
 use Rattle.mk_edit_language.specs.ArgumentCauses.{Tested, recipe_tests, first_failed, bad_argument}
 use Rattle.mk_edit_language.specs.RuleCauses.{class_found}
-use Rattle.mk_edit_language.specs.LineCauses.{is_open_to, removal_leans}
+use Rattle.mk_edit_language.specs.LineCauses.{is_open_to, removal_leans, is_found_misread}
 use Rattle.mk_edit_language.specs.Refusals.{spans}
-use Rattle.mk_edit_language.specs.Changes.{item_with_value, value_item, value_changed, with_value, with_header, with_prereqs, with_items, new_item, change}
+use Rattle.mk_edit_language.specs.Changes.{item_with_value, value_item, value_changed, with_value, line_item, with_line_changed, with_header, with_prereqs, with_items, new_item, change}
 use Rattle.mk_edit_language.specs.KeptLines.{IsOfOnePlace}
+use Rattle.mk_edit_language.specs.RisingSpans.{Rise}
 use Rattle.mk_edit_language.proofs.on_edits.Accepted.{IsAccepted, accepted, where_holds-none, first-passed, two-passed}
 use Rattle.mk_edit_language.proofs.on_edits.MadeLines.{IsMade, replaced-made, removed-made, added-made}
 use Rattle.mk_edit_language.proofs.on_lines.SpotLemmas.{recipe-found, recipe-class, rule-found}
@@ -28,6 +33,9 @@ use Rattle.mk_edit_language.proofs.on_lines.LineReplaced.{IsLineReplaced, replac
 use Rattle.mk_edit_language.proofs.on_values.FoundAssignments.{assignment-found}
 use Rattle.mk_edit_language.proofs.on_values.SetValueLemmas.{not_prefix}
 use Rattle.mk_edit_language.proofs.on_changes.AssignmentsChanged.{change-text, assignment-changed}
+use Rattle.mk_edit_language.proofs.on_changes.SpansShifted.{replacements-shifted, replaced-shifted}
+use Rattle.mk_edit_language.proofs.on_changes.LinesReadAnew.{line-read_anew}
+use Rattle.mk_edit_language.proofs.on_edits.SpansRise.{spot-rises, rise-values, line_change-rises}
 use Rattle.mk_edit_language.proofs.on_prerequisites.NewWords.{word-is_new}
 use Rattle.mk_edit_language.proofs.on_prerequisites.HeaderEdits.{word_spans-header, with_header-header}
 use Rattle.mk_edit_language.proofs.on_prerequisites.AddPrereqLemmas.{add_prereq-line}
@@ -61,6 +69,39 @@ value-made nth n c t rs h =
     ap (where_found (with_value (value_changed t c))) F.found_is ∙ ap (λ (z : Class Cell). with_items (value_item (value_changed t c) at z) (this_line s)) F.class_is in
     replaced-made t e rs s i h (ap (option_map this_line) F.found_is)
     (replaced-same _ _ s.above s.below i i (ap (replaced 0 t) spans_are) refl (assignment-changed c t s.above s.line s.below F.assigned F.whole F.class_is F.no_prefix (change-text (One nth) n c A.arguments) here))
+    changed refl refl (omega arith) (omega arith) (plain-class s.line.class k F.class_is refl)
+
+-- a line with its spans replaced does not depend on the offset where it begins
+pub line_change-by_itself : (c : LineChange) (at : ℕ) (a : Assignment Cell) (l : List ℕ) → replaced at l (line_change_spans c at a) ≡ line_after c l a
+line_change-by_itself c at a l =
+    let e : at + 0 ≡ at = omega arith in
+    ap (λ z. replaced z l (line_change_spans c z a)) (sym e) ∙ (ap (replaced (at + 0) l) (replacements-shifted at 0 (line_pieces c a)) ∙ replaced-shifted at 0 l (line_change_spans c 0 a))
+
+-- a line that is checked by reading
+line-made : (nth : Option ℕ) (n : List ℕ) (c : LineChange) (t : List ℕ) (rs : List Replacement) → spans t (ChangeLine nth n c) ≡ Ok rs → IsMade t (ChangeLine nth n c) rs
+line-made nth n c t rs h =
+    let e = ChangeLine nth n c in
+    let A = accepted t e rs h in
+    let F = assignment-found t n nth (where_holds-none _ _ A.is_there) (where_holds-none _ _ A.is_one) (not_prefix n A.not_reserved) in
+    let s = F.spot in
+    let at = length (text_of s.above) in
+    let a = F.assigned in
+    let k = Class.Assign a None in
+    let m = line_after c s.line.bytes a in
+    let found_read : is_misread c (context_of s.above) s.line.bytes s.line.class ≡ false = subst (λ (o : Option StandingLine). is_found_misread c o ≡ false) F.found_is (where_holds-none _ _ A.not_misread) in
+    let read : is_misread c (context_of s.above) s.line.bytes k ≡ false = subst (λ (z : Class Cell). is_misread c (context_of s.above) s.line.bytes z ≡ false) F.class_is found_read in
+    let R = and_parts (fits_line s.line.bytes m) (reads_as (assigned_after c a) (class_of (context_of s.above) m)) (not-false (fits_line s.line.bytes m && reads_as (assigned_after c a) (class_of (context_of s.above) m)) read) in
+    let found_spans : assignment_spans (line_change_spans c) at s.line.class ≡ rs = subst (λ (o : Option StandingLine). where_found (value_spans (line_change_spans c)) o ≡ rs) F.found_is A.spans_are in
+    let class_spans : assignment_spans (line_change_spans c) at s.line.class ≡ line_change_spans c at a = ap (assignment_spans (line_change_spans c) at) F.class_is in
+    let spans_are : line_change_spans c at a ≡ rs = sym class_spans ∙ found_spans in
+    let rise : Rise at (at + length s.line.bytes) (line_change_spans c at a) =
+    subst (Rise at (at + length s.line.bytes)) class_spans (spot-rises t s (assignment_spans (line_change_spans c)) F.whole (rise-values (line_change_spans c) (line_change-rises c))) in
+    let i = AssignItem (assigned_after c a) in
+    let changed : change t e ≡ with_items (i ∷ []) (this_line s) =
+    ap (where_found (with_line_changed c)) F.found_is ∙ ap (λ (z : Class Cell). with_items (line_item c z) (this_line s)) F.class_is in
+    replaced-made t e rs s i h (ap (option_map this_line) F.found_is)
+    (replaced-same _ _ s.above s.below i i (ap (replaced 0 t) spans_are) refl
+    (line-read_anew t s.above s.line s.below a (line_change_spans c at a) m (assigned_after c a) F.whole F.class_is rise (line_change-by_itself c at a s.line.bytes) R.0 R.1))
     changed refl refl (omega arith) (omega arith) (plain-class s.line.class k F.class_is refl)
 
 -- the prerequisites of a rule changed
@@ -133,6 +174,7 @@ add_recipe-made nth g p c t rs h =
 -- each edit of one place
 pub one_place-made : (e : Edit) → IsOfOnePlace e → (t : List ℕ) (rs : List Replacement) → spans t e ≡ Ok rs → IsMade t e rs
 one_place-made (ChangeValue (One nth) n c) p t rs h = value-made nth n c t rs h
+one_place-made (ChangeLine nth n c) p t rs h = line-made nth n c t rs h
 one_place-made (ChangePrereqs nth g c) p t rs h = prereqs-made nth g c t rs h
 one_place-made (AddLine q l) p t rs h = add_line-made q l t rs h
 one_place-made (AddRecipe nth g q c) p t rs h = add_recipe-made nth g q c t rs h

@@ -1,19 +1,21 @@
 -- The spans of each edit rise within the text and do not overlap.
-use Rattle.std.proofs.Common.{◌≡◌, refl, sym, ap, ◌∙◌, subst, arith, ℕ, List, [], ◌∷◌, ◌++◌, Bool, true, false, cond, length, length-append, append_assoc, ◌+◌, ◌≤◌, Option, Some, None, option_map}
+use Rattle.std.proofs.Common.{◌≡◌, refl, sym, ap, ◌∙◌, subst, arith, ℕ, zero, suc, List, [], ◌∷◌, ◌++◌, Bool, true, false, cond, take, drop, length, length-append, append_assoc, ◌+◌, ◌-◌, ◌≤◌, Option, Some, None, option_map}
 use Rattle.std.proofs.lemmas.Bool.{eqb-true}
-use Rattle.std.proofs.lemmas.List.{append-nil}
+use Rattle.std.proofs.lemmas.List.{append-nil, take-append-drop}
 use Rattle.std.specs.Prelude.{Ok, codes}
-use Rattle.mk_lines.specs.Lists.{concat, trim_end, trailing}
+use Rattle.mk_lines.specs.Lists.{concat, leading, trim_end, trailing}
 use Rattle.mk_lines.specs.PhysicalLines.{line_end, line_end_bytes, without_line_end}
 use Rattle.mk_lines.proofs.on_lines.LineEndLemmas.{without_line_end-line_end}
-use Rattle.mk_lines.proofs.on_lists.ListLemmas.{concat-append, trim_end-trailing}
-use Rattle.mk_lines.specs.Cells.{Cell, joined_byte, raw_text}
+use Rattle.mk_lines.proofs.on_lists.ListLemmas.{concat-append, leading-after_leading, trim_end-trailing}
+use Rattle.mk_lines.specs.Cells.{Cell, joined_byte, raw_bytes, raw_text}
+use Rattle.mk_lines.proofs.on_cells.CellLemmas.{raw_text-append}
 use Rattle.mk_lines.specs.Words.{Token, Gap, Word, tokens, token_units, is_gap}
 use Rattle.mk_lines.proofs.on_units.TokenLemmas.{token_text-tokens, token_units-tokens}
-use Rattle.mk_lines.specs.Pieces.{Replacement, Piece, old_cells, old_bytes, replacements}
+use Rattle.mk_lines.specs.Pieces.{Replacement, Piece, Keep, Replace, old_cells, old_bytes, replacements}
 use Rattle.mk_lines.proofs.on_lists.PieceLemmas.{raw_text-old_cells, old_bytes-append}
 use Rattle.mk_class.specs.ListTests.{is_empty}
-use Rattle.mk_class.specs.Assignments.{Assignment, before_value}
+use Rattle.mk_class.specs.Assignments.{Assignment, operator_length, before_value}
+use Rattle.mk_class.specs.OperatorTexts.{operator_text}
 use Rattle.mk_class.proofs.on_assignments.AssignmentsWhole.{assignment_units}
 use Rattle.mk_class.specs.Headers
 use Rattle.mk_class.specs.Headers.{header_units}
@@ -30,11 +32,12 @@ use Rattle.mk_tree.specs.Documents.{text_of, context_of}
 use Rattle.mk_tree.proofs.on_documents.LinesInText.{line-in_text, run-in_text, AreClassed, AreClassed-class, AreClassed-tail, AreClassed-lines}
 use Rattle.mk_tree.proofs.on_documents.DocumentLemmas.{text_of-classed_lines}
 use Rattle.mk_tree.specs.LineTexts.{StandingLine}
-use Rattle.mk_edit_language.specs.Edits.{ValueChange, Set, Append, Add, Remove, One, Every, PrereqChange, AddPrereq, RemovePrereq, Edit, ChangeValue, ChangePrereqs, AddLine, AddRecipe, SetRecipe, RemoveLines, RenameTarget}
+use Rattle.mk_edit_language.specs.Edits.{ValueChange, Set, Append, Add, Remove, One, Every, LineChange, Prepend, ReplaceWord, Substitute, SetOperator, PrereqChange, AddPrereq, RemovePrereq, Edit, ChangeValue, ChangeLine, ChangePrereqs, AddLine, AddRecipe, SetRecipe, RemoveLines, RenameTarget}
 use Rattle.mk_edit_language.specs.Addresses.{Variable, Rule, found}
 use Rattle.mk_edit_language.specs.Stretches.{Stretch, this_line, between, place_found, recipe_place, recipe_found, touched_by}
 use Rattle.mk_edit_language.specs.NewLines.{new_line_span}
 use Rattle.mk_edit_language.specs.ValueChanges.{value_start, value_spans, set_value_span, append_value_span, assignment_spans, LedWord, led_words_among, led_words, staying, led_units, from_first_word, remove_word_pieces, remove_word_spans, is_class_changed, change_spans, changed_line_spans}
+use Rattle.mk_edit_language.specs.LineChanges.{begins_with, substituted, value_pieces, from_operator, operator_pieces, line_pieces, line_change_spans}
 use Rattle.mk_edit_language.proofs.on_values.RemoveWordLemmas.{remove_word-old}
 use Rattle.mk_edit_language.specs.WordPieces.{add_pieces, remove_pieces, rename_pieces, renamed_pieces, header_pieces, kept, put_last, prerequisite_text, removed_words, renamed_words}
 use Rattle.mk_edit_language.proofs.on_prerequisites.WordsRemoved.{removed-old_cells}
@@ -119,7 +122,7 @@ remove_word-rises w at a n h = go (is_empty (staying w (led_words a.value)))
 abbrev pub RisesInLine : (ℕ → Class Cell → List Replacement) → Type 0
 RisesInLine f = (at n : ℕ) (k : Class Cell) → raw_width (part_units k) ≤ n → Rise at (at + n) (f at k)
 
-rise-values : (f : ℕ → Assignment Cell → List Replacement) → RiseInAssignment f → RisesInLine (assignment_spans f)
+pub rise-values : (f : ℕ → Assignment Cell → List Replacement) → RiseInAssignment f → RisesInLine (assignment_spans f)
 rise-values f g at n (Assign a p) h = g at a n h
 rise-values f g at n Endef h = omega arith
 rise-values f g at n (Body d) h = omega arith
@@ -272,6 +275,70 @@ rise-changed n c at m k h = go (is_class_changed n c k)
     go true = rise-values (change_spans c) (change-rises c) at m k h
     go false = omega arith
 
+-- ---- changes that are checked by reading
+
+-- cells of which some are taken at the front
+taken-width : (n : ℕ) (cs : List Cell) → length (raw_text (take n cs)) + length (raw_text (drop n cs)) ≡ length (raw_text cs)
+taken-width n cs =
+    let e = raw_text-append (take n cs) (drop n cs) in
+    let s : raw_text (take n cs ++ drop n cs) ≡ raw_text cs = ap raw_text (take-append-drop n cs) in
+    sym (length-append (raw_text (take n cs)) (raw_text (drop n cs))) ∙ (sym (ap length e) ∙ ap length s)
+
+-- the occurrences of a text: `taken` cells belong to the last one
+substituted-step : (k : ℕ) (c : Cell) (cs : List Cell) (ps : List Piece) → old_length ps ≤ length (raw_text (drop (k - 1) cs)) → length (raw_text (take k (c ∷ cs)) ++ old_bytes ps) ≤ length (raw_text (c ∷ cs))
+substituted-step zero c cs ps h = omega (arith, h, length-append (raw_bytes c) (raw_text cs))
+substituted-step (suc k) c cs ps h =
+    let e : suc k - 1 ≡ k = omega arith in
+    let r : old_length ps ≤ length (raw_text (drop k cs)) = subst (λ z. old_length ps ≤ length (raw_text (drop z cs))) e h in
+    let x = length-append (raw_bytes c ++ raw_text (take k cs)) (old_bytes ps) in
+    let y = length-append (raw_bytes c) (raw_text (take k cs)) in
+    let z = length-append (raw_bytes c) (raw_text cs) in
+    omega (arith, r, x, y, z, taken-width k cs)
+
+substituted-width : (f v : List ℕ) (n : ℕ) (cs : List Cell) → old_length (substituted f v n cs) ≤ length (raw_text (drop n cs))
+substituted-width f v n [] = omega arith
+substituted-width f v (suc n) (c ∷ cs) = substituted-width f v n cs
+substituted-width f v zero (c ∷ cs) = go (begins_with f (c ∷ cs)) (substituted-width f v (length f - 1) cs) (substituted-width f v zero cs)
+  where
+    go : (b : Bool) → old_length (substituted f v (length f - 1) cs) ≤ length (raw_text (drop (length f - 1) cs)) → old_length (substituted f v zero cs) ≤ length (raw_text cs)
+        → old_length (cond b (Replace (take (length f) (c ∷ cs)) v ∷ substituted f v (length f - 1) cs) (Keep (c ∷ []) ∷ substituted f v zero cs)) ≤ length (raw_text (c ∷ cs))
+    go true h k = substituted-step (length f) c cs (substituted f v (length f - 1) cs) h
+    go false h k =
+        let e = length-append (raw_bytes c) (raw_text cs) in
+        let x = length-append (raw_bytes c ++ []) (old_bytes (substituted f v zero cs)) in
+        let y = length-append (raw_bytes c) [] in
+        omega (arith, e, x, y, k)
+
+value-width : (c : LineChange) (us : List (List Cell)) → old_length (value_pieces c us) ≤ raw_width us
+value-width (Prepend v) us = let e = kept-length us in omega (arith, e)
+value-width (ReplaceWord w v) us = let e = renamed-length w v us in omega (arith, e)
+value-width (Substitute f v) us = substituted-width f v 0 (concat us)
+value-width (SetOperator o) us = let e = kept-length us in omega (arith, e)
+
+operator-width : (c : LineChange) (a : Assignment Cell) → old_length (operator_pieces c a) ≡ raw_width a.operator
+operator-width (SetOperator f) a =
+    let gap = leading (is_gap joined_byte) a.operator in
+    let rest = from_operator a in
+    let n = operator_length a.flavor in
+    let x = old_length-append (kept gap) (Replace (concat (take n rest)) (operator_text f) ∷ kept (drop n rest)) in
+    let y = length-append (raw_text (concat (take n rest))) (old_bytes (kept (drop n rest))) in
+    let z : raw_width rest ≡ raw_width (take n rest) + raw_width (drop n rest) = sym (ap raw_width (take-append-drop n rest)) ∙ raw_width-append (take n rest) (drop n rest) in
+    let w : raw_width a.operator ≡ raw_width gap + raw_width rest = sym (ap raw_width (leading-after_leading (is_gap joined_byte) a.operator)) ∙ raw_width-append gap rest in
+    omega (arith, x, y, z, w, kept-length gap, kept-length (drop n rest))
+operator-width (Prepend v) a = kept-length a.operator
+operator-width (ReplaceWord w v) a = kept-length a.operator
+operator-width (Substitute f v) a = kept-length a.operator
+
+pub line_change-rises : (c : LineChange) → RiseInAssignment (line_change_spans c)
+line_change-rises c at a n h =
+    let ps = line_pieces c a in
+    let x = old_length-append (kept (a.before ++ a.name)) (operator_pieces c a ++ value_pieces c a.value) in
+    let y = old_length-append (operator_pieces c a) (value_pieces c a.value) in
+    let b : raw_width (before_value a) ≡ raw_width (a.before ++ a.name) + raw_width a.operator =
+    ap raw_width (sym (append_assoc a.before a.name a.operator)) ∙ raw_width-append (a.before ++ a.name) a.operator in
+    let most : at + old_length ps ≤ at + n = omega (arith, x, y, b, kept-length (a.before ++ a.name), operator-width c a, value-width c a.value, assignment-length a, h) in
+    Rise-until at (at + old_length ps) (at + n) (replacements at ps) (Rise-pieces at ps) most
+
 -- ---- several lines
 
 -- spans that rise within each line of some, in one that has a class of its own
@@ -338,6 +405,10 @@ spans-within t (ChangeValue (One nth) n c) s h =
     let a = Variable nth n in
     within-found (value_spans (change_spans c)) this_line (found (classed_lines t) a)
     (λ x i. within-line x (value_spans (change_spans c) x) (spot-rises t x (assignment_spans (change_spans c)) (found-spot (classed_lines t) a x i) (rise-values (change_spans c) (change-rises c)))) s h
+spans-within t (ChangeLine nth n c) s h =
+    let a = Variable nth n in
+    within-found (value_spans (line_change_spans c)) this_line (found (classed_lines t) a)
+    (λ x i. within-line x (value_spans (line_change_spans c) x) (spot-rises t x (assignment_spans (line_change_spans c)) (found-spot (classed_lines t) a x i) (rise-values (line_change_spans c) (line_change-rises c)))) s h
 spans-within t (ChangePrereqs nth g c) s h =
     let a = Rule nth g in
     within-found (word_spans (prereq_pieces c)) this_line (found (classed_lines t) a)
@@ -375,6 +446,7 @@ rise-one_place t e none = go (touched_by (classed_lines t) e) refl
 -- the spans of each edit rise within the text
 pub spans-rise : (t : List ℕ) (e : Edit) → Rise 0 (length t) (spans_of t (classed_lines t) e)
 spans-rise t (ChangeValue (One nth) n c) = rise-one_place t (ChangeValue (One nth) n c) (no-spans (value_spans (change_spans c)) this_line (found (classed_lines t) (Variable nth n)))
+spans-rise t (ChangeLine nth n c) = rise-one_place t (ChangeLine nth n c) (no-spans (value_spans (line_change_spans c)) this_line (found (classed_lines t) (Variable nth n)))
 spans-rise t (ChangePrereqs nth g c) = rise-one_place t (ChangePrereqs nth g c) (no-spans (word_spans (prereq_pieces c)) this_line (found (classed_lines t) (Rule nth g)))
 spans-rise t (AddLine p l) = rise-one_place t (AddLine p l) (no-spans (new_line_span t (AddLine p l)) between (place_found (classed_lines t) p))
 spans-rise t (AddRecipe nth g p c) = rise-one_place t (AddRecipe nth g p c) (no-spans (new_line_span t (AddRecipe nth g p c)) between (recipe_place (classed_lines t) nth g p))

@@ -6,6 +6,7 @@ ghost use Rattle.mk_edit_language.specs.Numbered.{numbered};
 
 use crate::edit::{Edit, ValueChange};
 use crate::making::place::number_place;
+use mk_class::Flavor;
 use std::alloc::{AllocError, Allocator};
 
 /// Makes edits, in a call each. The calls have the words of scripts, and docs/EDITS.md says what each
@@ -65,6 +66,68 @@ impl<A: Allocator + Copy> Edit<A> {
             nth: None,
             name,
             word,
+        })
+    }
+
+    /// Puts a text before the value of the only assignment of a name: `prepend NAME VALUE`.
+    pub fn prepend(alloc: A, name: &[u8], value: &[u8]) -> Result<Edit<A>, AllocError>
+        ensures { IfOk result (λ e. edit_of e ≡ edits.ChangeLine None name.now (edits.Prepend value.now)) }
+    {
+        let name = Vec::from_slice(alloc, name)?;
+        let value = Vec::from_slice(alloc, value)?;
+        Ok(Edit::PrependValue {
+            nth: None,
+            name,
+            value,
+        })
+    }
+
+    /// Puts a text in the place of a word of the value of the only assignment of a name:
+    /// `replace NAME WORD VALUE`.
+    pub fn replace_word(
+        alloc: A,
+        name: &[u8],
+        word: &[u8],
+        value: &[u8],
+    ) -> Result<Edit<A>, AllocError>
+        ensures { IfOk result (λ e. edit_of e ≡ edits.ChangeLine None name.now (edits.ReplaceWord word.now value.now)) }
+    {
+        let name = Vec::from_slice(alloc, name)?;
+        let word = Vec::from_slice(alloc, word)?;
+        let value = Vec::from_slice(alloc, value)?;
+        Ok(Edit::ReplaceWord {
+            nth: None,
+            name,
+            word,
+            value,
+        })
+    }
+
+    /// Puts a text in the place of each occurrence of another in the value of the only assignment
+    /// of a name: `subst NAME FROM TO`.
+    pub fn substitute(alloc: A, name: &[u8], from: &[u8], to: &[u8]) -> Result<Edit<A>, AllocError>
+        ensures { IfOk result (λ e. edit_of e ≡ edits.ChangeLine None name.now (edits.Substitute from.now to.now)) }
+    {
+        let name = Vec::from_slice(alloc, name)?;
+        let from = Vec::from_slice(alloc, from)?;
+        let to = Vec::from_slice(alloc, to)?;
+        Ok(Edit::SubstituteValue {
+            nth: None,
+            name,
+            from,
+            to,
+        })
+    }
+
+    /// Gives the only assignment of a name another operator: `operator NAME OP`.
+    pub fn operator(alloc: A, name: &[u8], operator: Flavor) -> Result<Edit<A>, AllocError>
+        ensures { IfOk result (λ e. edit_of e ≡ edits.ChangeLine None name.now (edits.SetOperator operator)) }
+    {
+        let name = Vec::from_slice(alloc, name)?;
+        Ok(Edit::SetOperator {
+            nth: None,
+            name,
+            operator,
         })
     }
 
@@ -310,6 +373,10 @@ pub fn number_edit<A: Allocator>(edit: &mut Edit<A>, number: u32)
         Edit::AppendValue { nth, .. } => *nth = Some(number),
         Edit::AddWord { nth, .. } => *nth = Some(number),
         Edit::RemoveWord { nth, .. } => *nth = Some(number),
+        Edit::PrependValue { nth, .. } => *nth = Some(number),
+        Edit::ReplaceWord { nth, .. } => *nth = Some(number),
+        Edit::SubstituteValue { nth, .. } => *nth = Some(number),
+        Edit::SetOperator { nth, .. } => *nth = Some(number),
         Edit::RemoveAssign { nth, .. } => *nth = Some(number),
         Edit::RemoveRule { nth, .. } => *nth = Some(number),
         Edit::AddPrereq { nth, .. } => *nth = Some(number),

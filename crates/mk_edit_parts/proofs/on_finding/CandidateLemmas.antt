@@ -1,5 +1,5 @@
 -- The lines that assign a variable: what is listed of them is what a walk for any number sees.
-use Rattle.std.proofs.Common.{◌≡◌, refl, sym, ap, ◌∙◌, subst, arith, ℕ, zero, suc, ◌+◌, ◌-◌, ◌==◌, ◌<◌, ◌≤◌, ◌||◌, get_or, if◌then◌else◌, List, [], ◌∷◌, ◌++◌, Bool, true, false, length, length-append, suc-add, Option, Some, None, inl, inr}
+use Rattle.std.proofs.Common.{◌≡◌, refl, sym, ap, ◌∙◌, subst, arith, ℕ, zero, suc, ◌+◌, ◌==◌, ◌<◌, ◌≤◌, ◌||◌, get_or, if◌then◌else◌, List, [], ◌∷◌, ◌++◌, Bool, true, false, length, length-append, suc-add, Option, Some, None, inl, inr}
 use Rattle.std.proofs.lemmas.Bool.{cases_eq, eq-eqb, ne_eqb}
 use Rattle.mk_class.specs.ClassedLines.{classed_lines}
 use Rattle.mk_class.specs.Contexts.{context_after_located}

@@ -5,7 +5,7 @@ use Rattle.std.specs.Prelude.{Err}
 use Rattle.mk_class.specs.Keywords.{is_reserved_word}
 use Rattle.mk_class.specs.RecipePrefix.{is_prefix_name}
 use Rattle.mk_class.specs.ClassedLines.{ClassedLine, classed_lines}
-use Rattle.mk_edit_language.specs.Edits.{One, Every, OfAssign, OfRule, OfRecipe, Edit, ChangeValue, ChangePrereqs, AddLine, AddRecipe, SetRecipe, RemoveLines, RenameTarget}
+use Rattle.mk_edit_language.specs.Edits.{One, Every, OfAssign, OfRule, OfRecipe, Edit, ChangeValue, ChangeLine, ChangePrereqs, AddLine, AddRecipe, SetRecipe, RemoveLines, RenameTarget}
 use Rattle.mk_edit_language.specs.Addresses.{address}
 use Rattle.mk_edit_language.specs.Causes.{where_holds}
 use Rattle.mk_edit_language.specs.ArgumentCauses.{bad_argument, reserved, names, targets}
@@ -28,6 +28,7 @@ unread-holds ls b h = ap (λ z. where_holds z RecipePrefix) (sym h)
 same-no_such : (ls : List ClassedLine) (e : Edit) → IsOfOnePlace e → no_such ls e ≡ no_such_line ls (address e)
 same-no_such ls (ChangeValue (One nth) n c) h = refl
 same-no_such ls (ChangeValue Every n c) h = absurd h
+same-no_such ls (ChangeLine nth n c) h = refl
 same-no_such ls (ChangePrereqs nth g c) h = refl
 same-no_such ls (AddLine p l) h = refl
 same-no_such ls (AddRecipe nth g p c) h = refl

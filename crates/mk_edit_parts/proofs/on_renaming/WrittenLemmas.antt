@@ -1,6 +1,6 @@
 -- What is written of a line with a text for each of some ranges: range by range, part by part, and as replacements.
 use Rattle.std.proofs.Common.{◌≡◌, refl, sym, ap, ◌∙◌, arith, ℕ, ◌≤◌, List, [], ◌∷◌, ◌++◌, drop, length, append_assoc}
-use Rattle.std.specs.Prelude.{slice_range}
+use Rattle.std.specs.Prelude.{slice_range, slice_index_or}
 use Rattle.std.proofs.lemmas.List.{append-nil}
 use Rattle.mk_lines.specs.declared.split.Span.{Span}
 use Rattle.mk_edit_parts.specs.RenamedTexts.{AreApart, written, rewritten}
@@ -31,6 +31,11 @@ apart-left at n (s ∷ a) b h = (h.0, h.1, apart-left s.end n a b h.2)
 apart-right : (at n : ℕ) (a b : List Span) → AreApart at n (a ++ b) → AreApart (last_end at a) n b
 apart-right at n [] b h = h
 apart-right at n (s ∷ a) b h = apart-right s.end n a b h.2
+
+-- the first of some ranges begins within the text
+pub first-apart : (at n : ℕ) (ss : List Span) (d : Span) → AreApart at n ss → 1 ≤ length ss → (slice_index_or ss 0 d).start ≤ n
+first-apart at n [] d h k = absurd (omega (arith, k))
+first-apart at n (s ∷ ss) d h k = let r = apart-rises s.end n ss h.2 in omega (arith, h.1, r.0, r.1)
 
 -- ---- one range more
 

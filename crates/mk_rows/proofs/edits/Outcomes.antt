@@ -10,11 +10,12 @@ use Rattle.mk_class.specs.OperatorTexts.{operator_text}
 use Rattle.mk_tree.specs.Items.{Sets, Item}
 use Rattle.mk_tree.specs.Items.Item.{Assign, TargetAssign, Header, Recipe, Endef, Body, Opaque, DefineHead, If, Else, Endif, Directive, Rough}
 use Rattle.mk_tree.specs.Readings.{reading}
-use Rattle.mk_edit_language.specs.Edits.{Edit}
+use Rattle.mk_edit_language.specs.Edits.{Edit, ChangeLine}
 use Rattle.mk_edit_language.specs.Refusals.{spans}
 use Rattle.mk_edit_language.specs.Costs.{cost, size}
 use Rattle.mk_edit_language.specs.Changes.{change}
 use Rattle.mk_edit_language.specs.declared.refusal.Refusal.{Refusal}
+use Rattle.mk_edit_language.specs.declared.refusal.Refusal.TheVariants.{Misread}
 
 -- bytes that replace those from an offset to another
 abbrev pub span : (start end : ℕ) → (new : List ℕ) → Replacement
@@ -69,16 +70,16 @@ reads_as_changed t e a = is_same_reading (change t e) (reading a)
 
 -- ---- what the rows say
 
--- The text after an edit, or its refusal. `Misread` says that the stated change of the reading is not what the text after
+-- The text after an edit, or its refusal. `ReadsOtherwise` says that the stated change of the reading is not what the text after
 -- the edit reads as, so no row is equal to it.
 pub data Outcome : Type 0 where
   Becomes : (after : List ℕ) → Outcome
   Refused : Refusal → Outcome
-  Misread : Outcome
+  ReadsOtherwise : Outcome
 
 abbrev becomes : (is_read_as_changed : Bool) → (after : List ℕ) → Outcome
 becomes true a = Becomes a
-becomes false a = Misread
+becomes false a = ReadsOtherwise
 
 abbrev outcome_by : (text : List ℕ) → Edit → Result (List Replacement) Refusal → Outcome
 outcome_by t e (Ok rs) = becomes (reads_as_changed t e (replaced 0 t rs)) (replaced 0 t rs)
@@ -88,13 +89,18 @@ abbrev pub outcome : (text : List ℕ) → Edit → Outcome
 outcome t e = outcome_by t e (spans t e)
 
 -- The outcome with the measures of the edit: its cost (how many lines it reads again at most), and, if it is accepted, its size
--- (how many lines it takes out or replaces at most) and its spans.
+-- (how many lines it takes out or replaces at most) and its spans. An edit that is checked by reading reads its line where no
+-- other cause than `Misread` holds: of the others the tables say that no line is read, and the definitions at most one, so
+-- the cost is left out.
 pub data Account : Type 0 where
   Accepted : (cost size : ℕ) → (spans : List Replacement) → Outcome → Account
   NotMade : (cost : ℕ) → Refusal → Account
+  NotTried : Refusal → Account
 
 abbrev account_by : (text : List ℕ) → Edit → Result (List Replacement) Refusal → Account
 account_by t e (Ok rs) = Accepted (cost t e) (size t e) rs (outcome_by t e (Ok rs))
+account_by t (ChangeLine nth n c) (Err Misread) = NotMade (cost t (ChangeLine nth n c)) Misread
+account_by t (ChangeLine nth n c) (Err r) = NotTried r
 account_by t e (Err r) = NotMade (cost t e) r
 
 abbrev pub account : (text : List ℕ) → Edit → Account

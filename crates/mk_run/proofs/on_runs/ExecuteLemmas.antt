@@ -8,7 +8,7 @@ use Rattle.mk_lines.proofs.PrefixLemmas.{AppendsPrefix-front, AppendsPrefix-more
 use Rattle.mk_edit_language.specs.declared.refusal.Refusal.{Refusal}
 use Rattle.mk_history.specs.Machine as machine
 use Rattle.mk_history.specs.Shown.{Shown}
-use Rattle.mk_session.specs.Sessions.{answer, session_refusal}
+use Rattle.mk_session.specs.Sessions.{answer, IsUnrefused, session_refusal}
 use Rattle.mk_script.specs.Scripts.{Step}
 use Rattle.mk_run.specs.Report.{report_line}
 use Rattle.mk_run.specs.ExecutedCommands.{Executed}
@@ -89,13 +89,12 @@ module _ (k : Bool) (earlier : List Step) (c : Step) (later : List Step) (first 
       step = c;
       later = later;
       command = g.command;
-      new = g.after;
       steps_are = refl;
       reached = reached;
       reported = refl;
       tries = subst (λ (t : Shown (List ℕ)). Tries c t g.command) did.shown g.tried;
       takes = g.takes;
-      granted = ap (answer g.command) (sym did.shown) ∙ g.granted;
+      unrefused = subst (λ (t : Shown (List ℕ)). IsUnrefused (answer g.command t)) did.shown g.unrefused;
     };
     is_out = did.reported;
     shown = g.same ∙ did.shown;

@@ -33,11 +33,11 @@ seen s = record { shown = s; rereads = 0 }
 
 call-granted : (c : Command Edit) (x y : Shown (List ℕ)) → answer c x ≡ Ok y → IsCall (c, Granted) (seen x) (seen y)
 unfolding seen
-call-granted c x y h = record { step = h; memory = λ no. absurd (cc); granted_else = λ no. absurd (cc); few_read = omega arith }
+call-granted c x y h = record { step = h; memory = λ no. absurd (cc); unrefused = λ no. absurd (cc); few_read = omega arith }
 
 call-refused : (c : Command Edit) (x : Shown (List ℕ)) (q : machine.Refusal Refusal) → answer c x ≡ Err q → IsCall (c, Refused q) (seen x) (seen x)
 unfolding seen
-call-refused c x q h = record { step = (h, refl); memory = λ no. absurd (cc); granted_else = λ no. absurd (cc); few_read = omega arith }
+call-refused c x q h = record { step = (h, refl); memory = λ no. absurd (cc); unrefused = λ no. absurd (cc); few_read = omega arith }
 
 answered-call : (c : Command Edit) (x : Shown (List ℕ)) (a : Answer) → answer c x ≡ a → IsCall (c, reply_of a) (seen x) (seen (shown_or x a))
 answered-call c x (Ok new) h = call-granted c x new h

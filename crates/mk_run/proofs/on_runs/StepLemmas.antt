@@ -8,7 +8,7 @@ use Rattle.mk_history.specs.Machine as machine
 use Rattle.mk_history.specs.Machine.{Command, Apply}
 use Rattle.mk_history.specs.Shown.{Shown}
 use Rattle.mk_history.specs.CallSteps.{Granted, Refused, NoMemory, IsStep}
-use Rattle.mk_session.specs.Sessions.{Seen, answer, session_refusal}
+use Rattle.mk_session.specs.Sessions.{Seen, answer, IsUnrefused, session_refusal}
 use Rattle.mk_session.specs.Calls.{Reply, IsCall, IsTold, IsAnswered, takes_memory}
 use Rattle.mk_session.proofs.on_sessions.RefusalLemmas.{answer-other}
 use Rattle.mk_script.specs.Scripts.{CommandAt, EditAt, Alone, Tried, chain_of}
@@ -43,20 +43,19 @@ refused-reply c e x y NoMemory told step other = absurd (other told)
 answered-err : (c : Command Edit) (e : Refusal) (x y : Seen) → IsAnswered c (Err e) x y → (e ≡ refusal.NoMemory → ⊥) → IsRefusedCall c e x.shown y.shown
 answered-err c e x y h other = refused-reply c e x y h.reply h.told h.call.step other
 
--- the machine grants a call that takes memory, and nothing changed
-record IsGrantedCall (c : Command Edit) (before after : Shown (List ℕ)) : Type 0 where
-  pub new : Shown (List ℕ)
+-- the machine does not refuse a call that takes memory, but perhaps as Misread, and nothing changed
+record IsShortCall (c : Command Edit) (before after : Shown (List ℕ)) : Type 0 where
   pub takes : takes_memory c ≡ true
-  pub granted : answer c before ≡ Ok new
+  pub unrefused : IsUnrefused (answer c before)
   pub same : after ≡ before
 
-short-reply : (c : Command Edit) (e : Refusal) (x y : Seen) (r : Reply) → IsTold (Err e) r → IsCall (c, r) x y → e ≡ refusal.NoMemory → IsGrantedCall c x.shown y.shown
+short-reply : (c : Command Edit) (e : Refusal) (x y : Seen) (r : Reply) → IsTold (Err e) r → IsCall (c, r) x y → e ≡ refusal.NoMemory → IsShortCall c x.shown y.shown
 short-reply c e x y Granted told call none = absurd told
 short-reply c e x y (Refused q) told call none = absurd (answer-other c x.shown q call.step.0 (sym told ∙ none))
-short-reply c e x y NoMemory told call none = let g = call.granted_else refl in record { new = g.0; takes = call.memory refl; granted = g.1; same = call.step }
+short-reply c e x y NoMemory told call none = record { takes = call.memory refl; unrefused = call.unrefused refl; same = call.step }
 
 -- a call that found no memory
-answered-short : (c : Command Edit) (e : Refusal) (x y : Seen) → IsAnswered c (Err e) x y → e ≡ refusal.NoMemory → IsGrantedCall c x.shown y.shown
+answered-short : (c : Command Edit) (e : Refusal) (x y : Seen) → IsAnswered c (Err e) x y → e ≡ refusal.NoMemory → IsShortCall c x.shown y.shown
 answered-short c e x y h none = short-reply c e x y h.reply h.told h.call none
 
 -- what a command's answer comes to, if its refusal is told
@@ -69,7 +68,7 @@ told-comes end IsTried n c f x y h tried ends = (
       record { cause = r.cause; end_is = ends r.cause r.refused r.told; told = r.told; same = r.same },
   λ none.
       let g = answered-short c f x y h none in
-      record { command = c; after = g.new; tried = tried; takes = g.takes; granted = g.granted; same = g.same },
+      record { command = c; tried = tried; takes = g.takes; unrefused = g.unrefused; same = g.same },
 )
 
 -- a refusal of the machine that is none
@@ -149,6 +148,11 @@ passed-next first others e o left r x y h answered on =
     } in
     (subst (λ (s : Shown (List ℕ)). IsPassedTo first others s o left) (sym m.1) next, m.1)
 
+-- an answer that is no refusal, or Misread, passes no edit over
+unrefused-stays : (a : Result (Shown (List ℕ)) (machine.Refusal Refusal)) → IsUnrefused a → is_passed a ≡ false
+unrefused-stays a (inl (new, granted)) = ap (λ b. is_passed b) granted
+unrefused-stays a (inr misread) = ap (λ b. is_passed b) misread
+
 -- an answer that does not
 stays : (c : Command Edit) (r : Result (Unit {0}) Refusal) (x y : Seen) → IsAnswered c r x y → passes_over r ≡ false → is_passed (answer c x.shown) ≡ false
 stays c (Ok u) x y h off = ap (λ a. is_passed a) (answered-ok c u x y h)
@@ -157,14 +161,14 @@ stays c (Err f) x y h off = go h.reply h.told h.call
     go : (r : Reply) → IsTold (Err f) r → IsCall (c, r) x y → is_passed (answer c x.shown) ≡ false
     go Granted told call = absurd told
     go (Refused q) told call = ap (λ a. is_passed a) call.step.0 ∙ subst (λ g. is_missing g ≡ false) told off
-    go NoMemory told call = ap (λ a. is_passed a) (call.granted_else refl).1
+    go NoMemory told call = unrefused-stays (answer c x.shown) (call.unrefused refl)
 
 comes-to : (end other : StepEnd) (IsTried IsOther : Command Edit → Type 0) (r : Result (Unit {0}) RefusedCommand) (s t : Shown (List ℕ)) → other ≡ end → ((c : Command Edit) → IsTried c → IsOther c)
     → ComesTo end IsTried r s t → ComesTo other IsOther r s t
 comes-to end other IsTried IsOther (Ok u) s t is tries h = is ∙ h
 comes-to end other IsTried IsOther (Err f) s t is tries h = (
   λ no. let r = h.0 no in record { cause = r.cause; end_is = is ∙ r.end_is; told = r.told; same = r.same },
-  λ none. let g = h.1 none in record { command = g.command; after = g.after; tried = tries g.command g.tried; takes = g.takes; granted = g.granted; same = g.same },
+  λ none. let g = h.1 none in record { command = g.command; tried = tries g.command g.tried; takes = g.takes; unrefused = g.unrefused; same = g.same },
 )
 
 -- the answer of an edit that is not passed over ends the chain

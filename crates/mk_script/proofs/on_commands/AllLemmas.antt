@@ -1,5 +1,5 @@
 -- `all` begins the edits of every assignment of a name, and no other command.
-use Rattle.std.proofs.Common.{◌≡◌, ℕ, List, [], ◌∷◌, sym, subst, codes}
+use Rattle.std.proofs.Common.{◌≡◌, ℕ, List, [], ◌∷◌, subst, codes}
 use Rattle.std.specs.Prelude.{Some, option_map}
 use Rattle.mk_edit_language.specs.Edits.{Every, ValueChange, Set, Append, Add, Remove, Edit, ChangeValue}
 use Rattle.mk_history.specs.Machine.{Command, Apply}

@@ -2,13 +2,13 @@
 use Rattle.std.proofs.Common.{◌≡◌, ℕ, ◌≤◌, true, false, List, [], ◌∷◌, ◌++◌, length, refl, ap, ◌∙◌, arith, codes}
 use Rattle.std.specs.Prelude.{Option, Some, None, option_map, option_and_then}
 use Rattle.mk_class.specs.OperatorTexts.{operator_text}
-use Rattle.mk_edit_language.specs.Edits.{Place, Bottom, BeforeVar, AfterVar, BeforeRule, NewLine, NewAssign, NewRule, Which, One, Every, ValueChange, Set, Append, Add, Remove, AddPrereq, RemovePrereq, ByNumber, ByText, Last, At, OfAssign, OfRule, OfRecipe, Edit, ChangeValue, ChangePrereqs, AddLine, AddRecipe, SetRecipe, RemoveLines, RenameTarget}
+use Rattle.mk_edit_language.specs.Edits.{Place, Bottom, BeforeVar, AfterVar, BeforeRule, NewLine, NewAssign, NewRule, One, Every, ValueChange, Set, Append, Add, Remove, LineChange, Prepend, ReplaceWord, Substitute, SetOperator, AddPrereq, RemovePrereq, ByNumber, ByText, Last, At, OfAssign, OfRule, OfRecipe, Edit, ChangeValue, ChangeLine, ChangePrereqs, AddLine, AddRecipe, SetRecipe, RemoveLines, RenameTarget}
 use Rattle.mk_edit_language.specs.NewLines.{rule_separator_text}
 use Rattle.mk_history.specs.Machine.{Command, Apply, Undo, Redo, Begin, End, Cancel}
 use Rattle.mk_script.specs.Lines.{Plain}
 use Rattle.mk_script.specs.Numbers.{number}
-use Rattle.mk_script.specs.CommandTable.{Content, Text, Number, texts, after_nth, place_words, nth_of_place, change_words, command_fields, HaveContents, IsCommand}
-use Rattle.mk_script.specs.WordReading.{named, words, operators, separators}
+use Rattle.mk_script.specs.CommandTable.{Content, Text, Number, texts, after_nth, place_words, nth_of_place, change_words, line_change_words, command_fields, HaveContents, IsCommand}
+use Rattle.mk_script.specs.WordReading.{named, words}
 use Rattle.mk_script.specs.CommandReading.{Texts, worded, new_assign, new_rule, add_line, edit_with, edit_by, edit_after, edit_in, saying_after, saying_in}
 use Rattle.mk_script.specs.declared.table.Word.{Word}
 use Rattle.mk_script.specs.declared.table.Word.TheVariants as word
@@ -76,9 +76,18 @@ all-read name (Append value) = refl
 all-read name (Add x) = refl
 all-read name (Remove x) = refl
 
+line_change-read : (nth : Option ℕ) (name : List ℕ) (change : LineChange) (fields : Texts) → HaveContents fields (after_nth nth (texts (line_change_words name change)))
+    → edit_in fields ≡ Some (ChangeLine nth name change)
+line_change-read nth name (Prepend value) = text-read nth word.Prepend (name ∷ value ∷ []) _ refl (λ fs. refl) refl
+line_change-read nth name (ReplaceWord x value) = text-read nth word.Replace (name ∷ x ∷ value ∷ []) _ refl (λ fs. refl) refl
+line_change-read nth name (Substitute from to) = text-read nth word.Subst (name ∷ from ∷ to ∷ []) _ refl (λ fs. refl) refl
+line_change-read nth name (SetOperator flavor) =
+    text-read nth word.Operator (name ∷ operator_text flavor ∷ []) _ refl (λ fs. refl) (ap (λ o. option_map (λ f. ChangeLine nth name (SetOperator f)) o) (operator-named flavor))
+
 pub edit-read : (fields : Texts) (e : Edit) → IsCommand fields (Apply e) → edit_in fields ≡ Some e
 edit-read fields (ChangeValue (One nth) name change) h = change-read nth name change fields h
 edit-read fields (ChangeValue Every name change) h = ap edit_in (texts-are fields (codes "all" ∷ change_words name change) h) ∙ all-read name change
+edit-read fields (ChangeLine nth name change) h = line_change-read nth name change fields h
 edit-read fields (AddLine place (NewAssign name flavor value)) h =
     text-read (nth_of_place place) word.Assign (place_words place ++ name ∷ operator_text flavor ∷ value ∷ []) _ refl (λ fs. refl)
     (add_line-read place new_assign name (operator_text flavor) value _ (ap (λ o. option_map (λ f. NewAssign name f value) o) (operator-named flavor))) fields h
@@ -148,6 +157,12 @@ change-few name (Append value) = omega arith
 change-few name (Add x) = omega arith
 change-few name (Remove x) = omega arith
 
+line_change-few : (name : List ℕ) (change : LineChange) → length (texts (line_change_words name change)) ≤ 4
+line_change-few name (Prepend value) = omega arith
+line_change-few name (ReplaceWord x value) = omega arith
+line_change-few name (Substitute from to) = omega arith
+line_change-few name (SetOperator flavor) = omega arith
+
 place-few : (place : Place) (x a b c : List ℕ) → length (texts (x ∷ (place_words place ++ a ∷ b ∷ c ∷ []))) ≤ 6
 place-few Bottom x a b c = omega arith
 place-few (BeforeVar nth name) x a b c = omega arith
@@ -157,6 +172,7 @@ place-few (BeforeRule nth target) x a b c = omega arith
 few : (c : Command Edit) → length (command_fields c) ≤ 8
 few (Apply (ChangeValue (One nth) name change)) = let k = change-few name change in nth-few nth _ (omega (arith, k))
 few (Apply (ChangeValue Every name change)) = let k = change-few name change in omega (arith, k)
+few (Apply (ChangeLine nth name change)) = let k = line_change-few name change in nth-few nth _ (omega (arith, k))
 few (Apply (AddLine place (NewAssign name flavor value))) = nth-few (nth_of_place place) _ (place-few place (codes "assign") name (operator_text flavor) value)
 few (Apply (AddLine place (NewRule targets colons prereqs))) = nth-few (nth_of_place place) _ (place-few place (codes "rule") targets (rule_separator_text colons) prereqs)
 few (Apply (RemoveLines (OfAssign nth name))) = nth-few nth _ (omega arith)

@@ -1,6 +1,6 @@
 -- What a line says is what is read of it.
 use Rattle.std.proofs.Common.{◌≡◌, ℕ, List, ◌∷◌, ap, ◌∙◌, subst, arith, codes}
-use Rattle.std.specs.Prelude.{Option, Some, option_map, option_and_then}
+use Rattle.std.specs.Prelude.{Some, option_map, option_and_then}
 use Rattle.mk_edit_language.specs.Edits.{Edit}
 use Rattle.mk_history.specs.Machine.{Command, Apply}
 use Rattle.mk_script.specs.Fields.{BeginsWithField, HasFields}

@@ -1,6 +1,6 @@
 -- Words that a table has.
 use Rattle.std.proofs.Common.{◌≡◌, ℕ, Bool, true, false, List, [], ◌∷◌, refl, sym, ap, ◌∙◌, subst, cond, inl, inr, codes}
-use Rattle.std.specs.Prelude.{not, ◌&&◌, Option, Some, None, is_some, option_map, option_and_then}
+use Rattle.std.specs.Prelude.{not, Option, Some, None, is_some, option_map, option_and_then}
 use Rattle.std.specs.List.{list_all, list_any}
 use Rattle.std.specs.Str.{bytes_eq}
 use Rattle.std.proofs.lemmas.Bool.{and_parts}
@@ -68,6 +68,10 @@ text_of word.Set = codes "set"
 text_of word.Append = codes "append"
 text_of word.Add = codes "add"
 text_of word.Drop = codes "drop"
+text_of word.Prepend = codes "prepend"
+text_of word.Replace = codes "replace"
+text_of word.Subst = codes "subst"
+text_of word.Operator = codes "operator"
 text_of word.Unset = codes "unset"
 text_of word.Assign = codes "assign"
 text_of word.Rule = codes "rule"

@@ -1,11 +1,11 @@
 -- What fields are read as is a command that has these fields.
 use Rattle.std.proofs.Common.{◌≡◌, ℕ, ◌-◌, true, false, List, [], ◌∷◌, ◌++◌, length, refl, sym, ap, ◌∙◌, subst, codes}
-use Rattle.std.specs.Prelude.{Option, Some, None, option_map, option_and_then}
+use Rattle.std.specs.Prelude.{Option, Some, None, option_map}
 use Rattle.std.proofs.lemmas.List.{take-append-drop}
 use Rattle.mk_class.specs.declared.assignment.Flavor.{Flavor}
 use Rattle.mk_class.specs.OperatorTexts.{operator_text}
 use Rattle.mk_edit_language.specs.declared.edit.RuleSeparator.{RuleSeparator}
-use Rattle.mk_edit_language.specs.Edits.{Place, Bottom, BeforeVar, AfterVar, BeforeRule, NewLine, NewAssign, NewRule, Which, One, Every, ValueChange, Set, Append, Add, Remove, AddPrereq, RemovePrereq, ByNumber, ByText, Last, At, OfAssign, OfRule, OfRecipe, Edit, ChangeValue, ChangePrereqs, AddLine, AddRecipe, SetRecipe, RemoveLines, RenameTarget}
+use Rattle.mk_edit_language.specs.Edits.{Place, Bottom, BeforeVar, AfterVar, BeforeRule, NewLine, NewAssign, NewRule, Which, One, Every, ValueChange, Set, Append, Add, Remove, Prepend, ReplaceWord, Substitute, SetOperator, AddPrereq, RemovePrereq, ByNumber, ByText, Last, At, OfAssign, OfRule, OfRecipe, Edit, ChangeValue, ChangeLine, ChangePrereqs, AddLine, AddRecipe, SetRecipe, RemoveLines, RenameTarget}
 use Rattle.mk_edit_language.specs.NewLines.{rule_separator_text}
 use Rattle.mk_history.specs.Machine.{Command, Apply, Undo, Redo, Begin, End, Cancel}
 use Rattle.mk_script.specs.Numbers.{number}
@@ -150,6 +150,13 @@ add_line-written nth w fields ts e l is h command =
     text-written (One nth) w fields (place_words m.0 ++ ts) e (AddLine m.0 l) whole m.2
     (command m.0 ∙ ap (λ n. after_nth n (Text (text_of w) ∷ texts (place_words m.0 ++ ts))) (sym p.0))
 
+operator-written : (nth : Option ℕ) (fields : Texts) (e : Edit) → edit_with (One nth) word.Operator fields ≡ Some e → IsWrittenEdit (One nth) word.Operator fields e
+operator-written nth fields e h =
+    let c = chained (λ (p : List ℕ × List ℕ). option_map (λ (f : Flavor). ChangeLine nth p.0 (SetOperator f)) (named operators p.1)) (two fields) e h in
+    let f = mapped (λ (f : Flavor). ChangeLine nth c.0.0 (SetOperator f)) (named operators c.0.1) e c.2 in
+    text-written (One nth) word.Operator fields (c.0.0 ∷ operator_text f.0 ∷ []) e (ChangeLine nth c.0.0 (SetOperator f.0))
+    (two-is fields c.0 c.1 ∙ ap (λ z. c.0.0 ∷ z ∷ []) (named-operator c.0.1 f.0 f.1)) f.2 refl
+
 assign-written : (nth : Option ℕ) (fields : Texts) (e : Edit) → edit_with (One nth) word.Assign fields ≡ Some e → IsWrittenEdit (One nth) word.Assign fields e
 assign-written nth fields e h =
     let c = chained (λ (l : NewLine). option_map (λ p. AddLine p l) (place_in nth (before_three fields))) (new_assign (last_three fields)) e h in
@@ -177,6 +184,10 @@ with-written which word.Set fields e h = two-written which word.Set fields e (λ
 with-written which word.Append fields e h = two-written which word.Append fields e (λ a b. ChangeValue which a (Append b)) h (λ a b. change-fields which a (Append b))
 with-written which word.Add fields e h = two-written which word.Add fields e (λ a b. ChangeValue which a (Add b)) h (λ a b. change-fields which a (Add b))
 with-written which word.Drop fields e h = two-written which word.Drop fields e (λ a b. ChangeValue which a (Remove b)) h (λ a b. change-fields which a (Remove b))
+with-written (One nth) word.Prepend fields e h = two-written (One nth) word.Prepend fields e (λ a b. ChangeLine nth a (Prepend b)) h (λ a b. refl)
+with-written (One nth) word.Replace fields e h = three-written (One nth) word.Replace fields e (λ a b c. ChangeLine nth a (ReplaceWord b c)) h (λ a b c. refl)
+with-written (One nth) word.Subst fields e h = three-written (One nth) word.Subst fields e (λ a b c. ChangeLine nth a (Substitute b c)) h (λ a b c. refl)
+with-written (One nth) word.Operator fields e h = operator-written nth fields e h
 with-written (One nth) word.Unset fields e h = one-written (One nth) word.Unset fields e (λ a. RemoveLines (OfAssign nth a)) h (λ a. refl)
 with-written (One nth) word.Assign fields e h = assign-written nth fields e h
 with-written (One nth) word.Rule fields e h = rule-written nth fields e h

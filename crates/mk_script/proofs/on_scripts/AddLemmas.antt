@@ -4,7 +4,7 @@ use Rattle.std.specs.Prelude.{Option, Some, None, option_map, option_and_then, i
 use Rattle.std.specs.Result.{IsErrAnd}
 use Rattle.std.proofs.lemmas.List.{map-append}
 use Rattle.mk_edit_language.specs.Edits.{Edit}
-use Rattle.mk_script.specs.Lines.{Saying, Plain, Try, Or}
+use Rattle.mk_script.specs.Lines.{Saying, Plain, Or}
 use Rattle.mk_script.specs.FieldReading.{fields_within}
 use Rattle.mk_script.specs.CommandReading.{Texts, worded, command_after, saying_after, saying_in, saying}
 use Rattle.mk_script.specs.declared.table.Word.{Word}

@@ -3,7 +3,8 @@ use Rattle.std.proofs.Common.{◌≡◌, refl, sym, ap, ◌∙◌, subst, ℕ, z
 use Rattle.std.proofs.lemmas.List.{take_all}
 use Rattle.std.proofs.Math.Seq.{take-suc}
 use Rattle.std.proofs.lemmas.Option.{get_or_from_slice_get, slice_get-map, slice_get_read, slice_get_within}
-use Rattle.std.specs.Prelude.{Option, option_map, is_some, false}
+use Rattle.std.specs.Prelude.{Option, option_map, is_some, false, min, ◌-◌, ◌^◌}
+use Rattle.mk_tree.specs.Counting.{AreCounted}
 use Rattle.mk_tree.specs.Documents.{IsFaithful}
 use Rattle.mk_tree.specs.LocatedLines.{LocatedLine, located_text}
 use Rattle.mk_edit_language.specs.Edits.{Edit}
@@ -101,6 +102,10 @@ cost-within es i e t u here led = omega (arith, cost-to es i e t u here led, cos
 
 pub cost-of-all : (es : List Edit) (i : ℕ) (t : List ℕ) → length es ≤ i → costs_in_turn (take i es) t ≡ costs_in_turn es t
 cost-of-all es i t past = ap (λ x. costs_in_turn x t) (take_all i es past)
+
+-- no edits cost nothing
+pub none-counted : (n : ℕ) → AreCounted n 0 n
+none-counted n = let same : n ≡ n + 0 = omega arith in ap (λ z. min z (2 ^ 64 - 1)) same
 
 -- ---- what edits in turn make of a document
 

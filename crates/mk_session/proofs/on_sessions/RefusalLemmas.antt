@@ -7,7 +7,7 @@ use Rattle.mk_history.specs.Machine as machine
 use Rattle.mk_history.specs.Machine.{Command, Apply, Undo, Redo, Begin, End, Cancel}
 use Rattle.mk_history.specs.Shown.{Shown, shown_edited, shown_ended, shown_back, shown_forward}
 use Rattle.mk_session.specs.Sessions.{answer, edited, text_with, session_refusal}
-use Rattle.mk_edit_language.specs.Edits.{Place, Bottom, Every, Add, Remove, AddPrereq, RemovePrereq, RecipeLine, ByNumber, ByText, At, OfRule, OfRecipe, Edit, ChangeValue, ChangePrereqs, AddLine, AddRecipe, SetRecipe, RemoveLines, RenameTarget}
+use Rattle.mk_edit_language.specs.Edits.{Place, Bottom, Every, Add, Remove, AddPrereq, RemovePrereq, RecipeLine, ByNumber, ByText, At, OfRule, OfRecipe, Edit, ChangeValue, ChangeLine, ChangePrereqs, AddLine, AddRecipe, SetRecipe, RemoveLines, RenameTarget}
 use Rattle.mk_tree.specs.LineTexts.{StandingLine}
 use Rattle.mk_edit_language.specs.Addresses.{Address, address}
 use Rattle.mk_edit_language.specs.EditSpans.{spans_of}
@@ -15,10 +15,10 @@ use Rattle.mk_edit_language.specs.Causes.{where_holds}
 use Rattle.mk_edit_language.specs.ArgumentCauses.{FieldTest, Tested, first_failed, field_tests, bad_argument, reserved}
 use Rattle.mk_edit_language.specs.AddressCauses.{unread_prefix, no_such, no_such_line, ambiguous, ambiguous_line, prefix_led}
 use Rattle.mk_edit_language.specs.RuleCauses.{not_one, no_recipe, absent, already, taken, shared_rule, straddles}
-use Rattle.mk_edit_language.specs.LineCauses.{open_value, open_line, open_define, open_define_at, leaning, too_long}
+use Rattle.mk_edit_language.specs.LineCauses.{open_value, open_line, open_define, open_define_at, leaning, too_long, misread}
 use Rattle.mk_edit_language.specs.Refusals.{first_cause, unless_refused, causes, spans}
 use Rattle.mk_edit_language.specs.declared.refusal.Refusal.{Refusal}
-use Rattle.mk_edit_language.specs.declared.refusal.Refusal.TheVariants.{Reserved, RecipePrefix, NoSuch, Ambiguous, Absent, Already, Taken, SharedRule, Straddles, OpenValue, OpenLine, OpenDefine, Leans, TooLong, NoMemory}
+use Rattle.mk_edit_language.specs.declared.refusal.Refusal.TheVariants.{Reserved, RecipePrefix, NoSuch, Ambiguous, Absent, Already, Taken, SharedRule, Straddles, OpenValue, OpenLine, OpenDefine, Leans, TooLong, NoMemory, Misread}
 
 -- a cause that is not want of memory
 abbrev IsOther : Option Refusal → Type 0
@@ -71,6 +71,7 @@ no_recipe-other ls nth t (ByText o) h = not_one-other _ h
 
 absent-other : (ls : List ClassedLine) (e : Edit) → IsOther (absent ls e)
 absent-other ls (ChangeValue w n (Remove x)) h = where_holds-other _ Absent (λ k. absurd (cc)) h
+absent-other ls (ChangeLine nth n c) h = where_holds-other _ Absent (λ k. absurd (cc)) h
 absent-other ls (ChangePrereqs nth t (RemovePrereq w)) h = where_holds-other _ Absent (λ k. absurd (cc)) h
 absent-other ls (AddRecipe nth t (At k) c) h = where_holds-other _ Absent (λ j. absurd (cc)) h
 absent-other ls (SetRecipe nth t w c) h = no_recipe-other ls nth t w h
@@ -107,6 +108,10 @@ open_define-other : (ls : List ClassedLine) (e : Edit) → IsOther (open_define 
 open_define-other ls (AddLine p l) h = open_define_at-other ls p h
 open_define-other ls e h = nothing-other h
 
+misread-other : (ls : List ClassedLine) (e : Edit) → IsOther (misread ls e)
+misread-other ls (ChangeLine nth n c) h = where_holds-other _ Misread (λ k. absurd (cc)) h
+misread-other ls e h = nothing-other h
+
 -- ---- the first of them
 
 first_cause-other : (o : Option Refusal) (cs : List (Option Refusal)) → IsOther o → IsOther (first_cause cs) → IsOther (first_cause (o ∷ cs))
@@ -130,8 +135,9 @@ causes-other t ls e =
     (first_cause-other (open_line ls e) _ (where_holds-other _ OpenLine (λ k. absurd (cc)))
     (first_cause-other (open_define ls e) _ (open_define-other ls e)
     (first_cause-other (leaning ls e) _ (where_holds-other _ Leans (λ k. absurd (cc)))
-    (first_cause-other (too_long t (spans_of t ls e)) [] (where_holds-other _ TooLong (λ k. absurd (cc)))
-    nothing-other)))))))))))))))
+    (first_cause-other (too_long t (spans_of t ls e)) _ (where_holds-other _ TooLong (λ k. absurd (cc)))
+    (first_cause-other (misread ls e) [] (misread-other ls e)
+    nothing-other))))))))))))))))
 
 unless_refused-other : (o : Option Refusal) (rs : List Replacement) → IsOther o → unless_refused o rs ≡ Err NoMemory → ⊥
 unless_refused-other None rs other h = absurd (cc)

@@ -17,6 +17,7 @@ use Rattle.mk_session.specs.Sessions.{answer, edited, text_with, IsRefusedBy}
 use Rattle.mk_session.specs.Statement.{Does, IsBack, IsCall, AreCalls, AreTakenBack}
 use Rattle.mk_session.proofs.on_sessions.StepLemmas.{edited-ok}
 use Rattle.mk_session.proofs.on_statement.ValuesStated.{value-stated, values-stated, unset-stated, assign-stated}
+use Rattle.mk_session.proofs.on_statement.LinesStated.{line-stated}
 use Rattle.mk_session.proofs.on_statement.RulesStated.{prereqs-stated, new_recipe-stated, set_recipe-stated, no_recipe-stated}
 use Rattle.mk_session.proofs.on_statement.NewRulesStated.{rule-stated}
 use Rattle.mk_session.proofs.on_statement.RuleGoesStated.{no_rule-stated}
@@ -29,6 +30,10 @@ edit-stated (edit.SetValue k n v) t rs h = value-stated k n.items (edits.Set v.i
 edit-stated (edit.AppendValue k n v) t rs h = value-stated k n.items (edits.Append v.items) t rs h
 edit-stated (edit.AddWord k n w) t rs h = value-stated k n.items (edits.Add w.items) t rs h
 edit-stated (edit.RemoveWord k n w) t rs h = value-stated k n.items (edits.Remove w.items) t rs h
+edit-stated (edit.PrependValue k n v) t rs h = line-stated k n.items (edits.Prepend v.items) t rs h
+edit-stated (edit.ReplaceWord k n w v) t rs h = line-stated k n.items (edits.ReplaceWord w.items v.items) t rs h
+edit-stated (edit.SubstituteValue k n f u) t rs h = line-stated k n.items (edits.Substitute f.items u.items) t rs h
+edit-stated (edit.SetOperator k n f) t rs h = line-stated k n.items (edits.SetOperator f) t rs h
 edit-stated (edit.ChangeValues n c) t rs h = values-stated n.items (value_change_of c) t rs h
 edit-stated (edit.AddAssign p n f v) t rs h = assign-stated (place_of p) n.items f v.items t rs h
 edit-stated (edit.RemoveAssign k n) t rs h = unset-stated k n.items t rs h

@@ -21,11 +21,11 @@ use Rattle.mk_edit_language.specs.declared.edit.RuleSeparator.{RuleSeparator}
 use Rattle.mk_edit_language.specs.declared.edit.RuleSeparator.TheVariants.{Single, Double}
 use Rattle.mk_edit_language.specs.Refusals.{spans, text_after}
 use Rattle.mk_edit_language.proofs.on_edits.MadeEdits.{one_place-made}
-use Rattle.mk_session.specs.Statement.{Has, Names, Nothing, Line, Become}
+use Rattle.mk_session.specs.Statement.{Has, Names, Line, Become}
 use Rattle.mk_session.proofs.on_statement.CellTexts.{has-nothing, has-left}
 use Rattle.mk_session.proofs.on_statement.WordEdges.{IsOfKind, kind-is, BeginsBehind, begins-left, behind-colon}
 use Rattle.mk_session.proofs.on_statement.LineWords.{names-left, names-parts, names-in}
-use Rattle.mk_session.proofs.on_statement.PlacedLines.{lines-become}
+use Rattle.mk_session.proofs.on_statement.PlacedLines.{Nothing, lines-become}
 use Rattle.mk_session.proofs.on_statement.ValuesStated.{no-lines}
 
 -- ---- a text without blanks is one word

@@ -15,7 +15,7 @@ use Rattle.mk_tree.specs.LineTexts.{context_of, bytes_of}
 use Rattle.mk_tree.specs.NewLineEnds.{lacks_line_end, line_ended, last_ended, above_ended}
 use Rattle.mk_tree.proofs.on_documents.LinesInText.{bytes_of-classed, run-in_text}
 use Rattle.mk_tree.proofs.on_changes.NewLineLemmas.{file_line_end-some, line-ended}
-use Rattle.mk_edit_language.specs.Edits.{Edit, ChangeValue, ChangePrereqs, AddLine, AddRecipe, SetRecipe, RemoveLines, RenameTarget}
+use Rattle.mk_edit_language.specs.Edits.{Edit, ChangeValue, ChangeLine, ChangePrereqs, AddLine, AddRecipe, SetRecipe, RemoveLines, RenameTarget}
 use Rattle.mk_edit_language.specs.Stretches.{Stretch, between, insertion, touched_by}
 use Rattle.mk_edit_language.specs.LineCauses.{follows_open_line}
 use Rattle.mk_edit_language.specs.KeptLines.{edited_bytes, edited_lines, above_after}
@@ -89,12 +89,17 @@ above-ended : (t : List ℕ) (e : Edit) (rs : List Replacement) (s : Stretch) �
 above-ended t (AddLine p l) rs s h k = put-above t (AddLine p l) rs s h h k
 above-ended t (AddRecipe nth g p c) rs s h k = put-above t (AddRecipe nth g p c) rs s h h k
 above-ended t (ChangeValue w n c) rs s h k = same-lines (bytes_of s.above)
+above-ended t (ChangeLine nth n c) rs s h k = same-lines (bytes_of s.above)
 above-ended t (ChangePrereqs nth g c) rs s h k = same-lines (bytes_of s.above)
 above-ended t (SetRecipe nth g w c) rs s h k = same-lines (bytes_of s.above)
 above-ended t (RemoveLines r) rs s h k = same-lines (bytes_of s.above)
 above-ended t (RenameTarget o n) rs s h k = same-lines (bytes_of s.above)
 
 -- ---- lines that become others
+
+-- no line
+abbrev pub Nothing : (above lines : Lines) → Type 0
+Nothing up ls = ls ≡ []
 
 -- the lines that an edit of one place touches become its edited lines
 pub lines-become : (Old New : Lines → Lines → Type 0) (t : List ℕ) (e : Edit) (rs : List Replacement) (s : Stretch) → touched_by (classed_lines t) e ≡ Some s → spans t e ≡ Ok rs

@@ -44,11 +44,11 @@ use Rattle.mk_edit_language.specs.Refusals.{spans, text_after}
 use Rattle.mk_edit_language.proofs.on_recipes.RecipeClassLemmas.{recipe-stands}
 use Rattle.mk_edit_language.proofs.on_removals.RuleTakenLemmas.{remove_rule-takes}
 use Rattle.mk_edit_language.proofs.on_lines.HeaderParts.{one_byte}
-use Rattle.mk_session.specs.Statement.{Has, IsOfRecipe, Nothing, Rule, Become}
+use Rattle.mk_session.specs.Statement.{Has, IsOfRecipe, Rule, Become}
 use Rattle.mk_session.proofs.on_statement.CellTexts.{has-in, has-left, has-right, has-front, line-bytes}
 use Rattle.mk_session.proofs.on_statement.WordEdges.{IsOfKind, kind-is}
 use Rattle.mk_session.proofs.on_statement.LineWords.{rule-names}
-use Rattle.mk_session.proofs.on_statement.PlacedLines.{lines-go}
+use Rattle.mk_session.proofs.on_statement.PlacedLines.{Nothing, lines-go}
 use Rattle.mk_session.proofs.on_statement.RecipePlaces.{led-is_recipe}
 
 -- ---- bytes of blanks and line ends

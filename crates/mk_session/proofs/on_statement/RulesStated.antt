@@ -35,10 +35,10 @@ use Rattle.mk_edit_language.proofs.on_lines.HeaderChanges.{middle_units, header-
 use Rattle.mk_edit_language.proofs.on_prerequisites.HeaderEdits.{header_pieces-whole, kept-old, word_spans-header}
 use Rattle.mk_edit_language.proofs.on_prerequisites.AddPrereqLemmas.{put_last-old}
 use Rattle.mk_edit_language.proofs.on_prerequisites.WordsRemoved.{removed-old_cells}
-use Rattle.mk_session.specs.Statement.{Has, Names, Nothing, Line, Recipe, Become}
+use Rattle.mk_session.specs.Statement.{Has, Names, Line, Recipe, Become}
 use Rattle.mk_session.proofs.on_statement.CellTexts.{has-nothing, has-left, has-right, has-front}
 use Rattle.mk_session.proofs.on_statement.LineWords.{header-front, rule-for, rule-names}
-use Rattle.mk_session.proofs.on_statement.PlacedLines.{lines-become}
+use Rattle.mk_session.proofs.on_statement.PlacedLines.{Nothing, lines-become}
 use Rattle.mk_session.proofs.on_statement.RecipePlaces.{led-is_recipe, recipe-line, recipe_found-below, recipe_place-below, text_meant, recipe_found-has}
 use Rattle.mk_session.proofs.on_statement.ValuesStated.{some-mapped, no-lines}
 

@@ -35,10 +35,10 @@ use Rattle.mk_edit_language.proofs.on_edits.RisingSpanLemmas.{Rise-pieces, repla
 use Rattle.mk_edit_language.proofs.on_edits.MadeEdits.{one_place-made}
 use Rattle.mk_edit_language.proofs.on_edits.KeptByChangeValuesLemmas.{change_values-keeps}
 use Rattle.mk_edit_language.proofs.on_lines.SpotLemmas.{picked-is}
-use Rattle.mk_session.specs.Statement.{Has, Names, Nothing, Line, Become}
+use Rattle.mk_session.specs.Statement.{Has, Names, Line, Become}
 use Rattle.mk_session.proofs.on_statement.CellTexts.{has-nothing, has-all, has-left, has-right}
 use Rattle.mk_session.proofs.on_statement.LineWords.{names-left, names-parts, names-in, assign-line, assign-names}
-use Rattle.mk_session.proofs.on_statement.PlacedLines.{lines-become}
+use Rattle.mk_session.proofs.on_statement.PlacedLines.{Nothing, lines-become}
 
 -- ---- a value that is changed
 

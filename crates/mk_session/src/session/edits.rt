@@ -48,6 +48,38 @@ impl<A: Allocator + Copy> Session<A> {
         self.apply_made(Edit::drop_word(self.alloc, name, word))
     }
 
+    /// `prepend NAME VALUE`: makes the edit of [`Edit::prepend`].
+    pub fn prepend(&mut self, name: &[u8], value: &[u8]) -> Result<(), Refusal>
+        ensures { IsApplied (edits.ChangeLine None name.now (edits.Prepend value.now))
+            result self.old self.new }
+    {
+        self.apply_made(Edit::prepend(self.alloc, name, value))
+    }
+
+    /// `replace NAME WORD VALUE`: makes the edit of [`Edit::replace_word`].
+    pub fn replace_word(&mut self, name: &[u8], word: &[u8], value: &[u8]) -> Result<(), Refusal>
+        ensures { IsApplied (edits.ChangeLine None name.now (edits.ReplaceWord word.now value.now))
+            result self.old self.new }
+    {
+        self.apply_made(Edit::replace_word(self.alloc, name, word, value))
+    }
+
+    /// `subst NAME FROM TO`: makes the edit of [`Edit::substitute`].
+    pub fn substitute(&mut self, name: &[u8], from: &[u8], to: &[u8]) -> Result<(), Refusal>
+        ensures { IsApplied (edits.ChangeLine None name.now (edits.Substitute from.now to.now))
+            result self.old self.new }
+    {
+        self.apply_made(Edit::substitute(self.alloc, name, from, to))
+    }
+
+    /// `operator NAME OP`: makes the edit of [`Edit::operator`].
+    pub fn operator(&mut self, name: &[u8], operator: Flavor) -> Result<(), Refusal>
+        ensures { IsApplied (edits.ChangeLine None name.now (edits.SetOperator operator))
+            result self.old self.new }
+    {
+        self.apply_made(Edit::operator(self.alloc, name, operator))
+    }
+
     /// `all set NAME VALUE`: makes the edit of [`Edit::all_set`].
     pub fn all_set(&mut self, name: &[u8], value: &[u8]) -> Result<(), Refusal>
         ensures { IsApplied (edits.ChangeValue edits.Every name.now (edits.Set value.now))

@@ -37,8 +37,8 @@ impl<A: Allocator + Copy> Session<A> {
     /// - Index 0 and [`Refusal::GroupOpen`] if a group is open already, also for no edits.
     /// - The first edit that is refused, with its first [`Refusal`] whose cause holds, as
     ///   [`Session::apply`] tells it.
-    /// - An edit and [`Refusal::NoMemory`] if no edit up to this one has a cause and a growth was
-    ///   refused.
+    /// - An edit and [`Refusal::NoMemory`] if a growth was refused and no edit up to this one has a
+    ///   cause, but perhaps this one [`Refusal::Misread`].
     pub fn group(&mut self, edits: &[Edit<A>]) -> Result<(), (usize, Refusal)>
         ensures done { OnOk result
             (answers (as_group (map edit_of edits.now)) self.old.shown ≡ Ok self.new.shown) }
@@ -102,7 +102,8 @@ pub(super) fn make_all<A: Allocator + Copy>(
     Ok(back)
 }
 
-// Why an edit is not made for which there is no room: for its cause, if it has one.
+// Why an edit is not made for which there is no room: for its cause, if it has one (of Misread it may
+// tell NoMemory).
 fn refusal_without_room<A: Allocator + Copy>(
     alloc: A,
     doc: &mut IndexedDoc<A>,

@@ -46,16 +46,10 @@ returns g c =
     c.in_ok-targets_end.ensures.written c.in_ok-normal_end.ensures.written c.in_ok-end.ensures.written all
     ∙ ap (rewritten l n) (ranges-are cs o p _ _ c.parts_of-parts.ensures.parts c.requires.class)
 
-pub with_word-requires-clause-rises : goal.with_word-requires-clause-rises
-with_word-requires-clause-rises g c =
+pub rewritten-requires : goal.rewritten-requires
+rewritten-requires g c =
     let one = only-counted c.args.tally _ _ c.requires.tally c.in-1-Some.is-0 c.in-1-Some.is-1 in
-    (subst (AreApart 0 (length (line_view c.args.line.now).bytes)) one c.requires.apart).1
-
-pub with_word-requires-clause-within : goal.with_word-requires-clause-within
-with_word-requires-clause-within g c =
-    let one = only-counted c.args.tally _ _ c.requires.tally c.in-1-Some.is-0 c.in-1-Some.is-1 in
-    let within = (subst (AreApart 0 (length (line_view c.args.line.now).bytes)) one c.requires.apart).2 in
-    omega (arith, within, ap length c.bytes.ensures.bytes)
+    subst (λ t. AreApart 0 (length t) (c.in-1-Some.word ∷ [])) (sym c.bytes.ensures.bytes) (subst (AreApart 0 (length (line_view c.args.line.now).bytes)) one c.requires.apart)
 
 pub returns-in-1-Some : goal.returns-in-1-Some
 returns-in-1-Some g c =
@@ -63,5 +57,5 @@ returns-in-1-Some g c =
     let n = c.args.to.now in
     let w = c.in-1-Some.word in
     let one : renamed_ranges c.args.from.now (line_view c.args.line.now) ≡ w ∷ [] = only-counted c.args.tally _ _ c.requires.tally c.in-1-Some.is-0 c.in-1-Some.is-1 in
-    subst (λ ss. IfOk c.with_word.result (λ bytes. bytes.items ≡ rewritten l n ss)) (sym one)
-    (subst (λ t. IfOk c.with_word.result (λ bytes. bytes.items ≡ rewritten t n (w ∷ []))) c.bytes.ensures.bytes c.with_word.ensures)
+    subst (λ ss. IfOk c.rewritten.result (λ bytes. bytes.items ≡ rewritten l n ss)) (sym one)
+    (subst (λ t. IfOk c.rewritten.result (λ bytes. bytes.items ≡ rewritten t n (w ∷ []))) c.bytes.ensures.bytes c.rewritten.ensures)

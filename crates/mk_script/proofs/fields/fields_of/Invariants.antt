@@ -1,5 +1,5 @@
 -- The fields so far stand before the fields of the rest.
-use Rattle.std.proofs.Common.{◌≡◌, ◌-◌, ◌≤◌, false, length}
+use Rattle.std.proofs.Common.{◌≡◌, ◌-◌, ◌≤◌, length}
 use Rattle.mk_script.specs.FieldReading.{fields_within}
 use Rattle.mk_script.specs.SeenFields.{gathered_texts}
 use Rattle.mk_script.proofs.on_fields.FirstLemmas.{with_fields}

@@ -3,7 +3,6 @@ use Rattle.std.proofs.lemmas.List.{length-drop}
 use Rattle.mk_class.specs.Contexts.{Admits}
 use Rattle.mk_class.specs.declared.class.Class.{Class}
 use Rattle.mk_tree.specs.Admissions.{AreAdmitted}
-use Rattle.mk_tree.specs.LocatedLines.{LocatedLine}
 use Rattle.mk_tree.specs.Trees.{line_view}
 use Rattle.mk_edit_parts.specs.Candidates.{Listed, seen_for}
 use Rattle.mk_edit_parts.specs.LocatedParts.{AreEachClassed, assigns_located, is_unread_located}

@@ -1,5 +1,5 @@
 -- What a walk for any number has seen of the window so far, and the lines ahead.
-use Rattle.std.proofs.Common.{ℕ, ◌≤◌, drop, length}
+use Rattle.std.proofs.Common.{ℕ, drop, length}
 use Rattle.mk_edit_parts.specs.Candidates.{seen_for}
 use Rattle.mk_edit_parts.specs.LocatedParts.{assigns_located}
 use Rattle.mk_edit_parts.proofs.on_finding.SeekWindows.{IsNotedTo}

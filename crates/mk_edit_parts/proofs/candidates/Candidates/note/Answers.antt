@@ -1,8 +1,7 @@
-use Rattle.std.proofs.Common.{◌≡◌, ◌≤◌, ◌+◌, refl, sym, ap, subst, length}
+use Rattle.std.proofs.Common.{◌≤◌, ◌+◌, refl, sym, ap, subst, length}
 use Rattle.mk_class.specs.Contexts.{Context}
 use Rattle.mk_edit_parts.specs.Candidates.{Listed}
 use Rattle.mk_edit_parts.proofs.on_finding.CandidateLemmas.{listed-more, seen-more}
-use Rattle.mk_edit_parts.specs.declared.seek.Found.{Found}
 use Rattle.mk_edit_parts.proofs.candidates.Candidates.note.Goals as goal
 
 pub returns-clause-seen : goal.returns-clause-seen

@@ -3,7 +3,7 @@ use Rattle.mk_class.specs.ClassedLines.{classed_lines}
 use Rattle.mk_tree.specs.LocatedLines.{located_text}
 use Rattle.mk_edit_language.specs.Addresses.{Variable}
 use Rattle.mk_edit_language.specs.Spots.{nth_of}
-use Rattle.mk_edit_parts.specs.Candidates.{Listed, seen_for}
+use Rattle.mk_edit_parts.specs.Candidates.{seen_for}
 use Rattle.mk_edit_parts.specs.Seeking.{IsSought}
 use Rattle.mk_edit_parts.specs.declared.seek.Found.{Found}
 use Rattle.mk_edit_parts.specs.declared.seek.Sought.{Sought}

@@ -1,10 +1,11 @@
-use Rattle.std.proofs.Common.{ap, sym, map, arith}
+use Rattle.std.proofs.Common.{ap, sym, subst, map, arith}
 use Rattle.std.proofs.lemmas.List.{length-map}
+use Rattle.mk_tree.specs.Counting.{AreCounted}
 use Rattle.mk_edit_language.specs.EditViews.{edit_of}
 use Rattle.mk_session.specs.Groups.{costs_in_turn}
 use Rattle.mk_session.proofs.on_sessions.StepLemmas.{text-shown}
-use Rattle.mk_session.proofs.on_sessions.StoredLemmas.{some-if-counted}
-use Rattle.mk_session.proofs.on_sessions.GroupLemmas.{group-step, group-stored, group-refused}
+use Rattle.mk_session.proofs.on_sessions.StoredLemmas.{some-if-counted, none-if-counted}
+use Rattle.mk_session.proofs.on_sessions.GroupLemmas.{none-counted, group-step, group-stored, group-refused}
 use Rattle.mk_session.proofs.session.Session.group.Goals as goal
 
 pub returns-in-Err-clause-refused : goal.returns-in-Err-clause-refused
@@ -36,3 +37,8 @@ pub returns-clause-few_read : goal.returns-clause-few_read
 returns-clause-few_read g c =
     let text = text-shown c.self.inside.history c.self.inside.group c.self.inside.doc c.args.self.now.shown (ap (λ s. s.shown) c.self.view_is) in
     omega (arith, c.make_all.ensures.few_read, ap (λ s. s.rereads) c.self.view_is, ap (costs_in_turn (map edit_of c.args.edits.now)) text)
+
+pub returns-then-is_empty-clause-counted : goal.returns-then-is_empty-clause-counted
+returns-then-is_empty-clause-counted g c =
+    let s = c.args.self.now in
+    subst (λ es. AreCounted s.rereads (costs_in_turn (map edit_of es) s.shown.text) s.rereads) (sym (none-if-counted c.args.edits.now c.if-is_empty.ensures)) (none-counted s.rereads)

@@ -1,0 +1,10 @@
+-- Lemmas. A line that is changed and checked by reading.
+pub mod PiecePlaces
+pub mod WordsAndTexts
+pub mod OperatorPlaces
+pub mod ChangePlaces
+pub mod LinesMade
+pub mod Trimmed
+pub mod ModifierWords
+pub mod ReadBack
+pub mod ChangeLinePlans

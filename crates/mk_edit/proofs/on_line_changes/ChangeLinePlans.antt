@@ -1,0 +1,342 @@
+-- A change of an assignment's line that is checked by reading: its causes, by what the code finds in the line, and its plan.
+use Rattle.std.proofs.Common.{◌≡◌, refl, sym, ap, ◌∙◌, subst, arith, ℕ, zero, suc, ◌+◌, ◌*◌, ◌<◌, ◌≤◌, Bool, true, false, not, ◌&&◌, List, [], ◌∷◌, length, Option, Some, None, option_map, inl, inr}
+use Rattle.std.specs.List.{list_any}
+use Rattle.std.specs.Prelude.{◌==◌, nat_lt, ◌⊎◌, slice_get, Ok, Err, Result, IfOk, OnOk, IsErrAnd, IsOkUnless}
+use Rattle.std.proofs.lemmas.Bool.{and_parts}
+use Rattle.std.proofs.lemmas.Grind.{common_steps}
+use Rattle.std.proofs.lemmas.List.{append-nil, length-map}
+use Rattle.mk_lines.specs.Lists.{concat}
+use Rattle.mk_lines.specs.LogicalLines.{logical_lines}
+use Rattle.mk_lines.proofs.on_lines.LineLemmas.{concat-logical_lines}
+use Rattle.mk_lines.specs.Limits.{max_text}
+use Rattle.mk_lines.specs.Cells.{Cell, joined_byte, line_cells}
+use Rattle.mk_lines.specs.Pieces.{replaced, replacements}
+use Rattle.mk_lines.specs.declared.split.Span.{Span}
+use Rattle.mk_lines.specs.Ranges.{raw_range}
+use Rattle.mk_class.specs.Arguments.{is_clean, is_name}
+use Rattle.mk_class.specs.ListTests.{is_empty}
+use Rattle.mk_class.specs.Texts.{unit_text}
+use Rattle.mk_class.specs.Assignments.{Assignment}
+use Rattle.mk_class.specs.Classes.{Class}
+use Rattle.mk_class.specs.Classes.Class.{Assign}
+use Rattle.mk_class.specs.ClassTable.{class_of}
+use Rattle.mk_class.specs.Contexts.{Context}
+use Rattle.mk_class.specs.LocatedClasses.{located_class}
+use Rattle.mk_class.specs.RecipePrefix.{is_prefix_name}
+use Rattle.mk_class.specs.ClassedLines.{ClassedLine, classed_lines}
+use Rattle.mk_class.specs.declared.assignment.Flavor.{Flavor}
+use Rattle.mk_class.specs.declared.assignment.Assignment as offsets
+use Rattle.mk_tree.specs.Documents.{IsFaithful, text_of, context_of}
+use Rattle.mk_tree.specs.LineTexts.{StandingLine, line_in}
+use Rattle.mk_tree.specs.LocatedLines.{LocatedLine, located_line, located_text, size_of, text_of_line}
+use Rattle.mk_tree.proofs.on_changes.Sizes.{size_of-text}
+use Rattle.mk_edit_language.specs.Addresses.{Variable}
+use Rattle.mk_edit_language.specs.ArgumentCauses.{Tested, line_change_tests, bad_argument}
+use Rattle.mk_edit_language.specs.Causes.{where_holds}
+use Rattle.mk_edit_language.specs.Edits.{LineChange, Prepend, ReplaceWord, Substitute, SetOperator, Edit, ChangeLine}
+use Rattle.mk_edit_language.specs.EditSpans.{spans_of, where_found}
+use Rattle.mk_edit_language.specs.KeptLines.{respanned_bytes}
+use Rattle.mk_edit_language.specs.Lengths.{bytes_taken, bytes_put}
+use Rattle.mk_edit_language.specs.LineCauses.{misread, is_found_misread, too_long}
+use Rattle.mk_edit_language.specs.LineChanges.{line_pieces, line_change_spans, is_line_changed, line_after, value_after, flavor_after, assigned_after, is_one, fits_line, reads_as, is_misread}
+use Rattle.mk_edit_language.specs.Refusals.{causes, first_cause, spans}
+use Rattle.mk_edit_language.specs.RuleCauses.{absent, class_found}
+use Rattle.mk_edit_language.specs.Stretches.{this_line}
+use Rattle.mk_edit_language.specs.ValueChanges.{assignment_passes, assignment_spans, value_spans}
+use Rattle.mk_edit_language.specs.WordPieces.{is_replaced}
+use Rattle.mk_edit_language.specs.declared.refusal.Field.TheVariants as field
+use Rattle.mk_edit_language.specs.declared.refusal.Refusal.{Refusal}
+use Rattle.mk_edit_language.specs.declared.refusal.Refusal.TheVariants.{Absent, NoMemory, TooLong, Misread}
+use Rattle.mk_edit_language.proofs.on_edits.Accepted.{where_holds-none, first-passed}
+use Rattle.mk_edit_language.proofs.on_values.FoundAssignments.{assignment-found}
+use Rattle.mk_edit_language.proofs.on_values.SetValueLemmas.{not_prefix}
+use Rattle.mk_edit_parts.specs.Found.{IsAddressed, IsFoundAt, IsPlaceOf}
+use Rattle.mk_edit_parts.specs.LineChangePlaces.{change_places, new_text, raw_ranges}
+use Rattle.mk_edit_parts.specs.RenamedRanges.{bytes_in}
+use Rattle.mk_edit_parts.specs.SeenAssignments.{IsAssignmentAt}
+use Rattle.mk_edit_parts.specs.declared.seek.Found.{Found}
+use Rattle.mk_edit_parts.proofs.CauseLemmas.{refused, unrefused}
+use Rattle.mk_edit.specs.LineChangePlans.{IsLineChange, IsAssignmentIn, IsAssigning, IsMadeOf, IsSought, Reads, first_of_places, with_parts}
+use Rattle.mk_patch.specs.Moves.{Move, Exchange}
+use Rattle.mk_tree.specs.Counting.{AreCounted}
+use Rattle.mk_edit.specs.PlannedMoves.{replacing_moves}
+use Rattle.mk_edit_language.specs.Costs.{cost}
+use Rattle.mk_edit.specs.Planned.{IsUnrefused, IsRefusal, Plans, ReadsAnew}
+use Rattle.mk_edit.specs.ValueChangeLines.{value_text_located}
+use Rattle.mk_edit.proofs.on_plans.CausePlans.{AreBalanced, addressed-all, first-before, long-by}
+use Rattle.mk_edit.proofs.on_plans.LinePlans.{IsReplaced, line-replaced}
+use Rattle.mk_edit.proofs.on_renaming.CausesOfRenameTarget.{after-cause}
+use Rattle.mk_edit.proofs.on_renaming.LinesRenamed.{apart-bytes, replaced-some, replacing-number}
+use Rattle.mk_edit.proofs.on_renaming.SizesOfTexts.{put-moved, taken-moved}
+use Rattle.mk_edit.proofs.on_renaming.SizesOfWords.{put-replacing, taken-replacing}
+use Rattle.mk_edit_language.proofs.on_edits.MadeEdits.{line_change-by_itself}
+use Rattle.mk_edit.proofs.on_values.ValuePlaces.{IsValuePlace, IsVariablePlace, value-place, variable-place}
+use Rattle.mk_edit.proofs.on_line_changes.LinesMade.{CanMake, can-make}
+
+-- ---- the sizes of replacements
+
+-- whether there are none is told by their number
+none-there : (k : ℕ) (b : Bool) → nat_lt 0 k ≡ b → not b ≡ (k == 0)
+none-there zero b h = ap not (sym h)
+none-there (suc k) b h = ap not (sym h) ∙ more
+  where
+    more : not (nat_lt 0 (suc k)) ≡ (suc k == 0)
+    more = grind (arith, common_steps)
+
+-- ---- the causes
+
+-- two causes and a third
+third : (o p q : Option Refusal) → first_cause (o ∷ p ∷ []) ≡ None → first_cause (o ∷ p ∷ q ∷ []) ≡ first_cause (q ∷ [])
+third None None q h = refl
+third None (Some r) q h = absurd (cc)
+third (Some r) p q h = absurd (cc)
+
+-- the text that is looked for is not empty
+sought-there : (nth : Option ℕ) (n : List ℕ) (c : LineChange) → bad_argument (ChangeLine nth n c) ≡ None → IsSought c
+sought-there nth n (Prepend v) h = tt
+sought-there nth n (ReplaceWord w v) h = tt
+sought-there nth n (SetOperator o) h = tt
+sought-there nth n (Substitute f v) h = some f (first-passed field.From (is_clean f && not (is_empty f)) (Tested field.To (is_clean v) ∷ []) (first-passed field.Name (is_name n) (line_change_tests (Substitute f v)) h).1).0
+  where
+    some : (f : List ℕ) → (is_clean f && not (is_empty f)) ≡ true → 1 ≤ length f
+    some [] k = absurd (go (is_clean []) k)
+      where
+        go : (b : Bool) → (b && false) ≡ true → ⊥
+        go true k = cc
+        go false k = cc
+    some (b ∷ f) k = omega arith
+
+module _ (ls : List LocatedLine) (nth : Option ℕ) (n : List ℕ) (c : LineChange) (f : Found) (l : LocatedLine) (h : IsFaithful ls) (A : IsAddressed (ChangeLine nth n c) ls f) (P : IsValuePlace ls nth n f l) where
+  abbrev text : List ℕ
+  text = located_text ls
+
+  abbrev lines : List ClassedLine
+  lines = classed_lines text
+
+  abbrev edit : Edit
+  edit = ChangeLine nth n c
+
+  abbrev base : ℕ
+  base = length (text_of P.spot.above)
+
+  abbrev a : Assignment Cell
+  a = P.assigned
+
+  own-in : IsAssignmentIn f.context l a
+  own-in = record {
+    here = ap (λ (z : LocatedLine). class_of f.context z.bytes) P.line_is ∙ P.here;
+    class_is = ap (λ (z : LocatedLine). z.class) P.line_is ∙ ap (located_class joined_byte) P.class_is;
+  }
+
+  free-name : is_prefix_name (unit_text joined_byte a.name) ≡ false
+  free-name =
+      let F = assignment-found text n nth (where_holds-none _ _ A.is_there) (where_holds-none _ _ A.is_one) (not_prefix n A.not_reserved) in
+      let spot : Some F.spot ≡ Some P.spot = sym F.found_is ∙ P.found_is in
+      let same : F.spot ≡ P.spot = cc in
+      let classes : Assign F.assigned None ≡ Assign a None = sym F.class_is ∙ (ap (λ (z : StandingLine). z.line.class) same ∙ P.class_is) in
+      let assigned : F.assigned ≡ a = cc in
+      subst (λ (z : Assignment Cell). is_prefix_name (unit_text joined_byte z.name) ≡ false) assigned F.no_prefix
+
+  own-assigning : IsAssigning f.context l
+  own-assigning = record { assigned = a; is = own-in; free = free-name }
+
+  context-is : context_of P.spot.above ≡ f.context
+  context-is =
+      let F : IsFoundAt lines (Variable nth n) f = A.meant in
+      let spot : Some F.spot ≡ Some P.spot = sym F.found_is ∙ P.found_is in
+      let same : F.spot ≡ P.spot = cc in
+      ap (λ (z : StandingLine). context_of z.above) (sym same) ∙ F.context_is
+
+  bytes-are : P.spot.line.bytes ≡ l.bytes
+  bytes-are = ap (λ (z : LocatedLine). z.bytes) (sym P.line_is)
+
+  spans-are : spans_of text lines edit ≡ line_change_spans c base a
+  spans-are = ap (where_found (value_spans (line_change_spans c))) P.found_is ∙ ap (assignment_spans (line_change_spans c) base) P.class_is
+
+  absent-is : absent lines edit ≡ where_holds (not (is_line_changed c a)) Absent
+  absent-is =
+      ap (λ (o : Option StandingLine). where_holds (not (assignment_passes (is_line_changed c) (class_found o))) Absent) P.found_is
+      ∙ ap (λ (k : Class Cell). where_holds (not (assignment_passes (is_line_changed c) (Some k))) Absent) P.class_is
+
+  misread-is : misread lines edit ≡ where_holds (is_misread c f.context l.bytes (Assign a None)) Misread
+  misread-is =
+      ap (λ (o : Option StandingLine). where_holds (is_found_misread c o) Misread) P.found_is
+      ∙ (ap (λ (x : Context). where_holds (is_misread c x P.spot.line.bytes P.spot.line.class) Misread) context-is
+      ∙ (ap (λ b. where_holds (is_misread c f.context b P.spot.line.class) Misread) bytes-are ∙ ap (λ (k : Class Cell). where_holds (is_misread c f.context l.bytes k) Misread) P.class_is))
+
+  -- the causes that may hold
+  own-causes : first_cause (causes text lines edit) ≡ first_cause (absent lines edit ∷ too_long text (spans_of text lines edit) ∷ misread lines edit ∷ [])
+  own-causes =
+      let long = too_long text (spans_of text lines edit) in
+      addressed-all edit ls f _ A (after-cause (absent lines edit) (None ∷ None ∷ None ∷ None ∷ None ∷ None ∷ None ∷ None ∷ long ∷ misread lines edit ∷ []) (long ∷ misread lines edit ∷ []) refl)
+
+  module _ (at : offsets.Assignment) (q : IsAssignmentAt l at) (ss : List Span) (s : ss ≡ change_places c (text_of_line l) at) (v m : List ℕ) (t : v ≡ value_text_located l) (w : m ≡ new_text c v) where
+    made : CanMake c l a at ss m
+    made = can-make c f.context l a at ss v m own-in q (sought-there nth n c A.arguments) s t w
+
+    number-is : length ss ≡ length (line_change_spans c 0 a)
+    number-is = omega (arith, replacing-number m (raw_ranges (line_cells l.bytes) ss), ap length made.pieces, length-map ss (λ (x : Span). raw_range (line_cells l.bytes) x.start x.end))
+
+    changed-is : not (is_line_changed c a) ≡ (length ss == 0)
+    changed-is = none-there (length ss) (list_any is_replaced (line_pieces c a)) (ap (nat_lt 0) number-is ∙ replaced-some 0 (line_pieces c a))
+
+    long-is : size_of ls ≤ max_text → too_long text (spans_of text lines edit) ≡ where_holds (nat_lt (max_text + bytes_in (raw_ranges (line_cells l.bytes) ss)) (size_of ls + length ss * length m)) TooLong
+    long-is few =
+        let rs = line_change_spans c base a in
+        let taken : bytes_taken rs ≡ bytes_in (raw_ranges (line_cells l.bytes) ss) = taken-moved base 0 (line_pieces c a) ∙ (ap bytes_taken (sym made.pieces) ∙ taken-replacing m (raw_ranges (line_cells l.bytes) ss)) in
+        let put : bytes_put rs ≡ length ss * length m =
+        put-moved base 0 (line_pieces c a)
+        ∙ (ap bytes_put (sym made.pieces) ∙ (put-replacing m (raw_ranges (line_cells l.bytes) ss) ∙ ap (λ k. k * length m) (length-map ss (λ (x : Span). raw_range (line_cells l.bytes) x.start x.end)))) in
+        let balanced : AreBalanced (bytes_in (raw_ranges (line_cells l.bytes) ss)) (length ss * length m) rs = omega (arith, taken, put) in
+        long-by text edit (bytes_in (raw_ranges (line_cells l.bytes) ss)) (length ss * length m) (subst (AreBalanced (bytes_in (raw_ranges (line_cells l.bytes) ss)) (length ss * length m)) (sym spans-are) balanced)
+        ∙ ap (λ k. where_holds (nat_lt (max_text + bytes_in (raw_ranges (line_cells l.bytes) ss)) (k + length ss * length m)) TooLong) (sym (size_of-text ls))
+
+    -- the places are a part of the line
+    places-short : bytes_in (raw_ranges (line_cells l.bytes) ss) ≤ length l.bytes
+    places-short = omega (arith, apart-bytes 0 (length l.bytes) _ made.apart)
+
+    -- what the counts say
+    counted : size_of ls ≤ max_text
+        → first_cause (causes text lines edit)
+        ≡ first_cause (where_holds (length ss == 0) Absent ∷ where_holds (nat_lt (max_text + bytes_in (raw_ranges (line_cells l.bytes) ss)) (size_of ls + length ss * length m)) TooLong ∷ misread lines edit ∷ [])
+    counted few =
+        let long = too_long text (spans_of text lines edit) in
+        own-causes
+        ∙ (ap (λ o. first_cause (o ∷ long ∷ misread lines edit ∷ [])) (absent-is ∙ ap (λ b. where_holds b Absent) changed-is)
+        ∙ ap (λ o. first_cause (where_holds (length ss == 0) Absent ∷ o ∷ misread lines edit ∷ [])) (long-is few))
+
+    refused-counted : (r : Refusal) → size_of ls ≤ max_text → first_of_places (length ss) (bytes_in (raw_ranges (line_cells l.bytes) ss)) (length m) (size_of ls) ≡ Some r → spans text edit ≡ Err r
+    refused-counted r few k = refused text edit r (counted few ∙ first-before (where_holds (length ss == 0) Absent ∷ where_holds (nat_lt (max_text + bytes_in (raw_ranges (line_cells l.bytes) ss)) (size_of ls + length ss * length m)) TooLong ∷ []) (misread lines edit ∷ []) r k)
+
+    left-misread : size_of ls ≤ max_text → first_of_places (length ss) (bytes_in (raw_ranges (line_cells l.bytes) ss)) (length m) (size_of ls) ≡ None → first_cause (causes text lines edit) ≡ first_cause (misread lines edit ∷ [])
+    left-misread few k = counted few ∙ third _ _ (misread lines edit) k
+
+  -- ---- whether it is misread
+
+  only-misread : (b : Bool) → first_cause (causes text lines edit) ≡ first_cause (misread lines edit ∷ []) → is_misread c f.context l.bytes (Assign a None) ≡ b → first_cause (causes text lines edit) ≡ first_cause (where_holds b Misread ∷ [])
+  only-misread b k e = k ∙ (ap (λ o. first_cause (o ∷ [])) misread-is ∙ ap (λ z. first_cause (where_holds z Misread ∷ [])) e)
+
+  unrefused-but : first_cause (causes text lines edit) ≡ first_cause (misread lines edit ∷ []) → IsUnrefused text edit
+  unrefused-but k = go (is_misread c f.context l.bytes (Assign a None)) refl
+    where
+      go : (b : Bool) → is_misread c f.context l.bytes (Assign a None) ≡ b → IsUnrefused text edit
+      go true e = inr (refused text edit Misread (only-misread true k e))
+      go false e = inl (_, unrefused text edit (only-misread false k e))
+
+  misread-there : first_cause (causes text lines edit) ≡ first_cause (misread lines edit ∷ []) → is_misread c f.context l.bytes (Assign a None) ≡ true → spans text edit ≡ Err Misread
+  misread-there k e = refused text edit Misread (only-misread true k e)
+
+  -- it is if the line does not fit
+  unfit-misread : (m : List ℕ) → m ≡ line_after c l.bytes a → fits_line l.bytes m ≡ false → is_misread c f.context l.bytes (Assign a None) ≡ true
+  unfit-misread m k e = ap (λ b. not (b && reads_as (assigned_after c a) (class_of f.context (line_after c l.bytes a)))) (ap (fits_line l.bytes) (sym k) ∙ e)
+
+  -- and otherwise where it does not read as stated
+  read-misread : (m v : List ℕ) (o : Flavor) (b : Bool) → m ≡ line_after c l.bytes a → v ≡ value_after c a.value → o ≡ flavor_after c a.flavor → fits_line l.bytes m ≡ true → reads_as (with_parts a o v) (class_of f.context m) ≡ b
+      → is_misread c f.context l.bytes (Assign a None) ≡ not b
+  read-misread m v o b k i j e r =
+      let parts : with_parts a o v ≡ assigned_after c a = ap (λ z. with_parts a z v) j ∙ ap (with_parts a (flavor_after c a.flavor)) i in
+      let told : reads_as (assigned_after c a) (class_of f.context (line_after c l.bytes a)) ≡ b = ap (λ z. reads_as z (class_of f.context (line_after c l.bytes a))) (sym parts) ∙ (ap (λ z. reads_as (with_parts a o v) (class_of f.context z)) (sym k) ∙ r) in
+      ap (λ z. not (z && reads_as (assigned_after c a) (class_of f.context (line_after c l.bytes a)))) (ap (fits_line l.bytes) (sym k) ∙ e) ∙ ap not told
+
+  -- ---- the plan
+
+  planned-there : (m : List ℕ) → m ≡ line_after c l.bytes a → first_cause (causes text lines edit) ≡ first_cause (misread lines edit ∷ []) → is_misread c f.context l.bytes (Assign a None) ≡ false → IsReplaced edit ls f.at m
+  planned-there m k o e =
+      let rs = spans_of text lines edit in
+      let bytes : respanned_bytes (this_line P.spot) rs ≡ m =
+      ap (respanned_bytes (this_line P.spot)) spans-are
+      ∙ (ap (λ z. replaced base z (line_change_spans c base a)) (append-nil P.spot.line.bytes ∙ bytes-are) ∙ (line_change-by_itself c base a l.bytes ∙ sym k)) in
+      line-replaced edit ls rs P.spot f.at m h (unrefused text edit (only-misread false o e)) (ap (option_map this_line) P.found_is) P.place_is (ap (λ z. z ∷ []) bytes)
+
+-- a line that fits is one line
+only-line : (ks : List (List ℕ)) (m : List ℕ) → is_one ks ≡ true → concat ks ≡ m → ks ≡ m ∷ []
+only-line [] m h k = absurd (cc)
+only-line (l ∷ []) m h k = ap (λ z. z ∷ []) (sym (append-nil l) ∙ k)
+only-line (l ∷ l' ∷ ks) m h k = absurd (cc)
+
+pub fits-one : (l m : List ℕ) → fits_line l m ≡ true → logical_lines m ≡ m ∷ []
+fits-one l m h = only-line (logical_lines m) m (and_parts (is_one (logical_lines m)) _ h).0 (concat-logical_lines m)
+
+-- a refusal that is handed on, perhaps after a line was read
+pub handed-on : (e : Edit) (ls : List LocatedLine) (before after : ℕ) (r : Refusal) (result : Result (List Move) Refusal) → IsErrAnd result (λ q. q ≡ r) → IsRefusal (located_text ls) e r
+    → after ≤ before + cost (located_text ls) e → before ≤ after → Plans e ls before after result
+handed-on e ls before after r (Ok patch) i h few forward = absurd i
+handed-on e ls before after r (Err q) i h few forward =
+    record { planned = tt; refused = subst (IsRefusal (located_text ls) e) (sym i) h; counted = tt; few_read = few; forward = forward }
+
+-- ---- the whole
+
+-- nothing but Misread is left, and it is decided by the new line
+pub record IsLeft (c : LineChange) (e : Edit) (ls : List LocatedLine) (f : Found) (l : LocatedLine) : Type 0 where
+  pub unrefused : IsUnrefused (located_text ls) e
+  pub a : Assignment Cell
+  pub is : IsAssignmentIn f.context l a
+  pub unfit : (m : List ℕ) → m ≡ line_after c l.bytes a → fits_line l.bytes m ≡ false → spans (located_text ls) e ≡ Err Misread
+  pub unread : (m v : List ℕ) (o : Flavor) → m ≡ line_after c l.bytes a → v ≡ value_after c a.value → o ≡ flavor_after c a.flavor → fits_line l.bytes m ≡ true → reads_as (with_parts a o v) (class_of f.context m) ≡ false → spans (located_text ls) e ≡ Err Misread
+  pub read : (m v : List ℕ) (o : Flavor) → m ≡ line_after c l.bytes a → v ≡ value_after c a.value → o ≡ flavor_after c a.flavor → fits_line l.bytes m ≡ true → reads_as (with_parts a o v) (class_of f.context m) ≡ true → IsReplaced e ls f.at m
+
+-- What the code asks of a document if the line of an assignment is changed and checked by reading, and what follows from the answers.
+pub record IsLineChangeOf (c : LineChange) (e : Edit) (ls : List LocatedLine) (f : Found) : Type 0 where
+  pub within : f.at < length ls
+  pub place : IsPlaceOf ls f
+  pub sought : IsSought c
+  pub own : (l : LocatedLine) → Some l ≡ slice_get ls f.at → IsAssigning f.context l
+  pub short : (l : LocatedLine) (at : offsets.Assignment) → Some l ≡ slice_get ls f.at → IsAssignmentAt l at → bytes_in (raw_ranges (line_cells l.bytes) (change_places c (text_of_line l) at)) ≤ length l.bytes
+  pub refused : (l : LocatedLine) (at : offsets.Assignment) (ss : List Span) (v m : List ℕ) (r : Refusal) → Some l ≡ slice_get ls f.at → IsAssignmentAt l at → ss ≡ change_places c (text_of_line l) at
+      → v ≡ value_text_located l → m ≡ new_text c v → size_of ls ≤ max_text
+      → first_of_places (length ss) (bytes_in (raw_ranges (line_cells l.bytes) ss)) (length m) (size_of ls) ≡ Some r → spans (located_text ls) e ≡ Err r
+  pub left : (l : LocatedLine) (at : offsets.Assignment) (ss : List Span) (v m : List ℕ) → Some l ≡ slice_get ls f.at → IsAssignmentAt l at → ss ≡ change_places c (text_of_line l) at
+      → v ≡ value_text_located l → m ≡ new_text c v → size_of ls ≤ max_text
+      → first_of_places (length ss) (bytes_in (raw_ranges (line_cells l.bytes) ss)) (length m) (size_of ls) ≡ None → IsLeft c e ls f l
+
+change_line : (nth : Option ℕ) (n : List ℕ) (c : LineChange) (ls : List LocatedLine) (f : Found) → IsFaithful ls → IsAddressed (ChangeLine nth n c) ls f → IsLineChangeOf c (ChangeLine nth n c) ls f
+change_line nth n c ls f h A = record {
+  within = V.within;
+  place = V.place;
+  sought = sought-there nth n c A.arguments;
+  own = λ l g. own-assigning ls nth n c f l h A (there l g);
+  short = λ l at g q. places-short ls nth n c f l h A (there l g) at q _ refl (value_text_located l) (new_text c (value_text_located l)) refl refl;
+  refused = λ l at ss v m r g q s t w few k. refused-counted ls nth n c f l h A (there l g) at q ss s v m t w r few k;
+  left = λ l at ss v m g q s t w few k.
+      let P = there l g in
+      let o = left-misread ls nth n c f l h A P at q ss s v m t w few k in
+      record {
+        unrefused = unrefused-but ls nth n c f l h A P o;
+        a = P.assigned;
+        is = own-in ls nth n c f l h A P;
+        unfit = λ m i e. misread-there ls nth n c f l h A P o (unfit-misread ls nth n c f l h A P m i e);
+        unread = λ m v x i j k e r. misread-there ls nth n c f l h A P o (read-misread ls nth n c f l h A P m v x false i j k e r);
+        read = λ m v x i j k e r. planned-there ls nth n c f l h A P m i o (read-misread ls nth n c f l h A P m v x true i j k e r);
+      };
+}
+  where
+    V : IsVariablePlace ls f
+    V = variable-place (ChangeLine nth n c) ls f nth n h refl A
+
+    there : (l : LocatedLine) → Some l ≡ slice_get ls f.at → IsValuePlace ls nth n f l
+    there l g = value-place ls nth n f l h A.is_there A.is_one (not_prefix n A.not_reserved) A.meant g
+
+pub change_line-of : (c : LineChange) (e : Edit) (ls : List LocatedLine) (f : Found) → IsFaithful ls → IsLineChange c e → IsAddressed e ls f → IsLineChangeOf c e ls f
+change_line-of c e ls f h K A = subst (λ z. IsLineChangeOf c z ls f) (sym K.is) (change_line K.nth K.name c ls f h (subst (λ z. IsAddressed z ls f) K.is A))
+
+-- ---- what the answers of the calls say
+
+-- a refusal when the new line was read: a growth was refused, or it does not read as stated
+pub left-refused : (c : LineChange) (e : Edit) (ls : List LocatedLine) (f : Found) (l : LocatedLine) (m v : List ℕ) (o : Flavor) (r : Refusal) → IsLeft c e ls f l → IsMadeOf c f.context l m v
+    → ((a : Assignment Cell) → IsAssignmentIn f.context l a → o ≡ flavor_after c a.flavor) → fits_line l.bytes m ≡ true → (r ≡ NoMemory) ⊎ ((r ≡ Misread) × Reads false f.context l m o v) → IsRefusal (located_text ls) e r
+left-refused c e ls f l m v o r L M F fit (inl n) = inr (n, L.unrefused)
+left-refused c e ls f l m v o r L M F fit (inr (k, x)) = inl (L.unread m v o (M.bytes_are L.a L.is) (M.value_is L.a L.is) (F L.a L.is) fit (x L.a L.is) ∙ ap Err (sym k))
+
+-- the line was read
+on-ok : {A B : Type 0} {X : Type 0} (r : Result A B) → X → OnOk r X
+on-ok (Ok x) h = h
+on-ok (Err x) h = tt
+
+pub read-anew : (before after : ℕ) (r : Result (List Move) Refusal) → IsOkUnless r NoMemory → AreCounted before 1 after → after ≤ before + 1 → before ≤ after → ReadsAnew 1 before after r
+read-anew before after r u counted few forward = record { refused = u; counted = on-ok r counted; few_read = few; forward = forward }
+
+-- the line that was read is exchanged
+pub exchanged : (ls : List LocatedLine) (f : Found) (m : List ℕ) (line : LocatedLine) (r : Result (List Move) Refusal) → IsPlaceOf ls f → line ≡ located_line (line_in f.context m)
+    → IfOk r (λ patch. patch ≡ Exchange f.at line ∷ []) → IfOk r (λ patch. patch ≡ replacing_moves ls f.at m)
+exchanged ls f m line (Err x) p k h = tt
+exchanged ls f m line (Ok patch) p k h = h ∙ ap (λ z. Exchange f.at z ∷ []) (k ∙ ap (λ x. located_line (line_in x m)) (sym p))

@@ -1,0 +1,121 @@
+-- The line of an assignment that is changed and checked by reading.
+-- Told in docs/ARCHITECTURE.md, "An edit's way, from Edit to moved lines".
+use Rattle.std.specs.Prelude.{◌≡◌, ℕ, ◌+◌, ◌*◌, ◌≤◌, ◌==◌, ◌&&◌, nat_lt, if◌then◌else◌, Bool, true, false, List, [], ◌∷◌, drop, length, Option, None, Some}
+use Rattle.std.specs.Str.{bytes_eq}
+use Rattle.mk_lines.specs.Cells.{Cell, joined_byte}
+use Rattle.mk_lines.specs.Limits.{max_text}
+use Rattle.mk_lines.specs.Ranges.{text_at}
+use Rattle.mk_lines.specs.declared.split.Span.{Span}
+use Rattle.mk_class.specs.Assignments.{Assignment}
+use Rattle.mk_class.specs.Classes.Class.{Assign}
+use Rattle.mk_class.specs.ClassTable.{class_of}
+use Rattle.mk_class.specs.Contexts.{Context}
+use Rattle.mk_class.specs.LocatedClasses.{located_class}
+use Rattle.mk_class.specs.OperatorTexts.{operator_text}
+use Rattle.mk_class.specs.RecipePrefix.{is_prefix_name}
+use Rattle.mk_class.specs.Texts.{unit_text}
+use Rattle.mk_class.specs.declared.assignment.Assignment as assignment
+use Rattle.mk_class.specs.declared.assignment.Flavor.{Flavor}
+use Rattle.mk_tree.specs.Items.{Assigned, Sets}
+use Rattle.mk_tree.specs.LocatedLines.{LocatedLine}
+use Rattle.mk_tree.specs.Views.{AssignmentView}
+use Rattle.mk_edit_language.specs.Causes.{where_holds}
+use Rattle.mk_edit_language.specs.Edits.{LineChange, Substitute, SetOperator, Edit, ChangeLine}
+use Rattle.mk_edit_language.specs.LineChanges.{line_after, value_after, reads_as, trimmed}
+use Rattle.mk_edit_language.specs.Refusals.{first_cause}
+use Rattle.mk_edit_language.specs.declared.refusal.Refusal.{Refusal}
+use Rattle.mk_edit_parts.specs.RenamedRanges.{span}
+use Rattle.mk_edit_parts.specs.RenamedTexts.{AreApart, rewritten}
+use Rattle.mk_edit_language.specs.declared.refusal.Refusal.TheVariants.{Absent, TooLong}
+
+-- an edit makes this change of a line, which is checked by reading
+pub record IsLineChange (c : LineChange) (e : Edit) : Type 0 where
+  pub nth : Option ℕ
+  pub name : List ℕ
+  pub is : e ≡ ChangeLine nth name c
+
+-- a line that stands in this context is that of this assignment, which sets no recipe prefix
+pub record IsAssignmentIn (context : Context) (l : LocatedLine) (a : Assignment Cell) : Type 0 where
+  pub here : class_of context l.bytes ≡ Assign a None
+  pub class_is : l.class ≡ located_class joined_byte (Assign a None)
+
+-- a line that stands in this context is that of an assignment to another name than the prefix's, so
+-- that it sets none whatever its value and its flavor become
+pub record IsAssigning (context : Context) (l : LocatedLine) : Type 0 where
+  pub assigned : Assignment Cell
+  pub is : IsAssignmentIn context l assigned
+  pub free : is_prefix_name (unit_text joined_byte assigned.name) ≡ false
+
+-- The first of two causes of refusal, by what is counted in the line: there is no place to change,
+-- or the text, which has this size, would be too long.
+abbrev pub first_of_places : (count bytes new_length size : ℕ) → Option Refusal
+first_of_places k b n s =
+    first_cause
+    (where_holds (k == 0) Absent ∷ where_holds (nat_lt (max_text + b) (s + k * n)) TooLong ∷ [])
+
+-- the new line, and the value that it is to be read with
+pub record IsMadeOf (c : LineChange) (context : Context) (l : LocatedLine) (bytes value : List ℕ)
+    : Type 0 where
+  pub bytes_are : (a : Assignment Cell) → IsAssignmentIn context l a → bytes ≡ line_after c l.bytes a
+  pub value_is : (a : Assignment Cell) → IsAssignmentIn context l a → value ≡ value_after c a.value
+
+-- an assignment with another flavor and another value
+abbrev pub with_parts : Assignment Cell → Flavor → (value : List ℕ) → Assigned
+with_parts a f v = Sets a.modifiers (unit_text joined_byte a.name) f v
+
+-- Whether a new line of these bytes, in the place of a line of an assignment, is read as the
+-- assignment with this flavor and this value.
+abbrev pub Reads : Bool → Context → LocatedLine → (bytes : List ℕ) → Flavor → (value : List ℕ)
+    → Type 0
+Reads b x l m f v =
+    (a : Assignment Cell) → IsAssignmentIn x l a → reads_as (with_parts a f v) (class_of x m) ≡ b
+
+-- the value that a line is said to have, by the text of its pieces
+abbrev pub stated : LineChange → (value : List ℕ) → List ℕ
+stated (Substitute f t) v = trimmed v
+stated c v = v
+
+-- the text that is looked for is not empty
+abbrev pub IsSought : LineChange → Type 0
+IsSought (Substitute f v) = 1 ≤ length f
+IsSought c = Unit {0}
+
+-- whether it is the operator that is changed
+abbrev pub is_operator : LineChange → Bool
+is_operator (SetOperator o) = true
+is_operator c = false
+
+-- the value that a line is said to have, by its joined text, the offsets of its parts, and the ranges
+-- that get a new text
+abbrev pub value_made : LineChange → (text : List ℕ) → assignment.Assignment → List Span
+    → (new : List ℕ) → List ℕ
+value_made c t at ss n =
+    if is_operator c
+    then text_at t at.value
+    else stated c (drop at.value.start (rewritten (text_at t (span 0 at.value.end)) n ss))
+
+-- such a value can be made
+pub record CanRewrite (c : LineChange) (t : List ℕ) (at : assignment.Assignment) (ss : List Span)
+    (n : List ℕ)
+    : Type 0 where
+  pub rises : at.value.start ≤ at.value.end
+  pub within : at.value.end ≤ length t
+  pub apart : AreApart 0 at.value.end ss
+  pub begins : is_operator c ≡ false
+      → at.value.start ≤ length (rewritten (text_at t (span 0 at.value.end)) n ss)
+
+-- whether two lists of texts are the same
+abbrev pub are_same_texts : List (List ℕ) → List (List ℕ) → Bool
+are_same_texts [] [] = true
+are_same_texts [] (y ∷ ys) = false
+are_same_texts (x ∷ xs) [] = false
+are_same_texts (x ∷ xs) (y ∷ ys) = bytes_eq x y && are_same_texts xs ys
+
+-- Whether a new line shows the assignment of an old one, with this flavor and this value: the words
+-- before the name, and the name, are the same.
+abbrev pub is_read_as : (old new : Option AssignmentView) → Flavor → (value : List ℕ) → Bool
+is_read_as (Some o) (Some n) f v =
+    are_same_texts o.modifiers n.modifiers
+    && (bytes_eq o.name n.name
+    && (bytes_eq (operator_text n.flavor) (operator_text f) && bytes_eq n.value v))
+is_read_as o n f v = false

@@ -1,0 +1,256 @@
+-- Scripts and what they mean. Made by `tests/definitions/script_rows.py tests/cases/further-runs.tsv tests/cases/further-edits.tsv`.
+use Rattle.std.proofs.Common.{◌≡◌, refl, ℕ, List, [], ◌∷◌, map, Some, None}
+use Rattle.std.specs.Prelude.{codes, Result, Ok, Err}
+use Rattle.bstr.specs.Text.{line_len, lines_from}
+use Rattle.mk_class.specs.declared.assignment.Flavor.TheVariants.{Recursive, Simple, PosixSimple, Immediate, Conditional, Append, Shell}
+use Rattle.mk_edit_language.specs.declared.edit.RuleSeparator.TheVariants.{Single, Double}
+use Rattle.mk_edit_language.specs.Edits.{Bottom, BeforeVar, AfterVar, BeforeRule}
+use Rattle.mk_edit_language.specs.Edits.{One, Every, NewAssign, NewRule, ByText, At, OfAssign, OfRule, OfRecipe, ChangeValue, ChangeLine, AddLine, AddRecipe, RemoveLines}
+use Rattle.mk_edit_language.specs.Edits as edits
+use Rattle.mk_history.specs.Machine.{Apply, Undo, Redo, Begin, End}
+use Rattle.mk_script.specs.Scripts.{Step, Chain}
+use Rattle.mk_rows.proofs.scripts.ScriptReader.{on_line, edit_on, tried_on, read_script}
+
+abbrev rows_1 : List (List ℕ × Result (List Step) ℕ)
+rows_1 =
+    (codes "replace F a \"a x\"\nreplace F a \"a x\"", Ok (on_line 1 (Apply (ChangeLine None (codes "F") (edits.ReplaceWord (codes "a") (codes "a x")))) ∷ on_line 2 (Apply (ChangeLine None (codes "F") (edits.ReplaceWord (codes "a") (codes "a x")))) ∷ [])) ∷  -- further-run-31
+    (codes "all uncomment X", Err 1) ∷  -- further-run-50
+    (codes "all comment-out X", Err 1) ∷  -- further-run-51
+    (codes "all recipe-subst a x y", Err 1) ∷  -- further-run-52
+    (codes "all add-after X a b", Err 1) ∷  -- further-run-53
+    (codes "all add-before X a b", Err 1) ∷  -- further-run-54
+    (codes "all rule-replace a x", Err 1) ∷  -- further-run-55
+    (codes "all rule-remove a", Err 1) ∷  -- further-run-56
+    (codes "all values-subst a b", Err 1) ∷  -- further-run-57
+    (codes "all insert top x", Err 1) ∷  -- further-run-58
+    (codes "all depend-replace a b c", Err 1) ∷  -- further-run-59
+    (codes "operator X ==", Err 1) ∷  -- further-run-61
+    (codes " \"unset\" X\n", Ok (on_line 1 (Apply (RemoveLines (OfAssign None (codes "X")))) ∷ [])) ∷  -- further-run-118
+    (codes "operator\tF\t\"!=\"", Ok (on_line 1 (Apply (ChangeLine None (codes "F") (edits.SetOperator Shell))) ∷ [])) ∷  -- further-run-133
+    (codes "\r\n", Ok []) ∷  -- further-run-136
+    (codes "\n", Ok []) ∷  -- further-run-144
+    (codes "nth 1 add F b", Ok (on_line 1 (Apply (ChangeValue (One (Some 1)) (codes "F") (edits.Add (codes "b")))) ∷ [])) ∷  -- further-run-145
+    (codes "drop X \"$(a\tb)\"\nnth 000 subst X \"\\\\\" $$\n \nor nth 1 append F \"$ b\"\ntry\t\"nth\"\t\"001\"\tset\tF\t\"$(q:;=|)\"", Ok (on_line 1 (Apply (ChangeValue (One None) (codes "X") (edits.Remove (codes "$(a\tb)")))) ∷ Chain (edit_on 2 (ChangeLine (Some 0) (codes "X") (edits.Substitute (codes "\\") (codes "$$")))) (edit_on 4 (ChangeValue (One (Some 1)) (codes "F") (edits.Append (codes "$ b")))) [] ∷ tried_on 5 (ChangeValue (One (Some 1)) (codes "F") (edits.Set (codes "$(q:;=|)"))) ∷ [])) ∷  -- further-run-176
+    (codes "recipe-remove a t\r\nend\r\nbegin\r\n", Ok (on_line 1 (Apply (RemoveLines (OfRecipe None (codes "a") (ByText (codes "t"))))) ∷ on_line 2 End ∷ on_line 3 Begin ∷ [])) ∷  -- further-run-194
+    (codes "begin\nundo\n", Ok (on_line 1 Begin ∷ on_line 2 Undo ∷ [])) ∷  -- further-run-199
+    (codes "nth 1 add F \\#\n", Ok (on_line 1 (Apply (ChangeValue (One (Some 1)) (codes "F") (edits.Add (codes "\\#")))) ∷ [])) ∷  -- further-run-203
+    (codes "add F \"a\"\noperator X ::=\nnth\t1\tunset\t\"F\"\ntry all set \"X\" -O2\n", Ok (on_line 1 (Apply (ChangeValue (One None) (codes "F") (edits.Add (codes "a")))) ∷ on_line 2 (Apply (ChangeLine None (codes "X") (edits.SetOperator PosixSimple))) ∷ on_line 3 (Apply (RemoveLines (OfAssign (Some 1) (codes "F")))) ∷ tried_on 4 (ChangeValue Every (codes "X") (edits.Set (codes "-O2"))) ∷ [])) ∷  -- further-run-221
+    (codes "all append \"override\" \"a \\\\#\"\r\nreplace \"override\" \\# \"b x=1\"\r\n", Ok (on_line 1 (Apply (ChangeValue Every (codes "override") (edits.Append (codes "a \\#")))) ∷ on_line 2 (Apply (ChangeLine None (codes "override") (edits.ReplaceWord (codes "\\#") (codes "b x=1")))) ∷ [])) ∷  -- further-run-230
+    (codes "try rule bottom x.o : \"\"\n\"recipe-insert\" d 2 a\n", Ok (tried_on 1 (AddLine Bottom (NewRule (codes "x.o") Single [])) ∷ on_line 2 (Apply (AddRecipe None (codes "d") (At 2) (codes "a"))) ∷ [])) ∷  -- further-run-235
+    (codes "\"unrule\" a\n", Ok (on_line 1 (Apply (RemoveLines (OfRule None (codes "a")))) ∷ [])) ∷  -- further-run-239
+    (codes "\"nth\" 3 subst F \"$(w a)\" x\n", Ok (on_line 1 (Apply (ChangeLine (Some 3) (codes "F") (edits.Substitute (codes "$(w a)") (codes "x")))) ∷ [])) ∷  -- further-run-289
+    (codes "undo\nadd F -g\nbegin\n nth \"001\" operator F !=\nredo", Ok (on_line 1 Undo ∷ on_line 2 (Apply (ChangeValue (One None) (codes "F") (edits.Add (codes "-g")))) ∷ on_line 3 Begin ∷ on_line 4 (Apply (ChangeLine (Some 1) (codes "F") (edits.SetOperator Shell))) ∷ on_line 5 Redo ∷ [])) ∷  -- further-run-292
+    (codes "replace F -O2 \"-O3 -g\"", Ok (on_line 1 (Apply (ChangeLine None (codes "F") (edits.ReplaceWord (codes "-O2") (codes "-O3 -g")))) ∷ [])) ∷  -- further-0
+    (codes "subst D /usr/local /usr", Ok (on_line 1 (Apply (ChangeLine None (codes "D") (edits.Substitute (codes "/usr/local") (codes "/usr")))) ∷ [])) ∷  -- further-5
+    (codes "subst F \"a \" \"\"", Ok (on_line 1 (Apply (ChangeLine None (codes "F") (edits.Substitute (codes "a ") []))) ∷ [])) ∷  -- further-6
+    (codes "subst F a \"\"", Ok (on_line 1 (Apply (ChangeLine None (codes "F") (edits.Substitute (codes "a") []))) ∷ [])) ∷  -- further-7
+    (codes "subst F a \"x # y\"", Ok (on_line 1 (Apply (ChangeLine None (codes "F") (edits.Substitute (codes "a") (codes "x # y")))) ∷ [])) ∷  -- further-8
+    (codes "subst F \")\" \"\"", Ok (on_line 1 (Apply (ChangeLine None (codes "F") (edits.Substitute (codes ")") []))) ∷ [])) ∷  -- further-9
+    (codes "operator CC ?=", Ok (on_line 1 (Apply (ChangeLine None (codes "CC") (edits.SetOperator Conditional))) ∷ [])) ∷  -- further-13
+    (codes "prepend L -lz", Ok (on_line 1 (Apply (ChangeLine None (codes "L") (edits.Prepend (codes "-lz")))) ∷ [])) ∷  -- further-14
+    (codes "drop F -g", Ok (on_line 1 (Apply (ChangeValue (One None) (codes "F") (edits.Remove (codes "-g")))) ∷ [])) ∷  -- further-41
+    (codes "subst F b c", Ok (on_line 1 (Apply (ChangeLine None (codes "F") (edits.Substitute (codes "b") (codes "c")))) ∷ [])) ∷  -- further-120
+    (codes "subst F a x", Ok (on_line 1 (Apply (ChangeLine None (codes "F") (edits.Substitute (codes "a") (codes "x")))) ∷ [])) ∷  -- further-121
+    (codes "subst F x \"\"", Ok (on_line 1 (Apply (ChangeLine None (codes "F") (edits.Substitute (codes "x") []))) ∷ [])) ∷  -- further-122
+    (codes "subst F a \" \"", Ok (on_line 1 (Apply (ChangeLine None (codes "F") (edits.Substitute (codes "a") (codes " ")))) ∷ [])) ∷  -- further-123
+    (codes "subst F b \"\"", Ok (on_line 1 (Apply (ChangeLine None (codes "F") (edits.Substitute (codes "b") []))) ∷ [])) ∷  -- further-125
+    (codes "subst F b \" c\"", Ok (on_line 1 (Apply (ChangeLine None (codes "F") (edits.Substitute (codes "b") (codes " c")))) ∷ [])) ∷  -- further-126
+    (codes "subst F \" \" :", Ok (on_line 1 (Apply (ChangeLine None (codes "F") (edits.Substitute (codes " ") (codes ":")))) ∷ [])) ∷  -- further-129
+    (codes "subst F aa b", Ok (on_line 1 (Apply (ChangeLine None (codes "F") (edits.Substitute (codes "aa") (codes "b")))) ∷ [])) ∷  -- further-130
+    (codes "subst F a \"\\\\\"", Ok (on_line 1 (Apply (ChangeLine None (codes "F") (edits.Substitute (codes "a") (codes "\\")))) ∷ [])) ∷  -- further-131
+    (codes "\"nth\" 2 subst F -g $$", Ok (on_line 1 (Apply (ChangeLine (Some 2) (codes "F") (edits.Substitute (codes "-g") (codes "$$")))) ∷ [])) ∷  -- further-259
+    (codes " \"operator\" X :=", Ok (on_line 1 (Apply (ChangeLine None (codes "X") (edits.SetOperator Simple))) ∷ [])) ∷  -- further-260
+    (codes "\"assign\" after-var \"F\" F \"=\" |", Ok (on_line 1 (Apply (AddLine (AfterVar None (codes "F")) (NewAssign (codes "F") Recursive (codes "|")))) ∷ [])) ∷  -- further-267
+    (codes "nth \"4294967295\" prepend \"F\" \"a:b $\\\\x\"", Ok (on_line 1 (Apply (ChangeLine (Some 4294967295) (codes "F") (edits.Prepend (codes "a:b $\\x")))) ∷ [])) ∷  -- further-276
+    (codes "\"rule\" bottom c : \"a\"", Ok (on_line 1 (Apply (AddLine Bottom (NewRule (codes "c") Single (codes "a")))) ∷ [])) ∷  -- further-285
+    []
+
+answers_1 : map (λ row. read_script row.0) rows_1 ≡ map (λ row. row.1) rows_1
+unfolding line_len lines_from
+answers_1 = refl
+
+abbrev rows_2 : List (List ℕ × Result (List Step) ℕ)
+rows_2 =
+    (codes "rule bottom d \"::\" \"a\"", Ok (on_line 1 (Apply (AddLine Bottom (NewRule (codes "d") Double (codes "a")))) ∷ [])) ∷  -- further-286
+    (codes "assign bottom \"F\" ::= \"-g b\"", Ok (on_line 1 (Apply (AddLine Bottom (NewAssign (codes "F") PosixSimple (codes "-g b")))) ∷ [])) ∷  -- further-292
+    (codes "prepend X $(u", Ok (on_line 1 (Apply (ChangeLine None (codes "X") (edits.Prepend (codes "$(u")))) ∷ [])) ∷  -- further-302
+    (codes "replace F ; a", Ok (on_line 1 (Apply (ChangeLine None (codes "F") (edits.ReplaceWord (codes ";") (codes "a")))) ∷ [])) ∷  -- further-305
+    (codes "\"nth\" \"002\" assign \"before-rule\" c \"F\" :::= -O2", Ok (on_line 1 (Apply (AddLine (BeforeRule (Some 2) (codes "c")) (NewAssign (codes "F") Immediate (codes "-O2")))) ∷ [])) ∷  -- further-317
+    (codes "assign before-rule \"a b\" F = \"b b\"", Ok (on_line 1 (Apply (AddLine (BeforeRule None (codes "a b")) (NewAssign (codes "F") Recursive (codes "b b")))) ∷ [])) ∷  -- further-319
+    (codes "\"replace\" X x=1 \"|\"", Ok (on_line 1 (Apply (ChangeLine None (codes "X") (edits.ReplaceWord (codes "x=1") (codes "|")))) ∷ [])) ∷  -- further-320
+    (codes " operator \"F\" !=", Ok (on_line 1 (Apply (ChangeLine None (codes "F") (edits.SetOperator Shell))) ∷ [])) ∷  -- further-330
+    (codes "\"nth\" 0 rule \"before-rule\" c include \":\" \"\"", Ok (on_line 1 (Apply (AddLine (BeforeRule (Some 0) (codes "c")) (NewRule (codes "include") Single []))) ∷ [])) ∷  -- further-340
+    (codes "nth 0 subst override cc }", Ok (on_line 1 (Apply (ChangeLine (Some 0) (codes "override") (edits.Substitute (codes "cc") (codes "}")))) ∷ [])) ∷  -- further-347
+    (codes "rule bottom c : \"a b\"", Ok (on_line 1 (Apply (AddLine Bottom (NewRule (codes "c") Single (codes "a b")))) ∷ [])) ∷  -- further-349
+    (codes "rule\tbefore-var\t\"X\"\tc\t::\t\"a b\"", Ok (on_line 1 (Apply (AddLine (BeforeVar None (codes "X")) (NewRule (codes "c") Double (codes "a b")))) ∷ [])) ∷  -- further-351
+    (codes "prepend F -g", Ok (on_line 1 (Apply (ChangeLine None (codes "F") (edits.Prepend (codes "-g")))) ∷ [])) ∷  -- further-352
+    (codes "nth 5 replace F x= \"-g\"", Ok (on_line 1 (Apply (ChangeLine (Some 5) (codes "F") (edits.ReplaceWord (codes "x=") (codes "-g")))) ∷ [])) ∷  -- further-364
+    (codes "assign \"bottom\" F = \"\"", Ok (on_line 1 (Apply (AddLine Bottom (NewAssign (codes "F") Recursive []))) ∷ [])) ∷  -- further-368
+    (codes "rule bottom c : a", Ok (on_line 1 (Apply (AddLine Bottom (NewRule (codes "c") Single (codes "a")))) ∷ [])) ∷  -- further-370
+    (codes "nth  3  \"prepend\"  \"F\"  |", Ok (on_line 1 (Apply (ChangeLine (Some 3) (codes "F") (edits.Prepend (codes "|")))) ∷ [])) ∷  -- further-381
+    (codes "\"nth\" 2 operator X +=", Ok (on_line 1 (Apply (ChangeLine (Some 2) (codes "X") (edits.SetOperator Append))) ∷ [])) ∷  -- further-384
+    (codes "nth 003 \"subst\" F ; #", Ok (on_line 1 (Apply (ChangeLine (Some 3) (codes "F") (edits.Substitute (codes ";") (codes "#")))) ∷ [])) ∷  -- further-387
+    (codes "operator F !=", Ok (on_line 1 (Apply (ChangeLine None (codes "F") (edits.SetOperator Shell))) ∷ [])) ∷  -- further-388
+    (codes "\"replace\"\t\"X\"\t1\t\"a\"", Ok (on_line 1 (Apply (ChangeLine None (codes "X") (edits.ReplaceWord (codes "1") (codes "a")))) ∷ [])) ∷  -- further-400
+    (codes "rule  \"bottom\"  x.o  \"::\"  \"a\"", Ok (on_line 1 (Apply (AddLine Bottom (NewRule (codes "x.o") Double (codes "a")))) ∷ [])) ∷  -- further-403
+    (codes "nth 002 \"prepend\" \"X\" \"x=1\"", Ok (on_line 1 (Apply (ChangeLine (Some 2) (codes "X") (edits.Prepend (codes "x=1")))) ∷ [])) ∷  -- further-407
+    (codes "nth\t2\trule\tafter-var\tF\tc\t::\t\"\"", Ok (on_line 1 (Apply (AddLine (AfterVar (Some 2) (codes "F")) (NewRule (codes "c") Double []))) ∷ [])) ∷  -- further-408
+    (codes "replace X -g \"a:b \\\\\\\\a\"", Ok (on_line 1 (Apply (ChangeLine None (codes "X") (edits.ReplaceWord (codes "-g") (codes "a:b \\\\a")))) ∷ [])) ∷  -- further-409
+    (codes "\"subst\" X b \"\"", Ok (on_line 1 (Apply (ChangeLine None (codes "X") (edits.Substitute (codes "b") []))) ∷ [])) ∷  -- further-410
+    (codes "nth \"001\" \"prepend\" X \"a:b x=1\"", Ok (on_line 1 (Apply (ChangeLine (Some 1) (codes "X") (edits.Prepend (codes "a:b x=1")))) ∷ [])) ∷  -- further-413
+    (codes "nth 1 prepend X \"-g\"", Ok (on_line 1 (Apply (ChangeLine (Some 1) (codes "X") (edits.Prepend (codes "-g")))) ∷ [])) ∷  -- further-423
+    (codes "nth 1 rule \"before-rule\" \"\" \"c\" :: \"a b\"", Ok (on_line 1 (Apply (AddLine (BeforeRule (Some 1) []) (NewRule (codes "c") Double (codes "a b")))) ∷ [])) ∷  -- further-424
+    (codes "replace \"F\" b \"b x$(a  b)\"", Ok (on_line 1 (Apply (ChangeLine None (codes "F") (edits.ReplaceWord (codes "b") (codes "b x$(a  b)")))) ∷ [])) ∷  -- further-425
+    (codes "\"nth\" 002 \"operator\" F +=", Ok (on_line 1 (Apply (ChangeLine (Some 2) (codes "F") (edits.SetOperator Append))) ∷ [])) ∷  -- further-426
+    (codes "nth\t\"2\"\treplace\tF\t\"$ b\"\t\"$(u $(t -g)\"", Ok (on_line 1 (Apply (ChangeLine (Some 2) (codes "F") (edits.ReplaceWord (codes "$ b") (codes "$(u $(t -g)")))) ∷ [])) ∷  -- further-433
+    (codes "\"operator\" F ?=", Ok (on_line 1 (Apply (ChangeLine None (codes "F") (edits.SetOperator Conditional))) ∷ [])) ∷  -- further-438
+    (codes "assign  before-var  F  \"F\"  ::=  -g", Ok (on_line 1 (Apply (AddLine (BeforeVar None (codes "F")) (NewAssign (codes "F") PosixSimple (codes "-g")))) ∷ [])) ∷  -- further-440
+    (codes "nth 1 \"replace\" F b \"x$(a  b)\"", Ok (on_line 1 (Apply (ChangeLine (Some 1) (codes "F") (edits.ReplaceWord (codes "b") (codes "x$(a  b)")))) ∷ [])) ∷  -- further-441
+    (codes " nth 1 replace F \"-g\" x=1", Ok (on_line 1 (Apply (ChangeLine (Some 1) (codes "F") (edits.ReplaceWord (codes "-g") (codes "x=1")))) ∷ [])) ∷  -- further-442
+    (codes "nth \"4294967295\" subst \"\" \"\" \"$(\"", Ok (on_line 1 (Apply (ChangeLine (Some 4294967295) [] (edits.Substitute [] (codes "$(")))) ∷ [])) ∷  -- further-443
+    (codes "nth\t002\treplace\tF\ta\tb", Ok (on_line 1 (Apply (ChangeLine (Some 2) (codes "F") (edits.ReplaceWord (codes "a") (codes "b")))) ∷ [])) ∷  -- further-444
+    (codes "operator F :::=", Ok (on_line 1 (Apply (ChangeLine None (codes "F") (edits.SetOperator Immediate))) ∷ [])) ∷  -- further-451
+    (codes " rule before-rule a c : \"\"", Ok (on_line 1 (Apply (AddLine (BeforeRule None (codes "a")) (NewRule (codes "c") Single []))) ∷ [])) ∷  -- further-452
+    (codes "\"assign\"  bottom  \"F\"  \":=\"  \"; a:b\"", Ok (on_line 1 (Apply (AddLine Bottom (NewAssign (codes "F") Simple (codes "; a:b")))) ∷ [])) ∷  -- further-453
+    (codes "rule \"before-var\" F c :: \"\"", Ok (on_line 1 (Apply (AddLine (BeforeVar None (codes "F")) (NewRule (codes "c") Double []))) ∷ [])) ∷  -- further-461
+    (codes "\"nth\" 4294967295 operator $(X) :::=", Ok (on_line 1 (Apply (ChangeLine (Some 4294967295) (codes "$(X)") (edits.SetOperator Immediate))) ∷ [])) ∷  -- further-464
+    (codes "rule before-var X \"c\" : \"a b\"", Ok (on_line 1 (Apply (AddLine (BeforeVar None (codes "X")) (NewRule (codes "c") Single (codes "a b")))) ∷ [])) ∷  -- further-467
+    (codes "operator X !=", Ok (on_line 1 (Apply (ChangeLine None (codes "X") (edits.SetOperator Shell))) ∷ [])) ∷  -- further-468
+    (codes "replace a.b a:b \"$(A -g)\"", Ok (on_line 1 (Apply (ChangeLine None (codes "a.b") (edits.ReplaceWord (codes "a:b") (codes "$(A -g)")))) ∷ [])) ∷  -- further-474
+    (codes "rule before-rule \"d\" d :: \"\"", Ok (on_line 1 (Apply (AddLine (BeforeRule None (codes "d")) (NewRule (codes "d") Double []))) ∷ [])) ∷  -- further-478
+    (codes "rule before-var X c : \"a b\"", Ok (on_line 1 (Apply (AddLine (BeforeVar None (codes "X")) (NewRule (codes "c") Single (codes "a b")))) ∷ [])) ∷  -- further-481
+    (codes "nth 1 replace F a$\\\\ \"-O2\"", Ok (on_line 1 (Apply (ChangeLine (Some 1) (codes "F") (edits.ReplaceWord (codes "a$\\\\") (codes "-O2")))) ∷ [])) ∷  -- further-485
+    (codes "\"prepend\" X \"a b\"", Ok (on_line 1 (Apply (ChangeLine None (codes "X") (edits.Prepend (codes "a b")))) ∷ [])) ∷  -- further-492
+    []
+
+answers_2 : map (λ row. read_script row.0) rows_2 ≡ map (λ row. row.1) rows_2
+unfolding line_len lines_from
+answers_2 = refl
+
+abbrev rows_3 : List (List ℕ × Result (List Step) ℕ)
+rows_3 =
+    (codes "nth 2 rule after-var F c : \"\"", Ok (on_line 1 (Apply (AddLine (AfterVar (Some 2) (codes "F")) (NewRule (codes "c") Single []))) ∷ [])) ∷  -- further-494
+    (codes "prepend F \"a\\\\\\\\ b\"", Ok (on_line 1 (Apply (ChangeLine None (codes "F") (edits.Prepend (codes "a\\\\ b")))) ∷ [])) ∷  -- further-495
+    (codes "\"assign\" bottom \"F\" += \"$(s (b) a) =\"", Ok (on_line 1 (Apply (AddLine Bottom (NewAssign (codes "F") Append (codes "$(s (b) a) =")))) ∷ [])) ∷  -- further-496
+    (codes "\"nth\"  \"2\"  prepend  F  \"x=1 ${c}\"", Ok (on_line 1 (Apply (ChangeLine (Some 2) (codes "F") (edits.Prepend (codes "x=1 ${c}")))) ∷ [])) ∷  -- further-501
+    (codes "operator F \":=\"", Ok (on_line 1 (Apply (ChangeLine None (codes "F") (edits.SetOperator Simple))) ∷ [])) ∷  -- further-504
+    (codes "rule after-var F %.o :: \"\"", Ok (on_line 1 (Apply (AddLine (AfterVar None (codes "F")) (NewRule (codes "%.o") Double []))) ∷ [])) ∷  -- further-508
+    (codes "replace override \"a:b\" -O2", Ok (on_line 1 (Apply (ChangeLine None (codes "override") (edits.ReplaceWord (codes "a:b") (codes "-O2")))) ∷ [])) ∷  -- further-510
+    (codes "replace F b -g", Ok (on_line 1 (Apply (ChangeLine None (codes "F") (edits.ReplaceWord (codes "b") (codes "-g")))) ∷ [])) ∷  -- further-512
+    (codes " \"nth\" 2 replace F \"a$ endif\" \"$ b \\\\#\"", Ok (on_line 1 (Apply (ChangeLine (Some 2) (codes "F") (edits.ReplaceWord (codes "a$ endif") (codes "$ b \\#")))) ∷ [])) ∷  -- further-513
+    (codes "\"replace\" F \"b\" \"a\"", Ok (on_line 1 (Apply (ChangeLine None (codes "F") (edits.ReplaceWord (codes "b") (codes "a")))) ∷ [])) ∷  -- further-514
+    (codes " rule before-rule d x.o \":\" a", Ok (on_line 1 (Apply (AddLine (BeforeRule None (codes "d")) (NewRule (codes "x.o") Single (codes "a")))) ∷ [])) ∷  -- further-519
+    (codes "operator F :=", Ok (on_line 1 (Apply (ChangeLine None (codes "F") (edits.SetOperator Simple))) ∷ [])) ∷  -- further-520
+    (codes "prepend a.b \"$(s (b) a)\"", Ok (on_line 1 (Apply (ChangeLine None (codes "a.b") (edits.Prepend (codes "$(s (b) a)")))) ∷ [])) ∷  -- further-531
+    (codes "nth\t1\treplace\tF\t\"-g\"\t\"a\\\\ b\"", Ok (on_line 1 (Apply (ChangeLine (Some 1) (codes "F") (edits.ReplaceWord (codes "-g") (codes "a\\ b")))) ∷ [])) ∷  -- further-533
+    (codes "prepend override \"${c} a b\"", Ok (on_line 1 (Apply (ChangeLine None (codes "override") (edits.Prepend (codes "${c} a b")))) ∷ [])) ∷  -- further-538
+    (codes "assign before-var \"F\" X :::= b", Ok (on_line 1 (Apply (AddLine (BeforeVar None (codes "F")) (NewAssign (codes "X") Immediate (codes "b")))) ∷ [])) ∷  -- further-539
+    (codes "subst F \0 \" x\"", Ok (on_line 1 (Apply (ChangeLine None (codes "F") (edits.Substitute (codes "\0") (codes " x")))) ∷ [])) ∷  -- further-540
+    (codes "assign after-var \"\" a.b += a", Ok (on_line 1 (Apply (AddLine (AfterVar None []) (NewAssign (codes "a.b") Append (codes "a")))) ∷ [])) ∷  -- further-541
+    (codes " rule before-rule \"d\" c :: \"\"", Ok (on_line 1 (Apply (AddLine (BeforeRule None (codes "d")) (NewRule (codes "c") Double []))) ∷ [])) ∷  -- further-544
+    (codes "rule before-rule c c :: a", Ok (on_line 1 (Apply (AddLine (BeforeRule None (codes "c")) (NewRule (codes "c") Double (codes "a")))) ∷ [])) ∷  -- further-546
+    (codes " \"nth\" 2 \"subst\" \"F\" a \r", Ok (on_line 1 (Apply (ChangeLine (Some 2) (codes "F") (edits.Substitute (codes "a") (codes "\r")))) ∷ [])) ∷  -- further-548
+    (codes "\"operator\" .RECIPEPREFIX \"::=\"", Ok (on_line 1 (Apply (ChangeLine None (codes ".RECIPEPREFIX") (edits.SetOperator PosixSimple))) ∷ [])) ∷  -- further-554
+    (codes "operator\t\"F\"\t?=", Ok (on_line 1 (Apply (ChangeLine None (codes "F") (edits.SetOperator Conditional))) ∷ [])) ∷  -- further-558
+    (codes "nth  002  assign  before-var  F  a.b  =  ${c}", Ok (on_line 1 (Apply (AddLine (BeforeVar (Some 2) (codes "F")) (NewAssign (codes "a.b") Recursive (codes "${c}")))) ∷ [])) ∷  -- further-560
+    (codes "nth \"1\" \"operator\" F :::=", Ok (on_line 1 (Apply (ChangeLine (Some 1) (codes "F") (edits.SetOperator Immediate))) ∷ [])) ∷  -- further-561
+    (codes "operator \"F\" +=", Ok (on_line 1 (Apply (ChangeLine None (codes "F") (edits.SetOperator Append))) ∷ [])) ∷  -- further-566
+    (codes "nth  \"1\"  rule  \"after-var\"  \"F\"  c  \"::\"  \"a b\"", Ok (on_line 1 (Apply (AddLine (AfterVar (Some 1) (codes "F")) (NewRule (codes "c") Double (codes "a b")))) ∷ [])) ∷  -- further-573
+    (codes "assign \"bottom\" F :::= \"\"", Ok (on_line 1 (Apply (AddLine Bottom (NewAssign (codes "F") Immediate []))) ∷ [])) ∷  -- further-581
+    (codes "rule  after-var  F  d  :  \"\"", Ok (on_line 1 (Apply (AddLine (AfterVar None (codes "F")) (NewRule (codes "d") Single []))) ∷ [])) ∷  -- further-583
+    (codes "assign after-var F F :::= \"\"", Ok (on_line 1 (Apply (AddLine (AfterVar None (codes "F")) (NewAssign (codes "F") Immediate []))) ∷ [])) ∷  -- further-591
+    (codes "prepend \"F\" \"$(t -g)\"", Ok (on_line 1 (Apply (ChangeLine None (codes "F") (edits.Prepend (codes "$(t -g)")))) ∷ [])) ∷  -- further-596
+    (codes "\"rule\" before-var F c :: \"a b\"", Ok (on_line 1 (Apply (AddLine (BeforeVar None (codes "F")) (NewRule (codes "c") Double (codes "a b")))) ∷ [])) ∷  -- further-597
+    (codes "assign \"before-rule\" c \"a.b\" :::= =", Ok (on_line 1 (Apply (AddLine (BeforeRule None (codes "c")) (NewAssign (codes "a.b") Immediate (codes "=")))) ∷ [])) ∷  -- further-607
+    (codes "assign bottom X += \"$(s (b) a) a\\\\\\\\\"", Ok (on_line 1 (Apply (AddLine Bottom (NewAssign (codes "X") Append (codes "$(s (b) a) a\\\\")))) ∷ [])) ∷  -- further-613
+    (codes "assign\tafter-var\toverride\tF\t\"+=\"\t\"-g -g\"", Ok (on_line 1 (Apply (AddLine (AfterVar None (codes "override")) (NewAssign (codes "F") Append (codes "-g -g")))) ∷ [])) ∷  -- further-620
+    (codes "rule after-var F c :: a", Ok (on_line 1 (Apply (AddLine (AfterVar None (codes "F")) (NewRule (codes "c") Double (codes "a")))) ∷ [])) ∷  -- further-627
+    (codes "nth  2  assign  after-var  F  F  ::=  \"x=1 b\"", Ok (on_line 1 (Apply (AddLine (AfterVar (Some 2) (codes "F")) (NewAssign (codes "F") PosixSimple (codes "x=1 b")))) ∷ [])) ∷  -- further-629
+    (codes "assign after-var \"F\" F = \"${c} x$(a  b)\"", Ok (on_line 1 (Apply (AddLine (AfterVar None (codes "F")) (NewAssign (codes "F") Recursive (codes "${c} x$(a  b)")))) ∷ [])) ∷  -- further-630
+    (codes "assign before-rule i F = \\\\a", Ok (on_line 1 (Apply (AddLine (BeforeRule None (codes "i")) (NewAssign (codes "F") Recursive (codes "\\\\a")))) ∷ [])) ∷  -- further-631
+    (codes "replace\t\"\"\t$\\x\t\"$\\\\x\"", Ok (on_line 1 (Apply (ChangeLine None [] (edits.ReplaceWord (codes "$\\x") (codes "$\\x")))) ∷ [])) ∷  -- further-632
+    (codes "\"nth\" \"001\" assign before-rule c F += -O2", Ok (on_line 1 (Apply (AddLine (BeforeRule (Some 1) (codes "c")) (NewAssign (codes "F") Append (codes "-O2")))) ∷ [])) ∷  -- further-640
+    (codes "assign before-var X F = \"$(t -g)\"", Ok (on_line 1 (Apply (AddLine (BeforeVar None (codes "X")) (NewAssign (codes "F") Recursive (codes "$(t -g)")))) ∷ [])) ∷  -- further-649
+    (codes "nth 0 rule after-var .RECIPEPREFIX c \":\" \"a b\"", Ok (on_line 1 (Apply (AddLine (AfterVar (Some 0) (codes ".RECIPEPREFIX")) (NewRule (codes "c") Single (codes "a b")))) ∷ [])) ∷  -- further-653
+    (codes "\"prepend\" X \"x=1 -g\"", Ok (on_line 1 (Apply (ChangeLine None (codes "X") (edits.Prepend (codes "x=1 -g")))) ∷ [])) ∷  -- further-654
+    (codes "assign before-var X \"override\" += \"\"", Ok (on_line 1 (Apply (AddLine (BeforeVar None (codes "X")) (NewAssign (codes "override") Append []))) ∷ [])) ∷  -- further-655
+    (codes "rule bottom \"include\" :: a", Ok (on_line 1 (Apply (AddLine Bottom (NewRule (codes "include") Double (codes "a")))) ∷ [])) ∷  -- further-656
+    (codes "\"prepend\"  .RECIPEPREFIX  b", Ok (on_line 1 (Apply (ChangeLine None (codes ".RECIPEPREFIX") (edits.Prepend (codes "b")))) ∷ [])) ∷  -- further-659
+    (codes "assign  \"before-rule\"  include  t  :::=  \"$(t -g)\"", Ok (on_line 1 (Apply (AddLine (BeforeRule None (codes "include")) (NewAssign (codes "t") Immediate (codes "$(t -g)")))) ∷ [])) ∷  -- further-660
+    (codes "rule after-var $(X) \"include\" : a", Ok (on_line 1 (Apply (AddLine (AfterVar None (codes "$(X)")) (NewRule (codes "include") Single (codes "a")))) ∷ [])) ∷  -- further-663
+    (codes "\"nth\"  0  operator  F  :::=", Ok (on_line 1 (Apply (ChangeLine (Some 0) (codes "F") (edits.SetOperator Immediate))) ∷ [])) ∷  -- further-675
+    []
+
+answers_3 : map (λ row. read_script row.0) rows_3 ≡ map (λ row. row.1) rows_3
+unfolding line_len lines_from
+answers_3 = refl
+
+abbrev rows_4 : List (List ℕ × Result (List Step) ℕ)
+rows_4 =
+    (codes "assign before-var a.b \"F\" != a\\", Ok (on_line 1 (Apply (AddLine (BeforeVar None (codes "a.b")) (NewAssign (codes "F") Shell (codes "a\\")))) ∷ [])) ∷  -- further-676
+    (codes "\"prepend\" \"\" \"a\\\\ b\"", Ok (on_line 1 (Apply (ChangeLine None [] (edits.Prepend (codes "a\\ b")))) ∷ [])) ∷  -- further-677
+    (codes "replace F a \"-O2 $(s (b) a)\"", Ok (on_line 1 (Apply (ChangeLine None (codes "F") (edits.ReplaceWord (codes "a") (codes "-O2 $(s (b) a)")))) ∷ [])) ∷  -- further-679
+    (codes "nth 1 assign before-rule c F = \"$ \"", Ok (on_line 1 (Apply (AddLine (BeforeRule (Some 1) (codes "c")) (NewAssign (codes "F") Recursive (codes "$ ")))) ∷ [])) ∷  -- further-680
+    (codes " nth\t\"0\"\t\"rule\"\tbefore-var\t\".RECIPEPREFIX\"\t\"c\"\t:\t\"\"", Ok (on_line 1 (Apply (AddLine (BeforeVar (Some 0) (codes ".RECIPEPREFIX")) (NewRule (codes "c") Single []))) ∷ [])) ∷  -- further-688
+    (codes "assign\tbottom\t\"F\"\t?=\t\"x$(a  b)\"", Ok (on_line 1 (Apply (AddLine Bottom (NewAssign (codes "F") Conditional (codes "x$(a  b)")))) ∷ [])) ∷  -- further-690
+    (codes " \"assign\" after-var \".RECIPEPREFIX\" \"X\" ?= a", Ok (on_line 1 (Apply (AddLine (AfterVar None (codes ".RECIPEPREFIX")) (NewAssign (codes "X") Conditional (codes "a")))) ∷ [])) ∷  -- further-693
+    (codes "\"subst\" .RECIPEPREFIX > \"\\\\\"", Ok (on_line 1 (Apply (ChangeLine None (codes ".RECIPEPREFIX") (edits.Substitute (codes ">") (codes "\\")))) ∷ [])) ∷  -- further-696
+    (codes "assign\tafter-var\toverride\tX\t\"!=\"\ta\\\\", Ok (on_line 1 (Apply (AddLine (AfterVar None (codes "override")) (NewAssign (codes "X") Shell (codes "a\\\\")))) ∷ [])) ∷  -- further-700
+    (codes "\"replace\" \".RECIPEPREFIX\" -O2 \"$ b\"", Ok (on_line 1 (Apply (ChangeLine None (codes ".RECIPEPREFIX") (edits.ReplaceWord (codes "-O2") (codes "$ b")))) ∷ [])) ∷  -- further-701
+    (codes "nth 4294967295 rule \"before-var\" $(X) c \":\" a", Ok (on_line 1 (Apply (AddLine (BeforeVar (Some 4294967295) (codes "$(X)")) (NewRule (codes "c") Single (codes "a")))) ∷ [])) ∷  -- further-708
+    (codes "assign \"after-var\" F X += \"$ b\"", Ok (on_line 1 (Apply (AddLine (AfterVar None (codes "F")) (NewAssign (codes "X") Append (codes "$ b")))) ∷ [])) ∷  -- further-709
+    (codes "\"prepend\" X \"$(a b)\"", Ok (on_line 1 (Apply (ChangeLine None (codes "X") (edits.Prepend (codes "$(a b)")))) ∷ [])) ∷  -- further-710
+    (codes "\"assign\" before-rule c F ?= -g", Ok (on_line 1 (Apply (AddLine (BeforeRule None (codes "c")) (NewAssign (codes "F") Conditional (codes "-g")))) ∷ [])) ∷  -- further-712
+    (codes " assign before-var $(X) F = \"x$(a  b) a\"", Ok (on_line 1 (Apply (AddLine (BeforeVar None (codes "$(X)")) (NewAssign (codes "F") Recursive (codes "x$(a  b) a")))) ∷ [])) ∷  -- further-713
+    (codes " replace override b -g", Ok (on_line 1 (Apply (ChangeLine None (codes "override") (edits.ReplaceWord (codes "b") (codes "-g")))) ∷ [])) ∷  -- further-727
+    (codes " \"nth\"\t000\tassign\tbefore-var\tF\tF\t:=\t\"a\"", Ok (on_line 1 (Apply (AddLine (BeforeVar (Some 0) (codes "F")) (NewAssign (codes "F") Simple (codes "a")))) ∷ [])) ∷  -- further-728
+    (codes " rule bottom d : \"a b\"", Ok (on_line 1 (Apply (AddLine Bottom (NewRule (codes "d") Single (codes "a b")))) ∷ [])) ∷  -- further-742
+    (codes "subst X \"-g\" x", Ok (on_line 1 (Apply (ChangeLine None (codes "X") (edits.Substitute (codes "-g") (codes "x")))) ∷ [])) ∷  -- further-743
+    (codes "assign before-rule c F \"+=\" \"\"", Ok (on_line 1 (Apply (AddLine (BeforeRule None (codes "c")) (NewAssign (codes "F") Append []))) ∷ [])) ∷  -- further-744
+    (codes "nth 4 prepend F \"\t\"", Ok (on_line 1 (Apply (ChangeLine (Some 4) (codes "F") (edits.Prepend (codes "\t")))) ∷ [])) ∷  -- further-745
+    (codes "\"prepend\"  X  -g", Ok (on_line 1 (Apply (ChangeLine None (codes "X") (edits.Prepend (codes "-g")))) ∷ [])) ∷  -- further-746
+    (codes "nth \"1\" operator F +=", Ok (on_line 1 (Apply (ChangeLine (Some 1) (codes "F") (edits.SetOperator Append))) ∷ [])) ∷  -- further-752
+    (codes "nth 2 operator F \"!=\"", Ok (on_line 1 (Apply (ChangeLine (Some 2) (codes "F") (edits.SetOperator Shell))) ∷ [])) ∷  -- further-756
+    (codes "operator a.b :::=", Ok (on_line 1 (Apply (ChangeLine None (codes "a.b") (edits.SetOperator Immediate))) ∷ [])) ∷  -- further-759
+    (codes "operator  \"F\"  =", Ok (on_line 1 (Apply (ChangeLine None (codes "F") (edits.SetOperator Recursive))) ∷ [])) ∷  -- further-765
+    (codes "\"assign\" bottom F ?= $x", Ok (on_line 1 (Apply (AddLine Bottom (NewAssign (codes "F") Conditional (codes "$x")))) ∷ [])) ∷  -- further-772
+    (codes "nth \"0\" subst X cc \" \"", Ok (on_line 1 (Apply (ChangeLine (Some 0) (codes "X") (edits.Substitute (codes "cc") (codes " ")))) ∷ [])) ∷  -- further-777
+    (codes "operator \"\" ?=", Ok (on_line 1 (Apply (ChangeLine None [] (edits.SetOperator Conditional))) ∷ [])) ∷  -- further-780
+    (codes "replace \"\" $\\x \"b x$(a  b)\"", Ok (on_line 1 (Apply (ChangeLine None [] (edits.ReplaceWord (codes "$\\x") (codes "b x$(a  b)")))) ∷ [])) ∷  -- further-781
+    (codes "\"subst\" X \" a:b -g\" \"\"", Ok (on_line 1 (Apply (ChangeLine None (codes "X") (edits.Substitute (codes " a:b -g") []))) ∷ [])) ∷  -- further-789
+    (codes "prepend \"F\" x=1", Ok (on_line 1 (Apply (ChangeLine None (codes "F") (edits.Prepend (codes "x=1")))) ∷ [])) ∷  -- further-798
+    (codes " subst .RECIPEPREFIX \\ \"\"", Ok (on_line 1 (Apply (ChangeLine None (codes ".RECIPEPREFIX") (edits.Substitute (codes "\\") []))) ∷ [])) ∷  -- further-802
+    (codes "\"subst\" F aaa \r", Ok (on_line 1 (Apply (ChangeLine None (codes "F") (edits.Substitute (codes "aaa") (codes "\r")))) ∷ [])) ∷  -- further-814
+    (codes "assign \"after-var\" X F ::= \"\"", Ok (on_line 1 (Apply (AddLine (AfterVar None (codes "X")) (NewAssign (codes "F") PosixSimple []))) ∷ [])) ∷  -- further-820
+    (codes "operator\tF\t\"::=\"", Ok (on_line 1 (Apply (ChangeLine None (codes "F") (edits.SetOperator PosixSimple))) ∷ [])) ∷  -- further-827
+    (codes "replace X \"$(s (b) a)\" -g", Ok (on_line 1 (Apply (ChangeLine None (codes "X") (edits.ReplaceWord (codes "$(s (b) a)") (codes "-g")))) ∷ [])) ∷  -- further-832
+    (codes "nth 001 assign before-rule c \"F\" ?= \"\"", Ok (on_line 1 (Apply (AddLine (BeforeRule (Some 1) (codes "c")) (NewAssign (codes "F") Conditional []))) ∷ [])) ∷  -- further-837
+    (codes "\"nth\"  1  \"assign\"  before-var  \"F\"  F  :::=  a", Ok (on_line 1 (Apply (AddLine (BeforeVar (Some 1) (codes "F")) (NewAssign (codes "F") Immediate (codes "a")))) ∷ [])) ∷  -- further-839
+    (codes "rule before-var F c \":\" \"\"", Ok (on_line 1 (Apply (AddLine (BeforeVar None (codes "F")) (NewRule (codes "c") Single []))) ∷ [])) ∷  -- further-843
+    (codes "\"replace\" \"F\" a \"a b\"", Ok (on_line 1 (Apply (ChangeLine None (codes "F") (edits.ReplaceWord (codes "a") (codes "a b")))) ∷ [])) ∷  -- further-846
+    (codes "nth  0  subst  \"F\"  \"\"  \"x\"", Ok (on_line 1 (Apply (ChangeLine (Some 0) (codes "F") (edits.Substitute [] (codes "x")))) ∷ [])) ∷  -- further-855
+    (codes "\"rule\" before-var F d :: \"a b\"", Ok (on_line 1 (Apply (AddLine (BeforeVar None (codes "F")) (NewRule (codes "d") Double (codes "a b")))) ∷ [])) ∷  -- further-860
+    (codes "\"replace\" F $$ \"$ b\"", Ok (on_line 1 (Apply (ChangeLine None (codes "F") (edits.ReplaceWord (codes "$$") (codes "$ b")))) ∷ [])) ∷  -- further-861
+    (codes " nth 004 prepend F -g", Ok (on_line 1 (Apply (ChangeLine (Some 4) (codes "F") (edits.Prepend (codes "-g")))) ∷ [])) ∷  -- further-863
+    (codes "assign\tafter-var\t\"override\"\tF\t:::=\t\"${c} $x\"", Ok (on_line 1 (Apply (AddLine (AfterVar None (codes "override")) (NewAssign (codes "F") Immediate (codes "${c} $x")))) ∷ [])) ∷  -- further-865
+    (codes "rule before-rule \"c\" d : \"\"", Ok (on_line 1 (Apply (AddLine (BeforeRule None (codes "c")) (NewRule (codes "d") Single []))) ∷ [])) ∷  -- further-867
+    (codes "prepend X -g", Ok (on_line 1 (Apply (ChangeLine None (codes "X") (edits.Prepend (codes "-g")))) ∷ [])) ∷  -- further-869
+    (codes "nth 0 replace X -O2 \"$ b\"", Ok (on_line 1 (Apply (ChangeLine (Some 0) (codes "X") (edits.ReplaceWord (codes "-O2") (codes "$ b")))) ∷ [])) ∷  -- further-871
+    (codes "subst \"X\" \"cc\" \"ab\"", Ok (on_line 1 (Apply (ChangeLine None (codes "X") (edits.Substitute (codes "cc") (codes "ab")))) ∷ [])) ∷  -- further-876
+    []
+
+answers_4 : map (λ row. read_script row.0) rows_4 ≡ map (λ row. row.1) rows_4
+unfolding line_len lines_from
+answers_4 = refl
+
+abbrev rows_5 : List (List ℕ × Result (List Step) ℕ)
+rows_5 =
+    (codes "rule bottom d : \"\"", Ok (on_line 1 (Apply (AddLine Bottom (NewRule (codes "d") Single []))) ∷ [])) ∷  -- further-880
+    (codes "nth 4294967295 \"rule\" after-var \"a.b\" c \":\" a", Ok (on_line 1 (Apply (AddLine (AfterVar (Some 4294967295) (codes "a.b")) (NewRule (codes "c") Single (codes "a")))) ∷ [])) ∷  -- further-881
+    (codes "replace X ababa \"$ b\"", Ok (on_line 1 (Apply (ChangeLine None (codes "X") (edits.ReplaceWord (codes "ababa") (codes "$ b")))) ∷ [])) ∷  -- further-887
+    (codes "replace \"F\" \"\\\\\\\\\" \";\"", Ok (on_line 1 (Apply (ChangeLine None (codes "F") (edits.ReplaceWord (codes "\\\\") (codes ";")))) ∷ [])) ∷  -- further-897
+    []
+
+answers_5 : map (λ row. read_script row.0) rows_5 ≡ map (λ row. row.1) rows_5
+unfolding line_len lines_from
+answers_5 = refl
