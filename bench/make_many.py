@@ -17,14 +17,15 @@ import sys
 from pathlib import Path
 
 MIXTURE = "mixture"
-# A variable with the first word of its value, and its rule with the header file that it needs.
-PAIR = re.compile(r"(?m)^([A-Z]+\d+) \S+ (\S+).*\n([a-z]+\d+\.o): \S+ (?:\\\n )?(\S+\.h) ")
+# A variable with the first word of its value, which it has once, and its rule with the header file that it needs.
+PAIR = re.compile(r"(?m)^([A-Z]+\d+) \S+ (\S+)(?=\s)(?!.* \2\s).*\n([a-z]+\d+\.o): \S+ (?:\\\n )?(\S+\.h) ")
 COMMANDS = {
     "set": "set {variable} value",
     "append": "append {variable} -DNEW={number}",
     "drop": "drop {variable} {flag}",
     "prepend": "prepend {variable} -DNEW={number}",
     "replace": "replace {variable} {flag} -DNEW={number}",
+    "add-after": "add-after {variable} {flag} -DNEW={number}",
     "subst": "subst {variable} {flag} -DNEW={number}",
     "operator": "operator {variable} ::=",
     "unset": "unset {variable}",

@@ -36,6 +36,9 @@ pub fn obey(document: &mut Document, command: &Command<'_>) -> Option<()> {
                 all.filter(|it| line[it.clone()] == *word).collect()
             })?;
         }
+        [kind @ (b"add-before" | b"add-after"), name, word, new] => {
+            put_beside(document, variable(document, name)?, kind == b"add-after", word, new)?;
+        }
         [b"subst", name, old, new] => {
             let number = variable(document, name)?;
             exchange_places(document, number, new, |line, value| occurrences(line, value, old))?;
@@ -185,6 +188,32 @@ fn occurrences(line: &[u8], value: Range<usize>, text: &[u8]) -> Vec<Range<usize
         at += if is_here { text.len() } else { 1 };
     }
     found
+}
+
+/// Puts a word beside another one of a value, with what separates that one from its neighbour.
+fn put_beside(document: &mut Document, number: u32, is_after: bool, word: &[u8], new: &[u8]) -> Option<()> {
+    let line = document.line(number).to_vec();
+    let Class::Assign { operator_end, .. } = class_of(&line) else {
+        return None;
+    };
+    let value = value_of(&line, operator_end);
+    let all: Vec<_> = words(&line[..value.end], value.start).collect();
+    let places = |text: &[u8]| all.iter().filter(|it| line[(*it).clone()] == *text).count();
+    if places(word) != 1 || places(new) != 0 {
+        return None;
+    }
+    let at = all.iter().position(|it| line[it.clone()] == *word)?;
+    let gap = |left: usize| Some(&line[all.get(left)?.end..all.get(left + 1)?.start]);
+    let (before, after) = (at.checked_sub(1).and_then(gap), gap(at));
+    let nearest = if is_after { after.or(before) } else { before.or(after) };
+    let separator = nearest.unwrap_or(b" ");
+    let Range { start, end } = all[at].clone();
+    if is_after {
+        document.exchange(number, &[&line[..end], separator, new, &line[end..]]);
+    } else {
+        document.exchange(number, &[&line[..start], new, separator, &line[start..]]);
+    }
+    Some(())
 }
 
 /// Gives an assignment another operator.

@@ -48,7 +48,7 @@ REFUSALS = dict(
 )
 REFUSALS[21] = "Misread"
 # The edits that are checked by reading.
-CHECKED = ("PrependValue", "ReplaceWord", "SubstituteValue", "SetOperator")
+CHECKED = ("PrependValue", "ReplaceWord", "InsertBefore", "InsertAfter", "SubstituteValue", "SetOperator")
 
 
 def antt_refusal(report):

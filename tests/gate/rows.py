@@ -44,6 +44,8 @@ STORED = (
     Stored("mk_rows", "proofs/edits/EveryValue.antt", "edit_rows.py tests/cases/edits/every-value.tsv"),
     Stored("mk_rows", "proofs/edits/RandomRecipes.antt", "edit_rows.py tests/cases/edits/random-recipes.tsv"),
     Stored("mk_rows", "proofs/edits/FurtherEdits.antt", "edit_rows.py tests/cases/further-edits.tsv"),
+    Stored("mk_rows", "proofs/edits/LineRuns.antt", "line_run_rows.py tests/cases/line-runs.tsv"),
+    Stored("mk_rows", "proofs/edits/EachLine.antt", "each_line_rows.py tests/cases/each-line.tsv"),
     Stored("mk_rows", "proofs/scripts/WorkedScripts.antt", "script_rows.py tests/cases/runs.tsv"),
     Stored("mk_rows", "proofs/scripts/RandomScripts.antt", "script_rows.py tests/cases/random-runs.tsv"),
     Stored("mk_rows", "proofs/scripts/CornerScripts.antt", "script_rows.py tests/cases/scripts/corners.tsv"),

@@ -67,6 +67,8 @@ def one_fold(size):
         ("set it", b"set LONG two", [*part, (b"two\n", 1)]),
         ("append to it", b"append LONG two", [*part, (b"x two\n", 1)]),
         ("put a text before it", b"prepend LONG two", [*part, (b"two x\n", 1)]),
+        ("put a word before it", b"add-before LONG x two", [*part, (b"two x\n", 1)]),
+        ("put a word after it", b"add-after LONG x two", [*part, (b"x two\n", 1)]),
         ("its operator", b"operator LONG :=", [(b"LONG := ", 1), (b"\\\n", count), (b"x\n", 1)]),
         ("unset it", b"unset LONG", []),
     )

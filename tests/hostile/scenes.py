@@ -28,6 +28,8 @@ EDITS = {
     "drop": (b"drop LAST one", b"one # c\n", b"# c\n"),
     "prepend": (b"prepend LAST two", b"= one", b"= two one"),
     "replace": (b"replace LAST one two", b"= one", b"= two"),
+    "add-before": (b"add-before LAST one two", b"= one", b"= two one"),
+    "add-after": (b"add-after LAST one two", b"= one", b"= one two"),
     "subst": (b"subst LAST ne ld", b"= one", b"= old"),
     "operator": (b"operator LAST :=", b"LAST =", b"LAST :="),
     "all set": (b"all set LAST two", b"= one", b"= two"),
@@ -57,6 +59,7 @@ BOTTOM = {
 ALL = (
     b"set LAST two\nappend LAST three\nadd LAST four\ndrop LAST three\n"
     b'prepend LAST five\nreplace LAST five six\nsubst LAST "six " ""\noperator LAST :=\n'
+    b"add-before LAST four six\nadd-after LAST six seven\n"
     b"all append LAST five\nall drop LAST four\nassign after-var LAST NEW = 1\n"
     b'rule before-rule last new : "a b"\ndepend last c\ndepend-order last d\nundepend last a\n'
     b"recipe last third\nrecipe-set last 2 fourth\nrecipe-del last 1\n"

@@ -125,6 +125,8 @@ PLANTED = (
     (b"A = 1\nA += 1 2\n", ("all drop", None, b"A", b"1"), b"A = \nA += 1 2\n"),
     (b"A = 1\n", ("prepend", None, b"A", b"3"), b"A = 1 3\n"),
     (b"A = a b a\n", ("replace", None, b"A", b"a", b"c"), b"A = c b a\n"),
+    (b"A = a b\n", ("add-before", None, b"A", b"b", b"c"), b"A = a b c\n"),
+    (b"A = a  b d\n", ("add-after", None, b"A", b"a", b"c"), b"A = a c  b d\n"),
     (b"A = a.a\n", ("subst", None, b"A", b"a", b"c"), b"A = c.a\n"),
     (b"A = a b\n", ("subst", None, b"A", b"b", b""), b"A = a\n"),
     (b"A = 1\n", ("operator", None, b"A", b":="), b"A ?= 1\n"),

@@ -403,6 +403,8 @@ FIELDS = {
     "drop": lambda it: it.for_name(it.held),
     "prepend": lambda it: it.for_name(lambda name: it.value(name) or b"more"),
     "replace": lambda it: it.for_name(it.held, lambda name: it.value(name) or b"more"),
+    "add-before": lambda it: it.for_name(it.held, lambda _: it.word()),
+    "add-after": lambda it: it.for_name(it.held, lambda _: it.word()),
     "subst": lambda it: it.for_name(it.part, lambda _: it.new_part()),
     "operator": lambda it: it.for_name(lambda _: it.one(OPERATORS)),
     "all set": lambda it: it.for_every_line(it.value),

@@ -14,7 +14,8 @@ from .expected import Item
 from .values import shown
 
 OF_EVERY_LINE = ("all set", "all append", "all add", "all drop")
-OF_VARIABLES = ("set", "append", "add", "drop", "prepend", "replace", "subst", "operator", "unset", "assign", *OF_EVERY_LINE)
+CHECKED_BY_READING = ("prepend", "replace", "add-before", "add-after", "subst", "operator")
+OF_VARIABLES = ("set", "append", "add", "drop", *CHECKED_BY_READING, "unset", "assign", *OF_EVERY_LINE)
 
 
 def field(text):
@@ -117,10 +118,35 @@ def prepend(of, nth, name, more):
 def replace(of, nth, name, word, new):
     """The value with a text in the place of the word; the runs of blanks stay."""
 
+    return with_value(of, nth, name, lambda old: b"".join(new if it == word else it for it in runs_of(old)))
+
+
+def runs_of(value):
+    """The words of a value and the runs of blanks between them."""
+    runs = itertools.groupby(reading.units(value), reading.is_blank)
+    return [b"".join(units) for _, units in runs]
+
+
+def add_before(of, nth, name, word, new):
+    """The value with a new word before another, and the blanks before that one between them, or those after the first."""
+
     def change(old):
-        runs = itertools.groupby(reading.units(old), reading.is_blank)
-        texts = [b"".join(units) for _, units in runs]
-        return b"".join(new if it == word else it for it in texts)
+        runs = runs_of(old)
+        at = runs.index(word)
+        blanks = [*runs[1:at:2][-1:], *runs[at + 1 : at + 2], b" "]
+        return b"".join([*runs[:at], new, blanks[0], *runs[at:]])
+
+    return with_value(of, nth, name, change)
+
+
+def add_after(of, nth, name, word, new):
+    """The value with a new word after another, and the blanks after that one between them, or those before the last."""
+
+    def change(old):
+        runs = runs_of(old)
+        at = runs.index(word)
+        blanks = [*runs[at + 1 : at + 2], *runs[1:at:2][-1:], b" "]
+        return b"".join([*runs[: at + 1], blanks[0], new, *runs[at + 1 :]])
 
     return with_value(of, nth, name, change)
 
@@ -262,6 +288,8 @@ CHANGES = {
     "drop": drop,
     "prepend": prepend,
     "replace": replace,
+    "add-before": add_before,
+    "add-after": add_after,
     "subst": substitute,
     "operator": operator,
     "unset": unset,

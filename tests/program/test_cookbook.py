@@ -26,6 +26,7 @@ TWICE = (
     "Set a variable or add it",
     "Change a variable that several lines assign",
     "Replace a flag in a value",
+    "Add a file to a list",
     "Change a path inside a value",
     "Change the operator of an assignment",
     "Make install honour DESTDIR",

@@ -28,8 +28,8 @@ QUOTED = (
 )
 LAST_CHAPTER = "## 8. Where make reads otherwise\n"
 COMMANDS = (
-    "nth all set append add drop prepend replace subst operator unset assign rule unrule depend depend-order undepend "
-    "recipe recipe-set recipe-del recipe-insert recipe-replace recipe-remove rename"
+    "nth all set append add drop prepend replace add-before add-after subst operator unset assign rule unrule depend "
+    "depend-order undepend recipe recipe-set recipe-del recipe-insert recipe-replace recipe-remove rename"
 )
 EXAMPLE = re.compile(
     rf"^    (\S.*?⏎|X=1) {{2,}}((?:{COMMANDS.replace(' ', '|')}) .*?) {{2,}}(\S.*⏎)$", re.M

@@ -25,7 +25,10 @@ MOST_OPEN = 256
 # How many recipe lines one rule has at first, how many blank lines stand below another, and how many edits are made
 # there; and these edits.
 COUNTS = [2_500 << it for it in range(4)]
-EDITS = ("recipe-set long {} x", "recipe-insert long {} x", "recipe gap {}", "nth {} set ONE x", "nth {} subst ONE y x")
+EDITS = (
+    *("recipe-set long {} x", "recipe-insert long {} x", "recipe gap {}"),
+    *("nth {} set ONE x", "nth {} subst ONE y x", "nth {} add-after ONE y x"),
+)
 
 
 def times(unit, size):

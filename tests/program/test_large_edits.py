@@ -23,6 +23,8 @@ LONG_LINES = {
     "drop": (b"drop CC gcc", b"CC = gcc @ # c\n", b"CC = @ # c\n"),
     "prepend": (b"prepend CC @", b"CC = gcc # c\n", b"CC = @ gcc # c\n"),
     "replace": (b"replace CC gcc @", b"CC = gcc # c\n", b"CC = @ # c\n"),
+    "add-before": (b"add-before CC gcc @", b"CC = gcc # c\n", b"CC = @ gcc # c\n"),
+    "add-after": (b"add-after CC gcc @", b"CC = gcc # c\n", b"CC = gcc @ # c\n"),
     "subst": (b"subst CC gcc @", b"CC = gcc # c\n", b"CC = @ # c\n"),
     "operator": (b"operator CC :=", b"CC = @ # c\n", b"CC := @ # c\n"),
     "all set": (b"all set CC @", b"CC = gcc # c\n", b"CC = @ # c\n"),
@@ -52,6 +54,8 @@ LISTS = {
     "drop": (b"drop V%d a\n", b"V%d = \n"),
     "prepend": (b"prepend V%d b\n", b"V%d = b a\n"),
     "replace": (b"replace V%d a b\n", b"V%d = b\n"),
+    "add-before": (b"add-before V%d a b\n", b"V%d = b a\n"),
+    "add-after": (b"add-after V%d a b\n", b"V%d = a b\n"),
     "subst": (b"subst V%d a bc\n", b"V%d = bc\n"),
     "operator": (b"operator V%d ?=\n", b"V%d ?= a\n"),
 }
@@ -108,6 +112,13 @@ class LargeEdits(RoomCase):
             with self.subTest(command):
                 self.assert_edit(command, b"A = " + before + b" # c\n", b"A = " + after + b" # c\n")
 
+    def test_a_long_separator_of_words_is_put_in_again(self):
+        for long in (b" " * MANY, b"\\\n" * MANY):
+            before = b"A = a" + long + b"b # c\n"
+            for word, after in ((b"a", b"a" + long + b"c" + long + b"b"), (b"b", b"a" + long + b"b" + long + b"c")):
+                with self.subTest(long=long[:2], word=word):
+                    self.assert_edit(b"add-after A %s c" % word, before, b"A = " + after + b" # c\n")
+
     def test_a_long_text_that_nearly_occurs_everywhere_is_soon_found(self):
         """Four times the value and the text take at most ten times as long.
 
@@ -122,14 +133,18 @@ class LargeEdits(RoomCase):
         return self.seconds(b"subst A " + b"a" * size + b"b c\n", b"A = " + b"a" * size + b"c\n")
 
     def test_a_value_of_many_folds_is_soon_changed(self):
-        """Four times the lines take at most ten times as long, where each has a word and an occurrence."""
-        for command, new in ((b"subst A b cd\n", b"cd"), (b"replace A ab x\n", b"x")):
-            old = b" \\\n  ab"
-            line = old.replace(b"ab" if new == b"x" else b"b", new)
+        """Four times the lines take at most ten times as long, where each has a word and an occurrence, or the last is meant."""
+        fold = b" \\\n  "
+        for command, new, end in (
+            (b"subst A b cd\n", b"acd", fold + b"last"),
+            (b"replace A ab x\n", b"x", fold + b"last"),
+            (b"add-before A last x\n", b"ab", fold + b"x" + fold + b"last"),
+            (b"add-after A last x\n", b"ab", fold + b"last" + fold + b"x"),
+        ):
             seconds = []
             for count in (MANY // 20, 4 * MANY // 20):
-                self.room.write("large", b"A =" + old * count + b"\n")
-                seconds.append(self.seconds(command, b"A =" + line * count + b"\n"))
+                self.room.write("large", b"A =" + (fold + b"ab") * count + fold + b"last\n")
+                seconds.append(self.seconds(command, b"A =" + (fold + new) * count + end + b"\n"))
             with self.subTest(command):
                 self.assertLess(seconds[1], 10 * max(seconds[0], 0.01), "a fold is passed again and again")
 

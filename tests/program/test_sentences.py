@@ -17,6 +17,7 @@ SHORT = (
     ("nth 3 unrule all", "nth 3 unrule all: large has fewer than 3 rules for all [4 NoSuch]"),
     ("recipe-remove all ls", "recipe-remove all: 2 rules for all, or lines of its recipe, fit [5 Ambiguous 2]"),
     ("nth 2 recipe-remove all ls", "nth 2 recipe-remove all: 2 recipe lines of all are `ls` [5 Ambiguous 2]"),
+    ("add-after A 1 b", "add-after A 1 b: 2 assignments of A, or words of its value, fit [5 Ambiguous 2]"),
     ("nth 1 recipe-remove all ls", "nth 1 recipe-remove all: no recipe line of all is `ls` [6 Absent]"),
     ("nth 1 recipe-del all 2", "nth 1 recipe-del all 2: the rule for all has fewer than 2 recipe lines [6 Absent]"),
     (

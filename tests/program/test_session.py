@@ -164,9 +164,31 @@ class Session(RoomCase):
         wanted = b'undo operator F :=\nundo subst F " b" ""\nundo replace F a $(y)\nundo prepend F x\n'
         self.assertEqual(talk.answer("history"), wanted)
 
+    def test_a_word_goes_beside_another(self):
+        self.room.write("listed", b"S = a.c \\\n    b.c # c\nT = a a\n")
+        talk = self.talk("listed")
+        self.assert_replies(
+            talk,
+            ("add-after S a.c x.c", "ok"),
+            ("add-after S b.c y.c", "ok"),
+            ("add-before S a.c w.c", "ok"),
+            ("add-after S a.c b.c", "refused 7 Already"),
+            ("try add-after S a.c b.c", "ok"),
+            ("add-before S q.c z.c", "refused 6 Absent"),
+            ("add-before T a b", "refused 5 Ambiguous 2"),
+            ('add-before T "a b" b', "refused 1 BadArgument word"),
+            ('add-before T a ""', "refused 1 BadArgument new"),
+            ("nth 2 add-before T a b", "refused 4 NoSuch"),
+            ("all add-after S a.c z.c", "fault not a command"),
+            ("undo", "ok"),
+        )
+        self.assertEqual(talk.answer("get S"), b"a.c x.c b.c y.c\n")
+        wanted = b"S = a.c \\\n    x.c \\\n    b.c \\\n    y.c # c\nT = a a\n"
+        self.assertEqual(talk.answer("print"), wanted)
+
     def test_help_says_what_the_program_says(self):
         talk = self.talk("Makefile")
-        for word in ("set", "recipe-insert", "subst", "or"):
+        for word in ("set", "recipe-insert", "add-after", "or"):
             self.assertEqual(talk.answer(f"help {word}"), self.room.run("help", word).stdout)
         for word in ("vars", "Set", "\udcff"):
             line = f"help {word}".encode("utf-8", "surrogateescape")

@@ -166,6 +166,13 @@ def value_words(line):
     return placed_words(reading.units(line.parts[-1]), places.index(start), places)
 
 
+def between(line, before, after):
+    """Of an assignment: the bytes between two words of its value, and the joined text that they are read as."""
+    joined, places = raw_places(line)
+    text = joined[places.index(before.end) : places.index(after.start)]
+    return line.raw[before.end - line.start : after.start - line.start], text
+
+
 def ends_in_fold(line):
     """Whether the last byte of an assignment's value is a fold."""
     joined, places = raw_places(line)

@@ -304,6 +304,69 @@ class ReplaceWord(CheckedByReading):
         return [Span(it.start, it.end, self.value) for it in found], (*others, value)
 
 
+class InsertWord(CheckedByReading):
+    def __init__(self, nth, name, word, new):
+        super().__init__(nth, name, new)
+        self.word = word
+
+    def fields(self):
+        return [("name", self.name, is_name), ("word", self.word, is_value_word), ("new", self.value, is_value_word)]
+
+    def chosen(self, words):
+        """The number of the word beside which the new one goes."""
+        texts = [it.text for it in words]
+        count = texts.count(self.word)
+        refuse(6, not count)
+        refuse(7, self.value in texts)
+        refuse(5, count > 1, count)
+        return texts.index(self.word)
+
+    def neighbours(self, words, at):
+        """The two words between which the separator stands, of which this one may be one; None where it is the only one."""
+        raise NotImplementedError
+
+    def place_in(self, word):
+        """Where the new word goes in the text."""
+        raise NotImplementedError
+
+    def joined(self, separator):
+        """The new word and the separator, in their order."""
+        raise NotImplementedError
+
+    def parts_in(self, line):
+        *others, old = line.parts
+        words = document.value_words(line)
+        at = self.chosen(words)
+        pair = self.neighbours(words, at)
+        raw, said = document.between(line, *pair) if pair else (b" ", b" ")
+        place = self.place_in(words[at])
+        in_value = document.cell_places(line).index(place)
+        value = old[:in_value] + self.joined(said) + old[in_value:]
+        return [Span(place, place, self.joined(raw))], (*others, value)
+
+
+class InsertBefore(InsertWord):
+    def neighbours(self, words, at):
+        return words[at - 1 : at + 1] if at else words[:2] if len(words) > 1 else None
+
+    def place_in(self, word):
+        return word.start
+
+    def joined(self, separator):
+        return self.value + separator
+
+
+class InsertAfter(InsertWord):
+    def neighbours(self, words, at):
+        return words[at : at + 2] if at + 1 < len(words) else words[-2:] if at else None
+
+    def place_in(self, word):
+        return word.end
+
+    def joined(self, separator):
+        return separator + self.value
+
+
 def is_text(text):
     """Whether a text may be looked for."""
     return text != b"" and is_clean(text)
@@ -668,6 +731,8 @@ KINDS = (
     ChangeValues,
     PrependValue,
     ReplaceWord,
+    InsertBefore,
+    InsertAfter,
     SubstituteValue,
     SetOperator,
     AddAssign,

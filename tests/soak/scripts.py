@@ -33,6 +33,8 @@ OF_NAMES = {
     b"drop": 7,
     b"prepend": 7,
     b"replace": 7,
+    b"add-before": 7,
+    b"add-after": 7,
     b"subst": 8,
     b"operator": 6,
     b"unset": 9,
@@ -262,6 +264,17 @@ class Scripts(Drawing):
         name = self.name()
         new = self.value() or self.one([b"v", b"v", b""])
         return self.of_name(b"replace", name, self.word_of(name, 0.85), new)
+
+    def word_beside(self, word):
+        """A command that puts a word beside another."""
+        name = self.name()
+        return self.of_name(word, name, self.word_of(name, 0.9), self.word_of(name, 0.1))
+
+    def add_before(self):
+        return self.word_beside(b"add-before")
+
+    def add_after(self):
+        return self.word_beside(b"add-after")
 
     def text_of(self, name):
         """A part of a value of this variable, where there is one that is not empty; else any word."""

@@ -64,5 +64,6 @@ NO_COMMANDS = [
     *(b"undo\nor unset X", b"try unset X\nor unset X", b"# c\nor nth 1 end"),
     *(b"all", b"all unset X", b"all undo", b"all set X", b"all all set X 1", b"all rename a b"),
     *(b"operator X ==", b"operator X", b"subst X a", b"replace X a", b"prepend X"),
+    *(b"add-before X a", b"add-after X a", b"all add-before X a b", b"all add-after X a b"),
     *(b"all nth 1 set X 1", b"nth 1 all set X 1", b"all try set X 1", b"all assign bottom X = 1"),
 ]

@@ -33,13 +33,13 @@ SENTENCES = {
         "meant."
     ),
     "Absent": (
-        "The word to remove or to replace is no prerequisite of the rule, or no word of the value, and with "
-        "`all` of no value of the name; the value does not have the text FROM; the rule has no K-th recipe "
-        "line, or none whose text is OLD."
+        "The word to remove or to replace, or beside which a new one is to go, is no prerequisite of the "
+        "rule, or no word of the value, and with `all` of no value of the name; the value does not have the "
+        "text FROM; the rule has no K-th recipe line, or none whose text is OLD."
     ),
     "Already": (
-        "The word is already in the list of prerequisites, or in the value, to which the command adds it, and"
-        " with `all` in each value of the name."
+        "The new word is already in the list of prerequisites, or in the value, to which the command adds it,"
+        " and with `all` in each value of the name."
     ),
     "Taken": "The new name is already a target of a rule or of a target-specific assignment.",
     "SharedRule": "The rule to remove has several targets.",

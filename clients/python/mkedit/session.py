@@ -117,6 +117,14 @@ class Session:
         """Replaces a word of a value by a text."""
         self._do("replace", name, word, value, nth=nth)
 
+    def add_before(self, name: str, word: str, new: str, nth: Optional[int] = None) -> None:
+        """Puts a new word before another one of a value."""
+        self._do("add-before", name, word, new, nth=nth)
+
+    def add_after(self, name: str, word: str, new: str, nth: Optional[int] = None) -> None:
+        """Puts a new word after another one of a value."""
+        self._do("add-after", name, word, new, nth=nth)
+
     def subst(self, name: str, old: str, new: str, nth: Optional[int] = None) -> None:
         """Replaces each occurrence of a text in a value."""
         self._do("subst", name, old, new, nth=nth)

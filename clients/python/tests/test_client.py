@@ -33,6 +33,8 @@ class Client(ClientCase):
             (lambda it: it.drop_all("X", "1"), "X = 1", "X = "),
             (lambda it: it.prepend("X", "0", nth=2), "X = 2", "X = 0 2"),
             (lambda it: it.replace("CFLAGS", "-Werror", "-g -W"), "-Werror", "-g -W"),
+            (lambda it: it.add_before("CFLAGS", "-Werror", "-g"), "-Werror", "-g -Werror"),
+            (lambda it: it.add_after("X", "2", "3", nth=2), "X = 2", "X = 2 3"),
             (lambda it: it.subst("CFLAGS", "error", ""), "-Werror", "-W"),
             (lambda it: it.operator("X", "+=", nth=2), "X = 2", "X += 2"),
             (lambda it: it.unset("X", nth=1), "X = 1\n", ""),

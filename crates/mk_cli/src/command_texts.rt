@@ -82,6 +82,37 @@ makes
     CFLAGS = -O3 -g -Wall # c
 ";
 
+const ADD_BEFORE: &str = "\
+Puts a new word before another word of a value. A list with one word on each line keeps that form.
+
+Is refused with BadArgument, Reserved, RecipePrefix, NoSuch, Ambiguous, Absent, Already, TooLong or
+Misread.
+
+Example: over
+    SOURCES = main.c util.c # c
+the script
+    add-before SOURCES util.c log.c
+makes
+    SOURCES = main.c log.c util.c # c
+";
+
+const ADD_AFTER: &str = "\
+Puts a new word after another word of a value. A list with one word on each line keeps that form.
+
+Is refused with BadArgument, Reserved, RecipePrefix, NoSuch, Ambiguous, Absent, Already, TooLong or
+Misread.
+
+Example: over
+    SOURCES = main.c \\
+        util.c
+the script
+    add-after SOURCES main.c log.c
+makes
+    SOURCES = main.c \\
+        log.c \\
+        util.c
+";
+
 const SUBST: &str = "\
 Replaces each occurrence of a text in a value, also within words.
 
@@ -460,13 +491,15 @@ makes
 ";
 
 /// What is said of each command of a script, and of the words that may stand before one.
-pub(crate) static TEXTS: [(&str, &str); 31] = [
+pub(crate) static TEXTS: [(&str, &str); 33] = [
     ("set", SET),
     ("append", APPEND),
     ("add", ADD),
     ("drop", DROP),
     ("prepend", PREPEND),
     ("replace", REPLACE),
+    ("add-before", ADD_BEFORE),
+    ("add-after", ADD_AFTER),
     ("subst", SUBST),
     ("operator", OPERATOR),
     ("unset", UNSET),

@@ -14,8 +14,9 @@ it is not empty either. `from` is not empty.
 `target`, `word`, `old` and `new` are one word each, without a blank outside a reference. `targets`
 and `prereqs` are such words, and `targets` is not empty. Outside a reference no word has a `#`,
 colon, semicolon, equals sign, vertical bar, backslash or lone `$`, and each reference is closed. No
-target ends in `&`. `place` contains such a name or such a target. With `add`, `drop` and `replace`,
-`word` is a word of a value: it follows the rules for `value`, and is not empty.
+target ends in `&`. `place` contains such a name or such a target. With `add`, `drop`, `replace`,
+`add-before` and `add-after`, `word` and `new` are words of a value: they follow the rules for `value`,
+and are not empty.
 `line` does not end in a backslash, and neither does `old` of `recipe-replace` and `recipe-remove`,
 which is a whole line. No field has a CR or a NUL.
 
@@ -86,7 +87,8 @@ only a prerequisite, use `undepend` and `depend` instead of `rename`.
 
 const AMBIGUOUS: &str = "\
 Several assignments or several rules have this name, and neither `nth` nor `all` says which are meant.
-Or several recipe lines of the rule have the text OLD. The report says how many there are.
+Or several recipe lines of the rule have the text OLD. Or, with `add-before` and `add-after`, several
+words of the value are WORD; this is tested directly after 7. The report says how many there are.
 
 Example: over
     ifdef DEBUG
@@ -103,13 +105,15 @@ Say which one: `nth 2 set CC clang`. The name may be that of PLACE:
 `nth 2 assign after-var CC X = 1`. `mkedit vars` and `mkedit rules` list them in order;
 target-specific assignments do not count. Or change all of them: `all set CC clang`. `all` works with
 `set`, `append`, `add` and `drop`; for another command write one line for each. For a recipe line use
-`recipe-set` or `recipe-del`, which take its number.
+`recipe-set` or `recipe-del`, which take its number. If a value has WORD several times, name the word on
+the other side of the new one, or give the whole value with `set`.
 ";
 
 const ABSENT: &str = "\
-The word to remove or to replace is no prerequisite of the rule, or no word of the value, and with
-`all` of no value of the name; the value does not have the text FROM; the rule has no K-th recipe line,
-or none whose text is OLD. For `recipe-insert` K may be one more than the number of recipe lines.
+The word to remove or to replace, or beside which a new one is to go, is no prerequisite of the rule,
+or no word of the value, and with `all` of no value of the name; the value does not have the text FROM;
+the rule has no K-th recipe line, or none whose text is OLD. For `recipe-insert` K may be one more than
+the number of recipe lines.
 
 Example: over
     hello: main.o
@@ -123,8 +127,8 @@ has no number: `mkedit rules` counts it, and no edit reaches it. Edit it by hand
 ";
 
 const ALREADY: &str = "\
-The word is already in the list of prerequisites, or in the value, to which the command adds it, and
-with `all` in each value of the name.
+The new word is already in the list of prerequisites, or in the value, to which the command adds it,
+and with `all` in each value of the name.
 
 Example: over
     hello: main.o

@@ -21,8 +21,9 @@ const EDIT: &str = "\
 A line of the script is a command, a comment that begins with #, or blank:
     set NAME VALUE            append NAME VALUE           prepend NAME VALUE
     add NAME WORD             drop NAME WORD              replace NAME WORD VALUE
-    subst NAME FROM TO        operator NAME OP            unset NAME
-    assign PLACE NAME OP VALUE                            rename OLD NEW
+    add-before NAME WORD NEW  add-after NAME WORD NEW     subst NAME FROM TO
+    operator NAME OP          unset NAME                  rename OLD NEW
+    assign PLACE NAME OP VALUE
     rule PLACE TARGETS SEP PREREQS                        unrule TARGET
     depend TARGET WORD        depend-order TARGET WORD    undepend TARGET WORD
     recipe TARGET LINE        recipe-set TARGET K LINE    recipe-del TARGET K

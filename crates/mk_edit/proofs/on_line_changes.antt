@@ -1,6 +1,7 @@
 -- Lemmas. A line that is changed and checked by reading.
 pub mod PiecePlaces
 pub mod WordsAndTexts
+pub mod WordsBeside
 pub mod OperatorPlaces
 pub mod ChangePlaces
 pub mod LinesMade

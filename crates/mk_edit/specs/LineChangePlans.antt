@@ -1,10 +1,10 @@
 -- The line of an assignment that is changed and checked by reading.
 -- Told in docs/ARCHITECTURE.md, "An edit's way, from Edit to moved lines".
-use Rattle.std.specs.Prelude.{◌≡◌, ℕ, ◌+◌, ◌*◌, ◌≤◌, ◌==◌, ◌&&◌, nat_lt, if◌then◌else◌, Bool, true, false, List, [], ◌∷◌, drop, length, Option, None, Some}
+use Rattle.std.specs.Prelude.{◌≡◌, ℕ, ◌≤◌, ◌==◌, ◌&&◌, nat_lt, if◌then◌else◌, Bool, true, false, List, [], ◌∷◌, drop, length, Option, None, Some}
 use Rattle.std.specs.Str.{bytes_eq}
 use Rattle.mk_lines.specs.Cells.{Cell, joined_byte}
-use Rattle.mk_lines.specs.Limits.{max_text}
 use Rattle.mk_lines.specs.Ranges.{text_at}
+use Rattle.mk_lines.specs.Words.{words_in}
 use Rattle.mk_lines.specs.declared.split.Span.{Span}
 use Rattle.mk_class.specs.Assignments.{Assignment}
 use Rattle.mk_class.specs.Classes.Class.{Assign}
@@ -13,20 +13,19 @@ use Rattle.mk_class.specs.Contexts.{Context}
 use Rattle.mk_class.specs.LocatedClasses.{located_class}
 use Rattle.mk_class.specs.OperatorTexts.{operator_text}
 use Rattle.mk_class.specs.RecipePrefix.{is_prefix_name}
-use Rattle.mk_class.specs.Texts.{unit_text}
+use Rattle.mk_class.specs.Texts.{is_one_of, unit_text}
 use Rattle.mk_class.specs.declared.assignment.Assignment as assignment
 use Rattle.mk_class.specs.declared.assignment.Flavor.{Flavor}
 use Rattle.mk_tree.specs.Items.{Assigned, Sets}
 use Rattle.mk_tree.specs.LocatedLines.{LocatedLine}
 use Rattle.mk_tree.specs.Views.{AssignmentView}
 use Rattle.mk_edit_language.specs.Causes.{where_holds}
-use Rattle.mk_edit_language.specs.Edits.{LineChange, Substitute, SetOperator, Edit, ChangeLine}
-use Rattle.mk_edit_language.specs.LineChanges.{line_after, value_after, reads_as, trimmed}
-use Rattle.mk_edit_language.specs.Refusals.{first_cause}
+use Rattle.mk_edit_language.specs.Edits.{LineChange, InsertWord, Substitute, SetOperator, Edit, ChangeLine}
+use Rattle.mk_edit_language.specs.LineChanges.{line_after, stated, value_after, reads_as}
 use Rattle.mk_edit_language.specs.declared.refusal.Refusal.{Refusal}
 use Rattle.mk_edit_parts.specs.RenamedRanges.{span}
 use Rattle.mk_edit_parts.specs.RenamedTexts.{AreApart, rewritten}
-use Rattle.mk_edit_language.specs.declared.refusal.Refusal.TheVariants.{Absent, TooLong}
+use Rattle.mk_edit_language.specs.declared.refusal.Refusal.TheVariants.{Absent, Already, Ambiguous}
 
 -- an edit makes this change of a line, which is checked by reading
 pub record IsLineChange (c : LineChange) (e : Edit) : Type 0 where
@@ -46,12 +45,15 @@ pub record IsAssigning (context : Context) (l : LocatedLine) : Type 0 where
   pub is : IsAssignmentIn context l assigned
   pub free : is_prefix_name (unit_text joined_byte assigned.name) ≡ false
 
--- The first of two causes of refusal, by what is counted in the line: there is no place to change,
--- or the text, which has this size, would be too long.
-abbrev pub first_of_places : (count bytes new_length size : ℕ) → Option Refusal
-first_of_places k b n s =
-    first_cause
-    (where_holds (k == 0) Absent ∷ where_holds (nat_lt (max_text + b) (s + k * n)) TooLong ∷ [])
+-- what a change that finds so many places decides by the words of the value
+abbrev pub not_inserted_in : LineChange → (count : ℕ) → (value : List ℕ) → Option Refusal
+not_inserted_in (InsertWord i w n) k v =
+    if is_one_of n (words_in v) then Some Already else where_holds (nat_lt 1 k) (Ambiguous k)
+not_inserted_in c k v = None
+
+-- The first cause of refusal by the places that are found in a value, but for the text's length.
+abbrev pub first_of_words : LineChange → (count : ℕ) → (value : List ℕ) → Option Refusal
+first_of_words c k v = if k == 0 then Some Absent else not_inserted_in c k v
 
 -- the new line, and the value that it is to be read with
 pub record IsMadeOf (c : LineChange) (context : Context) (l : LocatedLine) (bytes value : List ℕ)
@@ -69,11 +71,6 @@ abbrev pub Reads : Bool → Context → LocatedLine → (bytes : List ℕ) → F
     → Type 0
 Reads b x l m f v =
     (a : Assignment Cell) → IsAssignmentIn x l a → reads_as (with_parts a f v) (class_of x m) ≡ b
-
--- the value that a line is said to have, by the text of its pieces
-abbrev pub stated : LineChange → (value : List ℕ) → List ℕ
-stated (Substitute f t) v = trimmed v
-stated c v = v
 
 -- the text that is looked for is not empty
 abbrev pub IsSought : LineChange → Type 0

@@ -2,7 +2,7 @@
 //!
 //! The new line is made of the old one, with a text in some places of it. It is read in the context
 //! of the old one, and the edit is refused as `Misread` where it does not read as the edit says.
-ghost use Rattle.std.specs.Prelude.{◌≡◌, ◌⊎◌, ◌+◌, ◌<◌, ◌≤◌, ◌∷◌, [], true, false, not, ◌&&◌, ◌||◌, length, IfOk, IfErr, OnOk};
+ghost use Rattle.std.specs.Prelude.{◌≡◌, ◌⊎◌, ◌+◌, ◌<◌, ◌≤◌, ◌∷◌, [], true, false, not, ◌&&◌, ◌||◌, ◌*◌, nat_lt, None, length, IfOk, IfErr, OnOk};
 ghost use Rattle.mk_lines.specs.Cells.{line_cells};
 ghost use Rattle.mk_lines.specs.Limits.{max_text};
 ghost use Rattle.mk_lines.specs.LogicalLines.{ends_line, is_open, logical_lines};
@@ -12,25 +12,28 @@ ghost use Rattle.mk_tree.specs.LineTexts.{line_in};
 ghost use Rattle.mk_tree.specs.LocatedLines.{located_line, text_of_line};
 ghost use Rattle.mk_tree.specs.Trees.{line_view};
 ghost use Rattle.mk_tree.specs.Views.{assignment_of};
-ghost use Rattle.mk_edit_language.specs.EditViews.{edit_of};
-ghost use Rattle.mk_edit_language.specs.LineChanges.{fits_line, flavor_after, is_one, trimmed};
-ghost use Rattle.mk_edit_parts.specs.LineChangePlaces.{change_places, line_change_view, raw_ranges};
+ghost use Rattle.mk_edit_language.specs.EditViews.{edit_of, line_change_of};
+ghost use Rattle.mk_edit_language.specs.LineChanges.{fits_line, flavor_after, is_one, stated, trimmed};
+ghost use Rattle.mk_edit_parts.specs.LineChangePlaces.{change_places, raw_ranges, separator_place};
 ghost use Rattle.mk_edit_parts.specs.RenamedRanges.{AreWithin};
 ghost use Rattle.mk_edit_parts.specs.RenamedTexts.{AreApart, rewritten};
 ghost use Rattle.mk_edit_parts.specs.Seeking.{IsLineKnown};
 ghost use Rattle.mk_edit_parts.specs.SeenAssignments.{IsAssignmentAt};
-ghost use Rattle.mk_edit.specs.LineChangePlans.{CanRewrite, IsAssigning, IsLineChange, IsMadeOf, IsSought, Reads, are_same_texts, first_of_places, is_operator, is_read_as, stated, value_made};
+ghost use Rattle.mk_edit.specs.LineChangePlans.{CanRewrite, IsAssigning, IsLineChange, IsMadeOf, IsSought, Reads, are_same_texts, first_of_words, is_operator, is_read_as, value_made};
 ghost use Rattle.mk_edit.specs.Planned.{Plans};
+ghost use Rattle.mk_edit.specs.ValueChangeLines.{value_text_located};
 
 use crate::assignment::{assignment_of, value_text};
 use crate::moves::exchange;
 use mk_class::{Assignment, Context, Flavor, Meter};
-use mk_edit_language::{Edit, Refusal};
+use mk_edit_language::{Edit, LineChange, Refusal};
 use mk_edit_parts::find::find;
-use mk_edit_parts::line_change::{LineChange, new_length, new_text, places_of, raw_ranges};
+use mk_edit_parts::line_change::{
+    new_length, new_text, places_of, raw_ranges, separator_bytes, separator_place, separator_text,
+};
 use mk_edit_parts::renamed_line::rewritten;
 use mk_edit_parts::seek::{Found, Sought};
-use mk_edit_parts::text::is_same_text;
+use mk_edit_parts::text::{has_word, is_same_text};
 use mk_lines::ends::{End, is_continued, is_open, line_end};
 use mk_lines::source::MAX_TEXT;
 use mk_lines::split::{Span, split_first_line};
@@ -45,7 +48,8 @@ use std::alloc::{AllocError, Allocator};
 /// # Errors
 ///
 /// The first cause of the edit that holds: the causes of [`find`]; [`Refusal::Absent`] if no place
-/// of the line is changed; [`Refusal::TooLong`]; and [`Refusal::Misread`] if the new line does not
+/// of the line is changed; [`Refusal::Already`] and [`Refusal::Ambiguous`], of a word that goes
+/// beside another; [`Refusal::TooLong`]; and [`Refusal::Misread`] if the new line does not
 /// read as the edit says. [`Refusal::NoMemory`] if a growth was refused and none of these holds but
 /// perhaps the last.
 pub(crate) fn plan_change_line<A: Allocator + Copy>(
@@ -53,11 +57,11 @@ pub(crate) fn plan_change_line<A: Allocator + Copy>(
     doc: &Doc<A>,
     edit: &Edit<A>,
     known: Option<Sought>,
-    change: LineChange<'_>,
+    change: &LineChange<A>,
     meter: &mut Meter,
 ) -> Result<Patch<A>, Refusal>
     requires faithful { IsFaithful doc.now }
-    requires edit { IsLineChange (line_change_view change) (edit_of edit.now) }
+    requires edit { IsLineChange (line_change_of change.now) (edit_of edit.now) }
     requires known { IsLineKnown (edit_of edit.now) doc.now known }
     ensures { Plans (edit_of edit.now) doc.now meter.old meter.new result }
 {
@@ -66,14 +70,18 @@ pub(crate) fn plan_change_line<A: Allocator + Copy>(
     let line = doc.line(found.at);
     let assignment = assignment_of(line);
     let places = places_of(alloc, change, line, assignment);
-    let new_length = new_length(change, value_text(line));
-    if let Some(refusal) = first_of_places(places.count, places.bytes, new_length, size) {
+    if let Some(refusal) = first_of_words(change, places.count, value_text(line)) {
         return Err(refusal);
+    }
+    let separator = separator_place(change, line, assignment);
+    let new_length = new_length(change, separator_bytes(line, separator), value_text(line));
+    if is_too_long(places.count, places.bytes, new_length, size) {
+        return Err(Refusal::TooLong);
     }
     let Some(ranges) = places.ranges else {
         return Err(Refusal::NoMemory);
     };
-    let Ok(made) = made_line(alloc, change, &found, line, assignment, &ranges) else {
+    let Ok(made) = made_line(alloc, change, &found, line, assignment, separator, &ranges) else {
         return Err(Refusal::NoMemory);
     };
     if !fits_line(line.bytes(), &made.bytes) {
@@ -84,29 +92,43 @@ pub(crate) fn plan_change_line<A: Allocator + Copy>(
     exchange(alloc, found.at, line)
 }
 
-// The first refusal of a change that puts texts of this length in so many places of its line, which
-// have so many bytes, if the document has this size.
-fn first_of_places(count: usize, bytes: usize, new_length: usize, size: usize) -> Option<Refusal>
-    requires within { size ≤ max_text }
-    requires few { bytes ≤ max_text }
-    ensures { result ≡ first_of_places count bytes new_length size }
+// The first refusal of a change that finds so many places in a value, but for the text's length: it
+// finds none, or it puts a word beside another, and the new one is there already, or the other stands
+// there several times.
+fn first_of_words<A: Allocator>(
+    change: &LineChange<A>,
+    count: usize,
+    value: &[u8],
+) -> Option<Refusal>
+    ensures { result ≡ first_of_words (line_change_of change.now) count value.now }
 {
     if count == 0 {
         return Some(Refusal::Absent);
     }
-    // The new bytes alone may be more than a number can say. Then the text is too long.
-    if count.saturating_mul(new_length) > MAX_TEXT - size + bytes {
-        return Some(Refusal::TooLong);
+    match change {
+        LineChange::InsertWord { new, .. } if has_word(value, new) => Some(Refusal::Already),
+        LineChange::InsertWord { .. } if count > 1 => Some(Refusal::Ambiguous(count as u64)),
+        _ => None,
     }
-    None
+}
+
+// Whether a text of this size is too long after a change that puts texts of this length in so many
+// places, which have so many bytes.
+fn is_too_long(count: usize, bytes: usize, new_length: usize, size: usize) -> bool
+    requires within { size ≤ max_text }
+    requires few { bytes ≤ max_text }
+    ensures { result ≡ nat_lt (max_text + bytes) (size + count * new_length) }
+{
+    // The new bytes alone may be more than a number can say. Then the text is too long.
+    count.saturating_mul(new_length) > MAX_TEXT - size + bytes
 }
 
 // The flavor of an assignment after a change of its line.
-fn flavor_after(change: LineChange<'_>, flavor: Flavor) -> Flavor
-    ensures { result ≡ flavor_after (line_change_view change.entry) flavor }
+fn flavor_after<A: Allocator>(change: &LineChange<A>, flavor: Flavor) -> Flavor
+    ensures { result ≡ flavor_after (line_change_of change.now) flavor }
 {
     match change {
-        LineChange::SetOperator(operator) => operator,
+        LineChange::SetOperator(operator) => *operator,
         _ => flavor,
     }
 }
@@ -124,23 +146,30 @@ struct Made<A: Allocator> {
 // joined text that it replaces, and the value that it is said to have.
 fn made_line<A: Allocator + Copy>(
     alloc: A,
-    change: LineChange<'_>,
+    change: &LineChange<A>,
     place: &Found,
     line: &Line<A>,
     assignment: Assignment,
+    separator: Option<Span>,
     ranges: &[Span],
 ) -> Result<Made<A>, AllocError>
     requires own { IsAssigning place.now.context (line_view line.now) }
     requires at { IsAssignmentAt (line_view line.now) assignment }
-    requires sought { IsSought (line_change_view change) }
+    requires sought { IsSought (line_change_of change.now) }
+    requires separator { separator
+        ≡ separator_place (line_change_of change.now) (text_of_line (line_view line.now)) assignment }
     requires ranges { ranges.now
-        ≡ change_places (line_change_view change) (text_of_line (line_view line.now)) assignment }
-    ensures { IfOk result (λ made. IsMadeOf (line_change_view change.entry) place.now.context
+        ≡ change_places (line_change_of change.now) (text_of_line (line_view line.now)) assignment }
+    requires one { first_of_words (line_change_of change.now) (length ranges.now)
+        (value_text_located (line_view line.now)) ≡ None }
+    ensures { IfOk result (λ made. IsMadeOf (line_change_of change.now) place.now.context
         (line_view line.now) made.bytes.items made.value.items) }
 {
-    let new = new_text(alloc, change, value_text(line))?;
-    let bytes = new_bytes(alloc, line, ranges, &new)?;
-    let value = new_value(alloc, change, line, assignment, ranges, &new)?;
+    let value = value_text(line);
+    let written = new_text(alloc, change, separator_bytes(line, separator), value)?;
+    let read = new_text(alloc, change, separator_text(line, separator), value)?;
+    let bytes = new_bytes(alloc, line, ranges, &written)?;
+    let value = new_value(alloc, change, line, assignment, ranges, &read)?;
     Ok(Made { bytes, value })
 }
 
@@ -168,16 +197,16 @@ fn new_bytes<A: Allocator + Copy>(
 // of its joined text.
 fn new_value<A: Allocator + Copy>(
     alloc: A,
-    change: LineChange<'_>,
+    change: &LineChange<A>,
     line: &Line<A>,
     assignment: Assignment,
     ranges: &[Span],
     new: &[u8],
 ) -> Result<Vec<u8, A>, AllocError>
-    requires can { CanRewrite (line_change_view change) (text_of_line (line_view line.now)) assignment
+    requires can { CanRewrite (line_change_of change.now) (text_of_line (line_view line.now)) assignment
         ranges.now new.now }
     ensures { IfOk result (λ value. value.items
-        ≡ value_made (line_change_view change.entry) (text_of_line (line_view line.now)) assignment
+        ≡ value_made (line_change_of change.now) (text_of_line (line_view line.now)) assignment
         ranges.now new.now) }
 {
     let text = text_of_line(line);
@@ -193,19 +222,19 @@ fn new_value<A: Allocator + Copy>(
 }
 
 // Whether a change is one of the operator.
-fn is_operator(change: LineChange<'_>) -> bool
-    ensures { result ≡ is_operator (line_change_view change.entry) }
+fn is_operator<A: Allocator>(change: &LineChange<A>) -> bool
+    ensures { result ≡ is_operator (line_change_of change.now) }
 {
     matches!(change, LineChange::SetOperator(_))
 }
 
 // The value that a line is said to have after a change, by its text: where a text is replaced, without
 // the blanks at its ends.
-fn stated<'a>(change: LineChange<'_>, value: &'a [u8]) -> &'a [u8]
-    ensures { result.now ≡ stated (line_change_view change.entry) value.now }
+fn stated<'a, A: Allocator>(change: &LineChange<A>, value: &'a [u8]) -> &'a [u8]
+    ensures { result.now ≡ stated (line_change_of change.now) value.now }
 {
     match change {
-        LineChange::Substitute(..) => trimmed(value),
+        LineChange::Substitute { .. } => trimmed(value),
         _ => value,
     }
 }

@@ -22,7 +22,6 @@ use crate::set_recipe::plan_set_recipe;
 use crate::value_change::{Change, change_of};
 use mk_class::Meter;
 use mk_edit_language::{Edit, Refusal};
-use mk_edit_parts::line_change::LineChange;
 use mk_edit_parts::window::{Known, Window};
 use mk_patch::Patch;
 use mk_tree::Doc;
@@ -86,35 +85,9 @@ pub fn plan_with<A: Allocator + Copy>(
         Edit::RemoveWord { word, .. } => {
             plan_change_value(alloc, doc, edit, sought, Change::Remove(word), meter)
         }
-        Edit::PrependValue { value, .. } => {
-            plan_change_line(alloc, doc, edit, sought, LineChange::Prepend(value), meter)
+        Edit::ChangeLine { change, .. } => {
+            plan_change_line(alloc, doc, edit, sought, change, meter)
         }
-        Edit::ReplaceWord { word, value, .. } => plan_change_line(
-            alloc,
-            doc,
-            edit,
-            sought,
-            LineChange::ReplaceWord(word, value),
-            meter,
-        ),
-        Edit::SubstituteValue { from, to, .. } => {
-            plan_change_line(
-                alloc,
-                doc,
-                edit,
-                sought,
-                LineChange::Substitute(from, to),
-                meter,
-            )
-        }
-        Edit::SetOperator { operator, .. } => plan_change_line(
-            alloc,
-            doc,
-            edit,
-            sought,
-            LineChange::SetOperator(*operator),
-            meter,
-        ),
         Edit::AddAssign { .. } | Edit::AddRule { .. } => plan_add_line(
             alloc, doc, edit, sought, meter,
         ),

@@ -1,4 +1,4 @@
--- What `clone` gives of an edit, of a place and of a change of values: the same.
+-- What `clone` gives of an edit, of a place and of a change: the same.
 use Rattle.std.proofs.Common.{◌≡◌, ℕ, List, Option, Some, None, refl, ap, Result, Ok, Err, IfOk}
 use Rattle.std.specs.List.{AllZip}
 use Rattle.std.specs.Result.{MatchResult}
@@ -10,15 +10,18 @@ use Rattle.std.specs.contracts.prelude.U32Clone.TheImpl as numbers
 use denote.Builtin.{u32}
 use denote.RattleType.{RattleType}
 use mir.Syntax.{Dict}
-use Rattle.mk_edit_language.specs.EditViews.{edit_of, place_of, value_change_of}
+use Rattle.mk_edit_language.specs.EditViews.{edit_of, line_change_of, place_of, value_change_of}
 use Rattle.mk_edit_language.specs.declared.edit.Place.{Place}
 use Rattle.mk_edit_language.specs.declared.edit.Place.TheVariants as place
 use Rattle.mk_edit_language.specs.declared.edit.ValueChange.{ValueChange}
 use Rattle.mk_edit_language.specs.declared.edit.ValueChange.TheVariants as change
+use Rattle.mk_edit_language.specs.declared.edit.LineChange.{LineChange}
+use Rattle.mk_edit_language.specs.declared.edit.LineChange.TheVariants as line
 use Rattle.mk_edit_language.specs.declared.edit.Edit.{Edit}
 use Rattle.mk_edit_language.specs.declared.edit.Edit.TheVariants as edit
 use Rattle.mk_edit_language.specs.contracts.edit.PlaceClone.TheImpl as places
 use Rattle.mk_edit_language.specs.contracts.edit.ValueChangeClone.TheImpl as changes
+use Rattle.mk_edit_language.specs.contracts.edit.LineChangeClone.TheImpl as lines
 use Rattle.mk_edit_language.specs.contracts.edit.EditClone.TheImpl as edits
 
 -- what follows of a result where there is one
@@ -61,6 +64,19 @@ changes-cloned R G d C e f (change.Remove v) (change.Remove w) h =
     cc (text-cloned v.items w.items h.0)
 changes-cloned R G d C e f a b h = absurd h
 
+line_changes-cloned : (R : RattleType) (G : alloc.Ghosts R.Denot) (d : Dict) (C : clone.Ghosts R.Denot) (e f : Dict)
+    (a b : LineChange R.Denot) → (lines.ghosts R G d C e f).is_clone a b → line_change_of b ≡ line_change_of a
+line_changes-cloned R G d C e f (line.Prepend v) (line.Prepend w) h =
+    cc (text-cloned v.items w.items h.0)
+line_changes-cloned R G d C e f (line.ReplaceWord o v) (line.ReplaceWord u w) h =
+    cc (text-cloned o.items u.items h.0.0, text-cloned v.items w.items h.1.0)
+line_changes-cloned R G d C e f (line.InsertWord i o v) (line.InsertWord j u w) h =
+    cc (h.0, text-cloned o.items u.items h.1.0.0, text-cloned v.items w.items h.1.1.0)
+line_changes-cloned R G d C e f (line.Substitute o v) (line.Substitute u w) h =
+    cc (text-cloned o.items u.items h.0.0, text-cloned v.items w.items h.1.0)
+line_changes-cloned R G d C e f (line.SetOperator i) (line.SetOperator j) h = cc (h)
+line_changes-cloned R G d C e f a b h = absurd h
+
 pub edits-cloned : (R : RattleType) (G : alloc.Ghosts R.Denot) (d : Dict) (C : clone.Ghosts R.Denot) (e f : Dict)
     (a b : Edit R.Denot) → (edits.ghosts R G d C e f).is_clone a b → edit_of b ≡ edit_of a
 edits-cloned R G d C e f (edit.SetValue k n v) (edit.SetValue l m w) h =
@@ -73,14 +89,8 @@ edits-cloned R G d C e f (edit.RemoveWord k n v) (edit.RemoveWord l m w) h =
     cc (number-cloned e e k l h.0, text-cloned n.items m.items h.1.0.0, text-cloned v.items w.items h.1.1.0)
 edits-cloned R G d C e f (edit.ChangeValues n c) (edit.ChangeValues m g) h =
     cc (text-cloned n.items m.items h.0.0, changes-cloned R G d C e f c g h.1)
-edits-cloned R G d C e f (edit.PrependValue k n v) (edit.PrependValue l m w) h =
-    cc (number-cloned e e k l h.0, text-cloned n.items m.items h.1.0.0, text-cloned v.items w.items h.1.1.0)
-edits-cloned R G d C e f (edit.ReplaceWord k n o v) (edit.ReplaceWord l m u w) h =
-    cc (number-cloned e e k l h.0, text-cloned n.items m.items h.1.0.0, text-cloned o.items u.items h.1.1.0.0, text-cloned v.items w.items h.1.1.1.0)
-edits-cloned R G d C e f (edit.SubstituteValue k n o v) (edit.SubstituteValue l m u w) h =
-    cc (number-cloned e e k l h.0, text-cloned n.items m.items h.1.0.0, text-cloned o.items u.items h.1.1.0.0, text-cloned v.items w.items h.1.1.1.0)
-edits-cloned R G d C e f (edit.SetOperator k n i) (edit.SetOperator l m j) h =
-    cc (number-cloned e e k l h.0, text-cloned n.items m.items h.1.0.0, h.1.1)
+edits-cloned R G d C e f (edit.ChangeLine k n c) (edit.ChangeLine l m g) h =
+    cc (number-cloned e e k l h.0, text-cloned n.items m.items h.1.0.0, line_changes-cloned R G d C e f c g h.1.1)
 edits-cloned R G d C e f (edit.AddAssign p n i v) (edit.AddAssign q m j w) h =
     cc (places-cloned R G d C e f p q h.0, text-cloned n.items m.items h.1.0.0, h.1.1.0, text-cloned v.items w.items h.1.1.1.0)
 edits-cloned R G d C e f (edit.RemoveAssign k n) (edit.RemoveAssign l m) h =

@@ -1,4 +1,4 @@
--- What `==` answers of two edits, of two places and of two changes of values: whether they are the same.
+-- What `==` answers of two edits, of two places and of two changes: whether they are the same.
 use Rattle.std.proofs.Common.{◌≡◌, ℕ, Bool, true, false, Option, Some, None, ◌&&◌, refl}
 use Rattle.std.specs.Bool.{Decides}
 use Rattle.std.specs.Option.{option_eq}
@@ -12,18 +12,24 @@ use mir.Syntax.{Dict}
 use Rattle.mk_class.specs.declared.assignment.Flavor.{Flavor}
 use Rattle.mk_class.specs.declared.assignment.Flavor.TheVariants.{Recursive, Simple, PosixSimple, Immediate, Conditional, Append, Shell}
 use Rattle.mk_class.specs.contracts.assignment.FlavorPartialEq.TheImpl as flavors
-use Rattle.mk_edit_language.specs.EditViews.{edit_of, place_of, value_change_of}
+use Rattle.mk_edit_language.specs.EditViews.{edit_of, line_change_of, place_of, value_change_of}
 use Rattle.mk_edit_language.specs.declared.edit.RuleSeparator.{RuleSeparator}
 use Rattle.mk_edit_language.specs.declared.edit.RuleSeparator.TheVariants.{Single, Double}
 use Rattle.mk_edit_language.specs.declared.edit.Place.{Place}
 use Rattle.mk_edit_language.specs.declared.edit.Place.TheVariants as place
 use Rattle.mk_edit_language.specs.declared.edit.ValueChange.{ValueChange}
 use Rattle.mk_edit_language.specs.declared.edit.ValueChange.TheVariants as change
+use Rattle.mk_edit_language.specs.declared.edit.Side.{Side}
+use Rattle.mk_edit_language.specs.declared.edit.Side.TheVariants.{Before, After}
+use Rattle.mk_edit_language.specs.declared.edit.LineChange.{LineChange}
+use Rattle.mk_edit_language.specs.declared.edit.LineChange.TheVariants as line
 use Rattle.mk_edit_language.specs.declared.edit.Edit.{Edit}
 use Rattle.mk_edit_language.specs.declared.edit.Edit.TheVariants as edit
 use Rattle.mk_edit_language.specs.contracts.edit.RuleSeparatorPartialEq.TheImpl as separators
 use Rattle.mk_edit_language.specs.contracts.edit.PlacePartialEq.TheImpl as places
 use Rattle.mk_edit_language.specs.contracts.edit.ValueChangePartialEq.TheImpl as changes
+use Rattle.mk_edit_language.specs.contracts.edit.SidePartialEq.TheImpl as sides
+use Rattle.mk_edit_language.specs.contracts.edit.LineChangePartialEq.TheImpl as lines
 use Rattle.mk_edit_language.specs.contracts.edit.EditPartialEq.TheImpl as edits
 
 -- a test of what holds, and of what does not
@@ -54,6 +60,11 @@ separator-decides : (a b : RuleSeparator) → Decides (separators.ghosts.eq a b)
 separator-decides Single Single = yes refl
 separator-decides Double Double = yes refl
 separator-decides a b = no (λ h. cc)
+
+side-decides : (a b : Side) → Decides (sides.ghosts.eq a b) (a ≡ b)
+side-decides Before Before = yes refl
+side-decides After After = yes refl
+side-decides a b = no (λ h. cc)
 
 flavor-decides : (a b : Flavor) → Decides (flavors.ghosts.eq a b) (a ≡ b)
 flavor-decides Recursive Recursive = yes refl
@@ -96,6 +107,25 @@ changes-decide R G d e (change.Remove v) (change.Remove w) =
     (bytes_eq-Decides v.items w.items)
 changes-decide R G d e a b = no (λ h. cc)
 
+line_changes-decide : (R : RattleType) (G : alloc.Ghosts R.Denot) (d e : Dict) (a b : LineChange R.Denot)
+    → Decides ((lines.ghosts R G d e).eq a b) (line_change_of a ≡ line_change_of b)
+line_changes-decide R G d e (line.Prepend v) (line.Prepend w) =
+    Decides-like _ (λ h. cc) (λ h. cc)
+    (bytes_eq-Decides v.items w.items)
+line_changes-decide R G d e (line.ReplaceWord o v) (line.ReplaceWord u w) =
+    Decides-like _ (λ h. cc) (λ h. (cc, cc))
+    (also (bytes_eq-Decides o.items u.items) (bytes_eq-Decides v.items w.items))
+line_changes-decide R G d e (line.InsertWord i o v) (line.InsertWord j u w) =
+    Decides-like _ (λ h. cc) (λ h. (cc, (cc, cc)))
+    (also (side-decides i j) (also (bytes_eq-Decides o.items u.items) (bytes_eq-Decides v.items w.items)))
+line_changes-decide R G d e (line.Substitute o v) (line.Substitute u w) =
+    Decides-like _ (λ h. cc) (λ h. (cc, cc))
+    (also (bytes_eq-Decides o.items u.items) (bytes_eq-Decides v.items w.items))
+line_changes-decide R G d e (line.SetOperator f) (line.SetOperator g) =
+    Decides-like _ (λ h. cc) (λ h. cc)
+    (flavor-decides f g)
+line_changes-decide R G d e a b = no (λ h. cc)
+
 pub edits-decide : (R : RattleType) (G : alloc.Ghosts R.Denot) (d e : Dict) (a b : Edit R.Denot)
     → Decides ((edits.ghosts R G d e).eq a b) (edit_of a ≡ edit_of b)
 edits-decide R G d e (edit.SetValue k n v) (edit.SetValue l m w) =
@@ -113,18 +143,9 @@ edits-decide R G d e (edit.RemoveWord k n v) (edit.RemoveWord l m w) =
 edits-decide R G d e (edit.ChangeValues n c) (edit.ChangeValues m f) =
     Decides-like _ (λ h. cc) (λ h. (cc, cc))
     (also (bytes_eq-Decides n.items m.items) (changes-decide R G d e c f))
-edits-decide R G d e (edit.PrependValue k n v) (edit.PrependValue l m w) =
+edits-decide R G d e (edit.ChangeLine k n c) (edit.ChangeLine l m f) =
     Decides-like _ (λ h. cc) (λ h. (cc, (cc, cc)))
-    (also (number-decides k l) (also (bytes_eq-Decides n.items m.items) (bytes_eq-Decides v.items w.items)))
-edits-decide R G d e (edit.ReplaceWord k n o v) (edit.ReplaceWord l m u w) =
-    Decides-like _ (λ h. cc) (λ h. (cc, (cc, (cc, cc))))
-    (also (number-decides k l) (also (bytes_eq-Decides n.items m.items) (also (bytes_eq-Decides o.items u.items) (bytes_eq-Decides v.items w.items))))
-edits-decide R G d e (edit.SubstituteValue k n o v) (edit.SubstituteValue l m u w) =
-    Decides-like _ (λ h. cc) (λ h. (cc, (cc, (cc, cc))))
-    (also (number-decides k l) (also (bytes_eq-Decides n.items m.items) (also (bytes_eq-Decides o.items u.items) (bytes_eq-Decides v.items w.items))))
-edits-decide R G d e (edit.SetOperator k n f) (edit.SetOperator l m g) =
-    Decides-like _ (λ h. cc) (λ h. (cc, (cc, cc)))
-    (also (number-decides k l) (also (bytes_eq-Decides n.items m.items) (flavor-decides f g)))
+    (also (number-decides k l) (also (bytes_eq-Decides n.items m.items) (line_changes-decide R G d e c f)))
 edits-decide R G d e (edit.AddAssign p n f v) (edit.AddAssign q m g w) =
     Decides-like _ (λ h. cc) (λ h. (cc, (cc, (cc, cc))))
     (also (places-decide R G d e p q) (also (bytes_eq-Decides n.items m.items) (also (flavor-decides f g) (bytes_eq-Decides v.items w.items))))

@@ -4,3 +4,4 @@ pub mod AssignmentsChanged
 pub mod LinesChanged
 pub mod ChangeValuesLemmas
 pub mod LinesReadAnew
+pub mod WordsBeside

@@ -8,7 +8,7 @@ use Rattle.mk_class.specs.ListTests.{is_empty}
 use Rattle.mk_class.specs.Keywords.{is_reserved_word}
 use Rattle.mk_class.specs.RecipePrefix.{is_prefix_name}
 use Rattle.mk_class.specs.Arguments.{is_clean, is_value, is_word, is_target, is_name, is_command}
-use Rattle.mk_edit_language.specs.Edits.{Place, Bottom, BeforeVar, AfterVar, BeforeRule, NewLine, NewAssign, NewRule, Every, ValueChange, Set, Append, Add, Remove, LineChange, Prepend, ReplaceWord, Substitute, SetOperator, PrereqChange, AddPrereq, RemovePrereq, RecipeLine, ByNumber, ByText, Removal, OfAssign, OfRule, OfRecipe, Edit, ChangeValue, ChangeLine, ChangePrereqs, AddLine, AddRecipe, SetRecipe, RemoveLines, RenameTarget}
+use Rattle.mk_edit_language.specs.Edits.{Place, Bottom, BeforeVar, AfterVar, BeforeRule, NewLine, NewAssign, NewRule, Every, ValueChange, Set, Append, Add, Remove, LineChange, Prepend, ReplaceWord, InsertWord, Substitute, SetOperator, PrereqChange, AddPrereq, RemovePrereq, RecipeLine, ByNumber, ByText, Removal, OfAssign, OfRule, OfRecipe, Edit, ChangeValue, ChangeLine, ChangePrereqs, AddLine, AddRecipe, SetRecipe, RemoveLines, RenameTarget}
 use Rattle.mk_edit_language.specs.Addresses.{Address, Variable, Rule, address}
 use Rattle.mk_edit_language.specs.Causes.{where_holds}
 use Rattle.mk_edit_language.specs.declared.refusal.Field.{Field}
@@ -60,6 +60,8 @@ abbrev pub line_change_tests : LineChange → List FieldTest
 line_change_tests (Prepend v) = Tested field.Value (is_value v && not (is_empty v)) ∷ []
 line_change_tests (ReplaceWord w v) =
     Tested field.Word (is_value_word w) ∷ Tested field.Value (is_value v && not (is_empty v)) ∷ []
+line_change_tests (InsertWord s w n) =
+    Tested field.Word (is_value_word w) ∷ Tested field.New (is_value_word n) ∷ []
 line_change_tests (Substitute f t) =
     Tested field.From (is_clean f && not (is_empty f)) ∷ Tested field.To (is_clean t) ∷ []
 line_change_tests (SetOperator o) = []

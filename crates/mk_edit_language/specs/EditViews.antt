@@ -5,6 +5,8 @@ use Rattle.mk_edit_language.specs.declared.edit.Place.{Place}
 use Rattle.mk_edit_language.specs.declared.edit.Place.TheVariants as place
 use Rattle.mk_edit_language.specs.declared.edit.ValueChange.{ValueChange}
 use Rattle.mk_edit_language.specs.declared.edit.ValueChange.TheVariants as change
+use Rattle.mk_edit_language.specs.declared.edit.LineChange.{LineChange}
+use Rattle.mk_edit_language.specs.declared.edit.LineChange.TheVariants as line
 use Rattle.mk_edit_language.specs.declared.edit.Edit.{Edit}
 use Rattle.mk_edit_language.specs.declared.edit.Edit.TheVariants as edit
 
@@ -22,6 +24,14 @@ value_change_of (change.Append value) = edits.Append value.items
 value_change_of (change.Add word) = edits.Add word.items
 value_change_of (change.Remove word) = edits.Remove word.items
 
+-- a change of a line; its texts are seen as bytes
+abbrev pub line_change_of : {A : _} → LineChange A → edits.LineChange
+line_change_of (line.Prepend value) = edits.Prepend value.items
+line_change_of (line.ReplaceWord word value) = edits.ReplaceWord word.items value.items
+line_change_of (line.InsertWord side word new) = edits.InsertWord side word.items new.items
+line_change_of (line.Substitute from to) = edits.Substitute from.items to.items
+line_change_of (line.SetOperator flavor) = edits.SetOperator flavor
+
 -- an edit by its form; its texts are seen as bytes
 abbrev pub edit_of : {A : _} → Edit A → edits.Edit
 edit_of (edit.SetValue nth name value) =
@@ -34,14 +44,7 @@ edit_of (edit.RemoveWord nth name word) =
     edits.ChangeValue (edits.One nth) name.items (edits.Remove word.items)
 edit_of (edit.ChangeValues name c) =
     edits.ChangeValue edits.Every name.items (value_change_of c)
-edit_of (edit.PrependValue nth name value) =
-    edits.ChangeLine nth name.items (edits.Prepend value.items)
-edit_of (edit.ReplaceWord nth name word value) =
-    edits.ChangeLine nth name.items (edits.ReplaceWord word.items value.items)
-edit_of (edit.SubstituteValue nth name from to) =
-    edits.ChangeLine nth name.items (edits.Substitute from.items to.items)
-edit_of (edit.SetOperator nth name operator) =
-    edits.ChangeLine nth name.items (edits.SetOperator operator)
+edit_of (edit.ChangeLine nth name c) = edits.ChangeLine nth name.items (line_change_of c)
 edit_of (edit.AddAssign p name flavor value) =
     edits.AddLine (place_of p) (edits.NewAssign name.items flavor value.items)
 edit_of (edit.RemoveAssign nth name) = edits.RemoveLines (edits.OfAssign nth name.items)

@@ -3,6 +3,7 @@
 use Rattle.std.specs.Prelude.{ℕ, Bool, List, Option}
 use Rattle.mk_class.specs.declared.assignment.Flavor.{Flavor}
 use Rattle.mk_edit_language.specs.declared.edit.RuleSeparator.{RuleSeparator}
+use Rattle.mk_edit_language.specs.declared.edit.Side.{Side}
 
 -- Where a new line goes: to the end of the text, to the start or the end of an assignment's line,
 -- or to the start of a rule's line. A place with an address has the number of the line, from 1,
@@ -33,11 +34,13 @@ pub data ValueChange : Type 0 where
   Remove : (word : List ℕ) → ValueChange
 
 -- What an edit that is checked by reading does to the line of an assignment: it puts a text before
--- the value, puts a text in the place of each word of the value that is this one, puts a text in the
--- place of each occurrence of another in the value, or gives the line another operator.
+-- the value, puts a text in the place of each word of the value that is this one, puts a new word on
+-- one side of this one, puts a text in the place of each occurrence of another in the value, or gives
+-- the line another operator.
 pub data LineChange : Type 0 where
   Prepend : (value : List ℕ) → LineChange
   ReplaceWord : (word value : List ℕ) → LineChange
+  InsertWord : (side : Side) → (word new : List ℕ) → LineChange
   Substitute : (from to : List ℕ) → LineChange
   SetOperator : (flavor : Flavor) → LineChange
 

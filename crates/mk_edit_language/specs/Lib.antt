@@ -26,9 +26,16 @@ pub mod Refusals
 pub mod RefusalTexts
 pub mod Changes
 pub mod Costs
+-- Whole lines put in, taken out or exchanged
+pub mod LineRuns
+pub mod LineExchanges
 -- What an edit leaves
 pub mod KeptLines
 pub mod LinesInPlace
 pub mod RuleTaken
+-- Edits of several lines that are checked by reading
+pub mod EachLine
+pub mod EachLineInPlace
 -- Statements of laws
 pub mod EditLaws
+pub mod LineLaws

@@ -6,9 +6,9 @@ use Rattle.std.specs.List.{list_any}
 use Rattle.std.specs.Str.{bytes_eq}
 use Rattle.mk_lines.specs.Lists.{concat, leading, after_leading, trim_end}
 use Rattle.mk_lines.specs.LogicalLines.{logical_lines, is_open, ends_line}
-use Rattle.mk_lines.specs.Cells.{Cell, joined_byte, joined_text}
+use Rattle.mk_lines.specs.Cells.{Cell, Byte, joined_byte, joined_text, raw_text}
 use Rattle.mk_lines.specs.Units.{units}
-use Rattle.mk_lines.specs.Words.{is_gap}
+use Rattle.mk_lines.specs.Words.{Token, Gap, Word, tokens, is_gap}
 use Rattle.mk_lines.specs.Pieces.{Replacement, replaced, Piece, Keep, Replace, new_cells, replacements}
 use Rattle.mk_class.specs.ListTests.{is_empty}
 use Rattle.mk_class.specs.Texts.{unit_text}
@@ -22,14 +22,45 @@ use Rattle.mk_class.specs.declared.assignment.Flavor.{Flavor}
 use Rattle.mk_class.specs.declared.assignment.Modifier.{Modifier}
 use Rattle.mk_class.specs.declared.assignment.Modifier.TheVariants.{Override, Export, Private}
 use Rattle.mk_tree.specs.Items.{Assigned, Sets, assigned}
-use Rattle.mk_edit_language.specs.Edits.{LineChange, Prepend, ReplaceWord, Substitute, SetOperator}
-use Rattle.mk_edit_language.specs.WordPieces.{kept, renamed_words, is_replaced}
+use Rattle.mk_edit_language.specs.Edits.{LineChange, Prepend, ReplaceWord, InsertWord, Substitute, SetOperator}
+use Rattle.mk_edit_language.specs.WordPieces.{kept, is_word_of, renamed_words, is_replaced}
+use Rattle.mk_edit_language.specs.declared.edit.Side.{Side}
+use Rattle.mk_edit_language.specs.declared.edit.Side.TheVariants.{Before, After}
 
 -- ---- the pieces of the line
 
 -- a text put before a value, with a space between them if the value is not empty
 abbrev prepend_pieces : (value : List ℕ) → List (List Cell) → List Piece
 prepend_pieces v us = Replace [] (if is_empty us then v else v ++ 32 ∷ []) ∷ kept us
+
+-- the blanks and folds before the first word
+abbrev pub leading_gaps : List (Token Cell) → List Cell
+leading_gaps [] = []
+leading_gaps (Gap u ∷ ts) = u ++ leading_gaps ts
+leading_gaps (Word w ∷ ts) = []
+
+-- what separates a new word from the one beside which it goes: the blanks and folds on its side of
+-- that word; if there are none, those on the other side; and if there are none either, a space
+abbrev pub separator : (here there : List Cell) → List Cell
+separator h t = if is_empty h then if is_empty t then Byte 32 ∷ [] else t else h
+
+-- a word, with a new one on one side of it; `said` says what text a separator is
+abbrev pub word_beside : Side → (said : List Cell → List ℕ) → (new : List ℕ)
+    → (before word after : List Cell) → List Piece
+word_beside Before f n b w a = Replace [] (n ++ f (separator b a)) ∷ Keep w ∷ []
+word_beside After f n b w a = Keep w ∷ Replace [] (f (separator a b) ++ n) ∷ []
+
+-- tokens as pieces, with a new word on one side of each word that is this one; `before` are the
+-- blanks and folds directly before the tokens
+abbrev pub tokens_beside : Side → (said : List Cell → List ℕ) → (word new : List ℕ)
+    → (before : List Cell) → List (Token Cell) → List Piece
+tokens_beside s f w n b [] = []
+tokens_beside s f w n b (Gap u ∷ ts) = Keep u ∷ tokens_beside s f w n (b ++ u) ts
+tokens_beside s f w n b (Word x ∷ ts) =
+    (if is_word_of w x
+    then word_beside s f n b (concat x) (leading_gaps ts)
+    else Keep (concat x) ∷ [])
+    ++ tokens_beside s f w n [] ts
 
 -- whether cells, as they are read, begin with a text
 abbrev pub begins_with : List ℕ → List Cell → Bool
@@ -45,12 +76,14 @@ substituted f t zero (c ∷ cs) =
     then Replace (take (length f) (c ∷ cs)) t ∷ substituted f t (length f - 1) cs
     else Keep (c ∷ []) ∷ substituted f t zero cs
 
--- the pieces of the value
-abbrev pub value_pieces : LineChange → (value : List (List Cell)) → List Piece
-value_pieces (Prepend v) us = prepend_pieces v us
-value_pieces (ReplaceWord w v) us = renamed_words w v us
-value_pieces (Substitute f t) us = substituted f t 0 (concat us)
-value_pieces (SetOperator o) us = kept us
+-- the pieces of the value; `said` says what text a separator of words is
+abbrev pub value_pieces : (said : List Cell → List ℕ) → LineChange → (value : List (List Cell))
+    → List Piece
+value_pieces f (Prepend v) us = prepend_pieces v us
+value_pieces f (ReplaceWord w v) us = renamed_words w v us
+value_pieces f (InsertWord s w n) us = tokens_beside s f w n [] (tokens joined_byte us)
+value_pieces f (Substitute x t) us = substituted x t 0 (concat us)
+value_pieces f (SetOperator o) us = kept us
 
 -- the units from the operator on, and the pieces of them with another operator
 abbrev pub from_operator : Assignment Cell → List (List Cell)
@@ -69,7 +102,8 @@ operator_pieces c a = kept a.operator
 
 -- the pieces of the line, up to the end of the value
 abbrev pub line_pieces : LineChange → Assignment Cell → List Piece
-line_pieces c a = kept (a.before ++ a.name) ++ (operator_pieces c a ++ value_pieces c a.value)
+line_pieces c a =
+    kept (a.before ++ a.name) ++ (operator_pieces c a ++ value_pieces raw_text c a.value)
 
 -- the spans in the line, which begins at this offset
 abbrev pub line_change_spans : LineChange → (line_start : ℕ) → Assignment Cell → List Replacement
@@ -87,10 +121,14 @@ trimmed t =
     concat
     (trim_end (is_gap (λ b. b)) (after_leading (is_gap (λ b. b)) (units (λ b. b) t)))
 
--- the value: what the pieces say; where a text is replaced, without the blanks at its ends
+-- a value without the blanks at its ends, if it is one in which a text is replaced
+abbrev pub stated : LineChange → (value : List ℕ) → List ℕ
+stated (Substitute f t) v = trimmed v
+stated c v = v
+
+-- the value: what the pieces say, with each fold as the space that it is read as
 abbrev pub value_after : LineChange → (value : List (List Cell)) → List ℕ
-value_after (Substitute f t) us = trimmed (joined_text (new_cells (value_pieces (Substitute f t) us)))
-value_after c us = joined_text (new_cells (value_pieces c us))
+value_after c us = stated c (joined_text (new_cells (value_pieces joined_text c us)))
 
 abbrev pub flavor_after : LineChange → Flavor → Flavor
 flavor_after (SetOperator o) f = o

@@ -1,20 +1,22 @@
--- The causes that rules decide, and the words of rules and of values: Absent, Already, Taken, SharedRule and Straddles; and
--- Ambiguous, of a recipe line by its text.
+-- The causes that rules decide, and the words of rules and of values: Absent, Already, Taken,
+-- SharedRule and Straddles; and Ambiguous, of a recipe line by its text and of a word.
 -- Told in docs/EDITS.md, "Refusals".
-use Rattle.std.specs.Prelude.{ℕ, Bool, true, false, not, ◌||◌, nat_lt, List, [], ◌∷◌, filter, length, Option, Some, None, is_some}
+use Rattle.std.specs.Prelude.{ℕ, if◌then◌else◌, Bool, true, false, not, ◌||◌, nat_lt, List, [], ◌∷◌, filter, length, Option, Some, None, is_some}
 use Rattle.std.specs.List.{list_any}
+use Rattle.std.specs.Str.{bytes_eq}
 use Rattle.mk_lines.specs.Cells.{Cell, joined_byte}
 use Rattle.mk_class.specs.Texts.{is_one_of, word_texts}
+use Rattle.mk_class.specs.Assignments.{Assignment}
 use Rattle.mk_class.specs.Headers
 use Rattle.mk_class.specs.Classes.{Class, is_conditional}
-use Rattle.mk_class.specs.Classes.Class.{Header}
+use Rattle.mk_class.specs.Classes.Class.{Assign, Header}
 use Rattle.mk_class.specs.ClassedLines.{ClassedLine}
 use Rattle.mk_tree.specs.RecipeLines.{recipe_run}
 use Rattle.mk_tree.specs.LineTexts.{StandingLine}
-use Rattle.mk_edit_language.specs.Edits.{Which, One, Every, ValueChange, Add, Remove, PrereqChange, AddPrereq, RemovePrereq, RecipeLine, ByNumber, ByText, At, OfRule, OfRecipe, Edit, ChangeValue, ChangeLine, ChangePrereqs, AddRecipe, SetRecipe, RemoveLines, RenameTarget}
+use Rattle.mk_edit_language.specs.Edits.{Which, One, Every, ValueChange, Add, Remove, LineChange, InsertWord, PrereqChange, AddPrereq, RemovePrereq, RecipeLine, ByNumber, ByText, At, OfRule, OfRecipe, Edit, ChangeValue, ChangeLine, ChangePrereqs, AddRecipe, SetRecipe, RemoveLines, RenameTarget}
 use Rattle.mk_edit_language.specs.Addresses.{Address, Variable, Rule, found, targets_of, is_a_target}
 use Rattle.mk_edit_language.specs.Stretches.{has_text, recipe_found, recipes_found, recipe_place}
-use Rattle.mk_edit_language.specs.ValueChanges.{assignment_passes, has_effect, is_changed}
+use Rattle.mk_edit_language.specs.ValueChanges.{assignment_passes, has_effect, has_value_word, is_changed}
 use Rattle.mk_edit_language.specs.LineChanges.{is_line_changed}
 use Rattle.mk_edit_language.specs.Causes.{where_holds}
 use Rattle.mk_edit_language.specs.declared.refusal.Refusal.{Refusal}
@@ -91,8 +93,26 @@ absent ls e = None
 
 -- ---- Already: the word is in that list of prerequisites, in the value, or in each value of the name
 
+-- how many words of a value are this one
+abbrev pub count_of_word : List ℕ → Assignment Cell → ℕ
+count_of_word w a = length (filter (λ x. bytes_eq x w) (word_texts joined_byte a.value))
+
+-- Of a new word that goes beside another one: Already if the value has it, and Ambiguous if several
+-- words of the value are the other one.
+abbrev pub not_beside : (word new : List ℕ) → Assignment Cell → Option Refusal
+not_beside w n a =
+    if has_value_word n a
+    then Some Already
+    else where_holds (nat_lt 1 (count_of_word w a)) (Ambiguous (count_of_word w a))
+
+-- what a change decides by the words of the value of an assignment that is found
+abbrev pub not_inserted : LineChange → Option (Class Cell) → Option Refusal
+not_inserted (InsertWord s w n) (Some (Assign a p)) = not_beside w n a
+not_inserted c k = None
+
 abbrev pub already : List ClassedLine → Edit → Option Refusal
 already ls (ChangeValue w n (Add x)) = where_holds (not (is_any_changed ls w n (Add x))) Already
+already ls (ChangeLine nth n c) = not_inserted c (class_meant ls (Variable nth n))
 already ls (ChangePrereqs nth t (AddPrereq order w)) =
     where_holds (header_passes (has_prereq (AddPrereq order w)) (class_meant ls (Rule nth t)))
     Already

@@ -68,7 +68,7 @@ assignment_passes p (Some (Assign a s)) = p a
 assignment_passes p k = false
 
 -- whether a word is one of the words of a value
-abbrev has_value_word : List ℕ → Assignment Cell → Bool
+abbrev pub has_value_word : List ℕ → Assignment Cell → Bool
 has_value_word w a = is_one_of w (word_texts joined_byte a.value)
 
 -- a word of a value, with the blanks and folds directly before it

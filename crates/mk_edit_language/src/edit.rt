@@ -1,7 +1,8 @@
-//! The edits, the changes of values, the places of new lines, and the separators of new rules.
+//! The edits, the changes of values and of lines, the places of new lines, and the separators of new
+//! rules.
 //!
 //! An edit owns its texts. Contracts see it as a value of the definitions (`edit_of`). `==` compares
-//! edits, places and changes of values, and `clone` copies their texts: it answers
+//! edits, places and changes, and `clone` copies their texts: it answers
 //! [`AllocError`](std::alloc::AllocError) if there is no memory for one.
 //!
 //! `nth` is the number of a line among the lines of the same name or target, from 1, in the order
@@ -68,6 +69,54 @@ pub enum ValueChange<A: Allocator = Global> {
     Remove(Vec<u8, A>),
 }
 
+/// On which side of a word a new one goes.
+#[derive(Clone, Copy, Debug, PartialEq, Eq)]
+pub enum Side {
+    /// Before the word.
+    Before,
+    /// After the word.
+    After,
+}
+
+/// What an edit that is checked by reading does to the line of an assignment. It is refused as
+/// `Misread` if the new line is not read as the edit says.
+#[derive(Drop)]
+#[derive_where(Clone; A)]
+#[derive_where(Debug, PartialEq, Eq)]
+pub enum LineChange<A: Allocator = Global> {
+    /// Puts this text, which is not empty, before the value, with a space between them if the value
+    /// is not empty.
+    Prepend(Vec<u8, A>),
+    /// Puts a text in the place of a word of the value, wherever it stands there.
+    ReplaceWord {
+        /// The word.
+        word: Vec<u8, A>,
+        /// The text in its place, which is not empty.
+        value: Vec<u8, A>,
+    },
+    /// Puts a word beside another one of the value, with what separates that one from its neighbour
+    /// between them: a fold, if each word stands on a line of its own. The other word stands once in
+    /// the value, and the new one does not stand there yet.
+    InsertWord {
+        /// On which side of the other word it goes.
+        side: Side,
+        /// The other word.
+        word: Vec<u8, A>,
+        /// The new word.
+        new: Vec<u8, A>,
+    },
+    /// Puts a text in the place of each occurrence of another in the value. Occurrences are taken
+    /// from the left, none overlapping the one before. A fold counts as the space that it is read as.
+    Substitute {
+        /// The text to look for, which is not empty.
+        from: Vec<u8, A>,
+        /// The text in its place, which may be empty.
+        to: Vec<u8, A>,
+    },
+    /// Puts this operator in the place of the operator.
+    SetOperator(Flavor),
+}
+
 /// An edit of a makefile.
 #[derive(Drop)]
 #[derive_where(Clone; A)]
@@ -121,50 +170,14 @@ pub enum Edit<A: Allocator = Global> {
         /// What is done to each value.
         change: ValueChange<A>,
     },
-    /// Puts a text before a variable's value, with a space between them if the value is not empty.
-    /// Refused as `Misread` where the line would not be read so.
-    PrependValue {
+    /// Changes the line of an assignment, and reads the new line to check it.
+    ChangeLine {
         /// Which of the assignments of this name, from 1.
         nth: Option<u32>,
         /// The name of the variable.
         name: Vec<u8, A>,
-        /// The text, which is not empty.
-        value: Vec<u8, A>,
-    },
-    /// Puts a text in the place of a word of a variable's value, wherever it stands there. Refused
-    /// as `Misread` where the line would not be read so.
-    ReplaceWord {
-        /// Which of the assignments of this name, from 1.
-        nth: Option<u32>,
-        /// The name of the variable.
-        name: Vec<u8, A>,
-        /// The word.
-        word: Vec<u8, A>,
-        /// The text in its place, which is not empty.
-        value: Vec<u8, A>,
-    },
-    /// Puts a text in the place of each occurrence of another in a variable's value. Occurrences
-    /// are taken from the left, none overlapping the one before. A fold counts as the space that it
-    /// is read as. Refused as `Misread` where the line would not be read so.
-    SubstituteValue {
-        /// Which of the assignments of this name, from 1.
-        nth: Option<u32>,
-        /// The name of the variable.
-        name: Vec<u8, A>,
-        /// The text to look for, which is not empty.
-        from: Vec<u8, A>,
-        /// The text in its place, which may be empty.
-        to: Vec<u8, A>,
-    },
-    /// Gives an assignment another operator. Refused as `Misread` where the line would not be read
-    /// so.
-    SetOperator {
-        /// Which of the assignments of this name, from 1.
-        nth: Option<u32>,
-        /// The name of the variable.
-        name: Vec<u8, A>,
-        /// The new operator.
-        operator: Flavor,
+        /// What is done to the line.
+        change: LineChange<A>,
     },
     /// Puts in the line of an assignment.
     AddAssign {

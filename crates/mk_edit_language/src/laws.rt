@@ -3,6 +3,8 @@
 ghost use Rattle.mk_edit_language.specs.EditLaws.{EditsReadAsChanged, NewAssignmentsStand, OtherLinesStay, RefusedChangesNothing};
 ghost use Rattle.mk_edit_language.specs.RuleTaken.{RemoveRuleTakesTheRuleAlone};
 
+pub mod each_line;
+pub mod lines;
 pub mod outside;
 
 /// Each accepted edit, of every kind, changes the reading by exactly its stated change:

@@ -27,10 +27,7 @@ pub fn address_of<A: Allocator>(edit: &Edit<A>) -> Option<Address<'_>>
         | Edit::AppendValue { nth, name, .. }
         | Edit::AddWord { nth, name, .. }
         | Edit::RemoveWord { nth, name, .. }
-        | Edit::PrependValue { nth, name, .. }
-        | Edit::ReplaceWord { nth, name, .. }
-        | Edit::SubstituteValue { nth, name, .. }
-        | Edit::SetOperator { nth, name, .. }
+        | Edit::ChangeLine { nth, name, .. }
         | Edit::RemoveAssign { nth, name } => Some(Address::Variable(*nth, name)),
         Edit::AddAssign { place, .. } | Edit::AddRule { place, .. } => place_address(place),
         Edit::RemoveRule { nth, target }

@@ -5,18 +5,18 @@ ghost use Rattle.mk_class.specs.Arguments.{is_barred_byte, is_clean, is_command,
 ghost use Rattle.mk_class.specs.Keywords.{is_reserved_word};
 ghost use Rattle.mk_class.specs.ListTests.{is_empty};
 ghost use Rattle.mk_class.specs.RecipePrefix.{is_prefix_name};
-ghost use Rattle.mk_edit_language.specs.ArgumentCauses.{Tested, address_names, address_targets, are_targets, are_words, bad_argument, change_test, first_failed, is_place, is_value_word, names, targets};
+ghost use Rattle.mk_edit_language.specs.ArgumentCauses.{Tested, address_names, address_targets, are_targets, are_words, bad_argument, change_test, first_failed, is_place, is_value_word, line_change_tests, names, targets};
 ghost use Rattle.mk_edit_language.specs.declared.refusal.Field.TheVariants.{Line, Old, Prereqs, Target, Targets};
 ghost use Rattle.mk_lines.specs.Units.{units};
 ghost use Rattle.mk_lines.specs.Words.{is_gap, words_in};
-ghost use Rattle.mk_edit_language.specs.EditViews.{edit_of, place_of, value_change_of};
+ghost use Rattle.mk_edit_language.specs.EditViews.{edit_of, line_change_of, place_of, value_change_of};
 ghost use Rattle.mk_edit_language.specs.declared.refusal.Field.TheVariants as field;
 ghost use Rattle.mk_edit_parts.specs.AddressViews.{address_seen, field_refusal};
 
 use crate::address::{Address, address_of};
 use crate::text::is_prefix_name;
 use mk_class::{is_command, is_name, is_reserved_word, is_target, is_value, is_word};
-use mk_edit_language::{Edit, Field, Place, ValueChange};
+use mk_edit_language::{Edit, Field, LineChange, Place, ValueChange};
 use mk_lines::{split_first_unit, split_first_word};
 use std::alloc::Allocator;
 
@@ -36,27 +36,7 @@ pub fn bad_field<A: Allocator>(edit: &Edit<A>) -> Option<Field>
             bad_name_or(name, Field::Word, is_value_word(word))
         }
         Edit::ChangeValues { name, change } => bad_change(name, change),
-        Edit::PrependValue { name, value, .. } => bad_name_or(name, Field::Value, is_tail(value)),
-        Edit::ReplaceWord {
-            name,
-            word,
-            value,
-            ..
-        } => bad_name_or_two(
-            name,
-            Field::Word,
-            is_value_word(word),
-            Field::Value,
-            is_tail(value),
-        ),
-        Edit::SubstituteValue { name, from, to, .. } => bad_name_or_two(
-            name,
-            Field::From,
-            is_clean(from) && !from.is_empty(),
-            Field::To,
-            is_clean(to),
-        ),
-        Edit::SetOperator { name, .. } => failed(Field::Name, is_name(name)),
+        Edit::ChangeLine { name, change, .. } => bad_line_change(name, change),
         Edit::RemoveAssign { name, .. } => failed(Field::Name, is_name(name)),
         Edit::AddRule {
             targets,
@@ -101,6 +81,39 @@ fn first_failed(one: Field, one_passes: bool, other: Field, other_passes: bool) 
         failed(other, other_passes)
     } else {
         Some(one)
+    }
+}
+
+// The first field that fails its test, of a name and the texts of a change of a line.
+fn bad_line_change<A: Allocator>(name: &[u8], change: &LineChange<A>) -> Option<Field>
+    ensures { field_refusal result
+        ≡ first_failed (Tested field.Name (is_name name.now)
+        ∷ line_change_tests (line_change_of change.now)) }
+{
+    match change {
+        LineChange::Prepend(value) => bad_name_or(name, Field::Value, is_tail(value)),
+        LineChange::ReplaceWord { word, value } => bad_name_or_two(
+            name,
+            Field::Word,
+            is_value_word(word),
+            Field::Value,
+            is_tail(value),
+        ),
+        LineChange::InsertWord { word, new, .. } => bad_name_or_two(
+            name,
+            Field::Word,
+            is_value_word(word),
+            Field::New,
+            is_value_word(new),
+        ),
+        LineChange::Substitute { from, to } => bad_name_or_two(
+            name,
+            Field::From,
+            is_clean(from) && !from.is_empty(),
+            Field::To,
+            is_clean(to),
+        ),
+        LineChange::SetOperator(_) => failed(Field::Name, is_name(name)),
     }
 }
 

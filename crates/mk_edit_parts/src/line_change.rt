@@ -3,41 +3,29 @@
 //!
 //! A cause of refusal is told before a want of memory. So a growth that is refused does not end the
 //! search for places: their ranges are dropped, and the places are counted on.
-ghost use Rattle.std.specs.Prelude.{◌≡◌, ◌+◌, ◌<◌, ◌≤◌, ◌^◌, [], ◌∷◌, ◌++◌, Some, length, if◌then◌else◌, IfOk, IfSome, option_map};
+ghost use Rattle.std.specs.Prelude.{◌≡◌, ◌+◌, ◌<◌, ◌≤◌, ◌^◌, [], ◌∷◌, ◌++◌, None, Some, length, IfOk, IfSome, option_map};
 ghost use Rattle.memchr.specs.Find.{matches};
 ghost use Rattle.mk_lines.specs.Bytes.{is_blank_byte};
 ghost use Rattle.mk_lines.specs.Cells.{line_cells};
 ghost use Rattle.mk_lines.specs.Ranges.{raw_range, text_at, word_ranges};
 ghost use Rattle.mk_class.specs.Assignments.{operator_length};
-ghost use Rattle.mk_class.specs.ListTests.{is_empty};
 ghost use Rattle.mk_tree.specs.LocatedLines.{text_of_line};
 ghost use Rattle.mk_tree.specs.Trees.{line_view};
-ghost use Rattle.mk_edit_parts.specs.LineChangePlaces.{AreNoted, CanNote, change_places, line_change_view, new_text, operator_start, raw_ranges, text_places, word_places};
+ghost use Rattle.mk_edit_language.specs.EditViews.{line_change_of};
+ghost use Rattle.mk_edit_parts.specs.LineChangePlaces.{AreNoted, CanNote, change_places, new_text, operator_start, raw_ranges, separator_among, separator_bytes, separator_place, separator_text, text_places, word_place, word_places};
 ghost use Rattle.mk_edit_parts.specs.RenamedRanges.{AreWithin, IsWithin, bytes_in};
 ghost use Rattle.mk_edit_parts.specs.SeenAssignments.{HasAssignment};
 
+use crate::raw_part::raw_part;
 use crate::text::is_same_text;
 use memchr::memmem::find_iter;
-use mk_class::{Assignment, Flavor};
+use mk_class::Assignment;
+use mk_edit_language::{LineChange, Side};
 use mk_lines::split::Span;
 use mk_lines::words;
 use mk_tree::Line;
 use mk_tree::part::{part, rest, text_of_line};
 use std::alloc::{AllocError, Allocator};
-
-/// A change of an assignment's line that is checked by reading.
-#[derive(Clone, Copy)]
-pub enum LineChange<'a> {
-    /// Puts this text before the value, with a space between them if the value is not empty.
-    Prepend(&'a [u8]),
-    /// Puts the second text in the place of each word of the value that is the first.
-    ReplaceWord(&'a [u8], &'a [u8]),
-    /// Puts the second text in the place of each occurrence of the first in the value. Occurrences
-    /// are taken from the left, none overlapping the one before.
-    Substitute(&'a [u8], &'a [u8]),
-    /// Puts this operator in the place of the operator.
-    SetOperator(Flavor),
-}
 
 /// The places of a line that a change replaces.
 #[derive(Drop)]
@@ -53,15 +41,15 @@ pub struct Places<A: Allocator> {
 /// The places of an assignment's line that a change replaces.
 pub fn places_of<A: Allocator + Copy>(
     alloc: A,
-    change: LineChange<'_>,
+    change: &LineChange<A>,
     line: &Line<A>,
     assignment: Assignment,
 ) -> Places<A>
     requires assignment { HasAssignment (line_view line.now) assignment }
     requires can { CanNote (line_cells (line_view line.now).bytes)
-        (change_places (line_change_view change) (text_of_line (line_view line.now)) assignment) }
+        (change_places (line_change_of change.now) (text_of_line (line_view line.now)) assignment) }
     ensures { AreNoted (line_cells (line_view line.now).bytes)
-        (change_places (line_change_view change.entry) (text_of_line (line_view line.now))
+        (change_places (line_change_of change.now) (text_of_line (line_view line.now))
         assignment) [] result }
 {
     let places = Places {
@@ -75,8 +63,11 @@ pub fn places_of<A: Allocator + Copy>(
             let start = value.start;
             noted(places, line, Span { start, end: start })
         }
-        LineChange::ReplaceWord(word, _) => with_words(places, line, value, word),
-        LineChange::Substitute(from, _) => with_texts(places, line, value, from),
+        LineChange::ReplaceWord { word, .. } => with_words(places, line, value, None, word),
+        LineChange::InsertWord { side, word, .. } => {
+            with_words(places, line, value, Some(*side), word)
+        }
+        LineChange::Substitute { from, .. } => with_texts(places, line, value, from),
         LineChange::SetOperator(_) => {
             let start = operator_start(text_of_line(line), assignment.name.end);
             let end = start + assignment.flavor.text().len();
@@ -85,20 +76,21 @@ pub fn places_of<A: Allocator + Copy>(
     }
 }
 
-// The places with the words of a value that are this word.
+// The places with those at the words of a value that are this word: the word, or a side of it.
 fn with_words<A: Allocator>(
     places: Places<A>,
     line: &Line<A>,
     value: Span,
+    side: Option<Side>,
     wanted: &[u8],
 ) -> Places<A>
     requires within { IsWithin (length (line_cells (line_view line.now).bytes)) value }
     requires can { CanNote (line_cells (line_view line.now).bytes)
-        (word_places (text_of_line (line_view line.now)) value.start wanted.now
+        (word_places (text_of_line (line_view line.now)) value.start side wanted.now
         (word_ranges (text_at (text_of_line (line_view line.now)) value))) }
     requires none { AreNoted (line_cells (line_view line.now).bytes) [] [] places }
     ensures { AreNoted (line_cells (line_view line.now).bytes)
-        (word_places (text_of_line (line_view line.now)) value.start wanted.now
+        (word_places (text_of_line (line_view line.now)) value.start side wanted.now
         (word_ranges (text_at (text_of_line (line_view line.now)) value))) [] result }
 {
     let text = text_of_line(line);
@@ -107,10 +99,22 @@ fn with_words<A: Allocator>(
         let start = value.start + word.start;
         let end = value.start + word.end;
         if is_same_text(part(text, Span { start, end }), wanted) {
-            places = noted(places, line, Span { start, end });
+            places = noted(places, line, word_place(side, Span { start, end }));
         }
     }
     places
+}
+
+// The range of a word, or the empty range on one side of it.
+fn word_place(side: Option<Side>, word: Span) -> Span
+    ensures { result ≡ word_place side word }
+{
+    let Span { start, end } = word;
+    match side {
+        None => word,
+        Some(Side::Before) => Span { start, end: start },
+        Some(Side::After) => Span { start: end, end },
+    }
 }
 
 // The places with the occurrences of a text in a value.
@@ -222,48 +226,130 @@ pub fn raw_ranges<A: Allocator>(
     Ok(raw)
 }
 
-/// How many bytes the text has that goes to each place.
-pub fn new_length(change: LineChange<'_>, value: &[u8]) -> usize
-    ensures { result ≡ length (new_text (line_change_view change.entry) value.now) }
+/// The range of a line's joined text that separates a new word from the one beside which a change
+/// puts it: what stands between that word and its neighbour on this side, or if it has none there, on
+/// the other side. `None` if it is the only word, or if the change puts no word beside another.
+pub fn separator_place<A: Allocator>(
+    change: &LineChange<A>,
+    line: &Line<A>,
+    assignment: Assignment,
+) -> Option<Span>
+    requires { HasAssignment (line_view line.now) assignment }
+    ensures { result ≡ separator_place (line_change_of change.now)
+        (text_of_line (line_view line.now)) assignment }
+{
+    match change {
+        LineChange::InsertWord { side, word, .. } => {
+            separator_beside(text_of_line(line), assignment.value, *side, word)
+        }
+        _ => None,
+    }
+}
+
+// The range that separates the first word of a part of a text that is this one from its neighbour.
+fn separator_beside(text: &[u8], value: Span, side: Side, wanted: &[u8]) -> Option<Span>
+    requires within { IsWithin (length text.now) value }
+    ensures { result ≡ separator_among side text.now value.start wanted.now None
+        (word_ranges (text_at text.now value)) }
+{
+    let mut words = words(part(text, value));
+    let mut word_end = None;
+    'words: while let Some(word) = words.next() {
+        let start = value.start + word.start;
+        let end = value.start + word.end;
+        if is_same_text(part(text, Span { start, end }), wanted) {
+            let before = word_end.map(|word_end| Span {
+                start: word_end,
+                end: start,
+            });
+            let after = words.next().map(|next| Span {
+                start: end,
+                end: value.start + next.start,
+            });
+            return match side {
+                Side::Before => before.or(after),
+                Side::After => after.or(before),
+            };
+        }
+        word_end = Some(end);
+    }
+    None
+}
+
+/// What a separator is read as: the joined text of its range, or a space if it has none.
+pub fn separator_text<A: Allocator>(line: &Line<A>, separator: Option<Span>) -> &[u8]
+    requires { IfSome separator (IsWithin (length (line_cells (line_view line.now).bytes))) }
+    ensures { result.now ≡ separator_text (text_of_line (line_view line.now)) separator }
+{
+    match separator {
+        Some(range) => part(text_of_line(line), range),
+        None => b" ",
+    }
+}
+
+/// The bytes of a separator in the line, or a space if it has no range.
+pub fn separator_bytes<A: Allocator>(line: &Line<A>, separator: Option<Span>) -> &[u8]
+    requires { IfSome separator (IsWithin (length (line_cells (line_view line.now).bytes))) }
+    ensures { result.now ≡ separator_bytes (line_cells (line_view line.now).bytes) separator }
+{
+    match separator {
+        Some(range) => raw_part(line, range),
+        None => b" ",
+    }
+}
+
+/// How many bytes the text has that goes to each place, by the bytes of the separator and the old
+/// value.
+pub fn new_length<A: Allocator>(change: &LineChange<A>, separator: &[u8], value: &[u8]) -> usize
+    ensures { result ≡ length (new_text (line_change_of change.now) separator.now value.now) }
 {
     match change {
         LineChange::Prepend(text) => text.len() + usize::from(!value.is_empty()),
-        LineChange::ReplaceWord(_, text) | LineChange::Substitute(_, text) => text.len(),
+        LineChange::ReplaceWord { value, .. } => value.len(),
+        LineChange::InsertWord { new, .. } => new.len() + separator.len(),
+        LineChange::Substitute { to, .. } => to.len(),
         LineChange::SetOperator(flavor) => flavor.text().len(),
     }
 }
 
-/// The text that goes to each place, by the change and the old value.
+/// The text that goes to each place, by the change, the separator and the old value.
 ///
 /// # Errors
 ///
 /// [`AllocError`] if there is no memory for it.
-pub fn new_text<A: Allocator>(
+pub fn new_text<A: Allocator + Copy>(
     alloc: A,
-    change: LineChange<'_>,
+    change: &LineChange<A>,
+    separator: &[u8],
     value: &[u8],
 ) -> Result<Vec<u8, A>, AllocError>
     ensures { IfOk result (λ text.
-        text.items ≡ new_text (line_change_view change.entry) value.now) }
+        text.items ≡ new_text (line_change_of change.now) separator.now value.now) }
 {
     match change {
-        LineChange::Prepend(text) => before_value(alloc, text, value),
-        LineChange::ReplaceWord(_, text) | LineChange::Substitute(_, text) => {
-            Vec::from_slice(alloc, text)
-        }
+        LineChange::Prepend(text) => joined(alloc, text, if value.is_empty() { b"" } else { b" " }),
+        LineChange::ReplaceWord { value, .. } => Vec::from_slice(alloc, value),
+        LineChange::InsertWord {
+            side: Side::Before,
+            new,
+            ..
+        } => joined(alloc, new, separator),
+        LineChange::InsertWord {
+            side: Side::After,
+            new,
+            ..
+        } => joined(alloc, separator, new),
+        LineChange::Substitute { to, .. } => Vec::from_slice(alloc, to),
         LineChange::SetOperator(flavor) => Vec::from_slice(alloc, flavor.text().as_bytes()),
     }
 }
 
-// A text that goes before a value, with a space after it if the value is not empty.
-fn before_value<A: Allocator>(alloc: A, text: &[u8], value: &[u8]) -> Result<Vec<u8, A>, AllocError>
-    ensures { IfOk result (λ all.
-        all.items ≡ text.now ++ (if is_empty value.now then [] else 32 ∷ [])) }
+// Two texts, one after the other.
+fn joined<A: Allocator>(alloc: A, left: &[u8], right: &[u8]) -> Result<Vec<u8, A>, AllocError>
+    ensures { IfOk result (λ all. all.items ≡ left.now ++ right.now) }
 {
-    let mut all = Vec::with_capacity(alloc, text.len() + 1)?;
-    all.extend_from_slice(text)?;
-    if !value.is_empty() {
-        all.push(b' ')?;
-    }
+    let mut all = Vec::with_capacity(alloc, left.len() + right.len())?;
+    all.extend_from_slice(left)?;
+    all.extend_from_slice(right)?;
     Ok(all)
 }

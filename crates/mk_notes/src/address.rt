@@ -3,7 +3,7 @@
 use crate::line::is_named;
 use crate::text::{MOST_LINES, Notes};
 use memchr::memmem;
-use mk_edit_language::{Edit, ValueChange};
+use mk_edit_language::{Edit, LineChange, ValueChange};
 use mk_edit_parts::address::{Address, address_of};
 use mk_edit_parts::seek::wanted;
 use mk_listing::{Position, RuleLine, numbered, rule_lines_for};
@@ -33,19 +33,23 @@ pub(crate) fn number_in(address: Address<'_>) -> Option<u32> {
     }
 }
 
-/// The word that an edit adds to lines, or takes out of them, the text that it replaces in a value, or the new
-/// name of a target.
+/// The word that an edit adds to lines, takes out of them or puts another one beside, the text that it replaces
+/// in a value, or the new name of a target.
 pub(crate) fn word_of<A: Allocator>(edit: &Edit<A>) -> Option<&[u8]> {
     match edit {
         Edit::AddWord { word, .. }
         | Edit::RemoveWord { word, .. }
-        | Edit::ReplaceWord { word, .. }
-        | Edit::SubstituteValue { from: word, .. }
         | Edit::AddPrereq { word, .. }
         | Edit::RemovePrereq { word, .. }
         | Edit::RenameTarget { to: word, .. }
         | Edit::ChangeValues {
             change: ValueChange::Add(word) | ValueChange::Remove(word),
+            ..
+        }
+        | Edit::ChangeLine {
+            change: LineChange::ReplaceWord { word, .. }
+            | LineChange::InsertWord { word, .. }
+            | LineChange::Substitute { from: word, .. },
             ..
         } => Some(word.as_slice()),
         _ => None,

@@ -3,7 +3,7 @@
 use crate::address::{meant_by, name_in, number_in, word_of};
 use crate::part::Part::{Number, Text, Words};
 use crate::text::Notes;
-use mk_edit_language::{Edit, Place, ValueChange};
+use mk_edit_language::{Edit, LineChange, Place, Side, ValueChange};
 use mk_edit_parts::address::address_of;
 use std::alloc::{AllocError, Allocator};
 
@@ -37,16 +37,20 @@ impl<'a, A: Allocator, B: Allocator + Copy> Notes<'a, A, B> {
         self.fields(&[word.as_bytes(), about, new])
     }
 
-    // Puts the name or the target of the lines that an edit means, and the word, the text or the number of a
+    // Puts the name or the target of the lines that an edit means, and the words, the text or the number of a
     // recipe line that it is about.
     fn asked_of_line<C: Allocator>(&mut self, edit: &Edit<C>) -> Result<(), AllocError> {
         if let Some(address) = meant_by(edit) {
             self.fields(&[name_in(address)])?;
         }
         if let Some(word) = word_of(edit) {
-            return self.fields(&[word]);
+            self.fields(&[word])?;
         }
         match edit {
+            Edit::ChangeLine {
+                change: LineChange::InsertWord { new, .. },
+                ..
+            } => self.fields(&[new]),
             Edit::SetRecipe { number, .. }
             | Edit::RemoveRecipe { number, .. }
             | Edit::InsertRecipe { number, .. } => self.say(" @", &[Number(u64::from(*number))]),
@@ -71,16 +75,13 @@ fn command_word<A: Allocator>(edit: &Edit<A>) -> &'static str {
         Edit::AppendValue { .. } => "append",
         Edit::AddWord { .. } => "add",
         Edit::RemoveWord { .. } => "drop",
-        Edit::PrependValue { .. } => "prepend",
-        Edit::ReplaceWord { .. } => "replace",
-        Edit::SubstituteValue { .. } => "subst",
-        Edit::SetOperator { .. } => "operator",
         Edit::ChangeValues { change, .. } => match change {
             ValueChange::Set(_) => "all set",
             ValueChange::Append(_) => "all append",
             ValueChange::Add(_) => "all add",
             ValueChange::Remove(_) => "all drop",
         },
+        Edit::ChangeLine { change, .. } => line_change_word(change),
         Edit::AddAssign { .. } => "assign",
         Edit::RemoveAssign { .. } => "unset",
         Edit::AddRule { .. } => "rule",
@@ -95,6 +96,20 @@ fn command_word<A: Allocator>(edit: &Edit<A>) -> &'static str {
         Edit::SetRecipeByText { .. } => "recipe-replace",
         Edit::RemoveRecipeByText { .. } => "recipe-remove",
         Edit::RenameTarget { .. } => "rename",
+    }
+}
+
+// The command of an edit that changes the line of an assignment.
+fn line_change_word<A: Allocator>(change: &LineChange<A>) -> &'static str {
+    match change {
+        LineChange::Prepend(_) => "prepend",
+        LineChange::ReplaceWord { .. } => "replace",
+        LineChange::InsertWord { side, .. } => match side {
+            Side::Before => "add-before",
+            Side::After => "add-after",
+        },
+        LineChange::Substitute { .. } => "subst",
+        LineChange::SetOperator(_) => "operator",
     }
 }
 

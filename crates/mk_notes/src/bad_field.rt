@@ -4,7 +4,7 @@ use crate::broken::{Test, broken};
 use crate::part::Part::Words;
 use crate::text::Notes;
 use mk_class::{is_target, is_word};
-use mk_edit_language::{Edit, Field, ValueChange};
+use mk_edit_language::{Edit, Field, LineChange, ValueChange};
 use mk_edit_parts::address::{Address, address_of};
 use mk_tree::WordTexts;
 use std::alloc::{AllocError, Allocator};
@@ -43,8 +43,6 @@ fn text_of_field<A: Allocator>(edit: &Edit<A>, field: Field) -> Tested<'_> {
             Field::Value,
             Edit::SetValue { value, .. }
             | Edit::AppendValue { value, .. }
-            | Edit::PrependValue { value, .. }
-            | Edit::ReplaceWord { value, .. }
             | Edit::AddAssign { value, .. }
             | Edit::ChangeValues {
                 change: ValueChange::Set(value) | ValueChange::Append(value),
@@ -55,22 +53,41 @@ fn text_of_field<A: Allocator>(edit: &Edit<A>, field: Field) -> Tested<'_> {
             Field::Word,
             Edit::AddWord { word, .. }
             | Edit::RemoveWord { word, .. }
-            | Edit::ReplaceWord { word, .. }
             | Edit::ChangeValues {
                 change: ValueChange::Add(word) | ValueChange::Remove(word),
                 ..
             },
         ) => Tested::new("the word", word, Test::ValueWord),
-        (Field::From, Edit::SubstituteValue { from, .. }) => {
-            Tested::new("the text to replace", from, Test::Text)
-        }
-        (Field::To, Edit::SubstituteValue { to, .. }) => {
-            Tested::new("the new text", to, Test::Text)
-        }
         (Field::Name, Edit::AddAssign { name, .. } | Edit::ChangeValues { name, .. }) => {
             Tested::new("the name", name, Test::Name)
         }
+        (_, Edit::ChangeLine { change, .. }) => text_of_change(edit, change, field),
         _ => text_of_rule_field(edit, field),
+    }
+}
+
+// The text of a field of an edit that changes the line of an assignment that may not stand there.
+fn text_of_change<'a, A: Allocator>(
+    edit: &'a Edit<A>,
+    change: &'a LineChange<A>,
+    field: Field,
+) -> Tested<'a> {
+    match (field, change) {
+        (Field::Value, LineChange::Prepend(value) | LineChange::ReplaceWord { value, .. }) => {
+            Tested::new("the value", value, Test::Value)
+        }
+        (Field::Word, LineChange::ReplaceWord { word, .. } | LineChange::InsertWord { word, .. }) =>
+            Tested::new("the word", word, Test::ValueWord),
+        (Field::New, LineChange::InsertWord { new, .. }) => {
+            Tested::new("the new word", new, Test::ValueWord)
+        }
+        (Field::From, LineChange::Substitute { from, .. }) => {
+            Tested::new("the text to replace", from, Test::Text)
+        }
+        (Field::To, LineChange::Substitute { to, .. }) => {
+            Tested::new("the new text", to, Test::Text)
+        }
+        _ => text_of_address(edit, field),
     }
 }
 

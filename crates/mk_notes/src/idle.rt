@@ -1,10 +1,10 @@
 //! The sentences on edits that find nothing to do in their line: the word is there already, or what is to
-//! be changed or taken out is not there.
+//! be changed or taken out, or the word beside which another is to go, is not there.
 
 use crate::address::{line_of_rule, name_in, word_of};
 use crate::part::Part::{Count, Number, Text};
 use crate::text::Notes;
-use mk_edit_language::{Edit, ValueChange};
+use mk_edit_language::{Edit, LineChange, Refusal, ValueChange};
 use mk_edit_parts::address::Address;
 use mk_listing::RuleLine;
 use mk_tree::Doc;
@@ -16,6 +16,7 @@ impl<'a, A: Allocator, B: Allocator + Copy> Notes<'a, A, B> {
         &mut self,
         edit: &'e Edit<C>,
         address: Address<'e>,
+        refusal: Refusal,
     ) -> Result<(), AllocError> {
         match edit {
             Edit::SetRecipe { number, .. } | Edit::RemoveRecipe { number, .. } => {
@@ -28,7 +29,7 @@ impl<'a, A: Allocator, B: Allocator + Copy> Notes<'a, A, B> {
             Edit::SetRecipeByText { old, .. } | Edit::RemoveRecipeByText { old, .. } => {
                 self.no_recipe_line(address, old)
             }
-            _ => self.idle_word(edit, name_in(address)),
+            _ => self.idle_word(edit, name_in(address), refusal),
         }
     }
 
@@ -38,22 +39,29 @@ impl<'a, A: Allocator, B: Allocator + Copy> Notes<'a, A, B> {
         &mut self,
         edit: &'e Edit<C>,
         name: &'e [u8],
+        refusal: Refusal,
     ) -> Result<(), AllocError> {
         let said = match edit {
             Edit::AddWord { .. } => "@ has the word @ already",
-            Edit::RemoveWord { .. } | Edit::ReplaceWord { .. } => "@ has no word @",
-            Edit::SubstituteValue { .. } => "the value of @ does not have the text `@`",
+            Edit::RemoveWord { .. } => "@ has no word @",
             Edit::ChangeValues {
                 change: ValueChange::Add(_),
                 ..
             } => "each assignment of @ has the word @ already",
             Edit::ChangeValues { .. } => "no assignment of @ has the word @",
+            Edit::ChangeLine {
+                change: LineChange::Substitute { .. },
+                ..
+            } => "the value of @ does not have the text `@`",
+            Edit::ChangeLine { .. } if matches!(refusal, Refusal::Already) => {
+                "@ has the word @ already"
+            }
+            Edit::ChangeLine { .. } => "@ has no word @",
             Edit::AddPrereq { order: true, .. } => "@ has the order-only prerequisite @ already",
             Edit::AddPrereq { .. } => "@ depends on @ already",
             _ => "@ does not depend on @",
         };
-        let word = Text(word_of(edit).unwrap_or_default());
-        self.say(said, &[Text(name), word])
+        self.say(said, &[Text(name), Text(word_told(edit, refusal))])
     }
 
     // Puts how many recipe lines a rule has, which are fewer than this.
@@ -95,6 +103,20 @@ impl<'a, A: Allocator, B: Allocator + Copy> Notes<'a, A, B> {
             }
         }
         Ok(())
+    }
+}
+
+// The word that is there already, or the word or text that is not there.
+fn word_told<A: Allocator>(edit: &Edit<A>, refusal: Refusal) -> &[u8] {
+    match (edit, refusal) {
+        (
+            Edit::ChangeLine {
+                change: LineChange::InsertWord { new, .. },
+                ..
+            },
+            Refusal::Already,
+        ) => new,
+        _ => word_of(edit).unwrap_or_default(),
     }
 }
 

@@ -13,7 +13,7 @@ use crate::run_notes::{RunNotes, Walks};
 use crate::tally::Tally;
 use crate::text::Notes;
 use mk_class::Flavor;
-use mk_edit_language::{Edit, Place};
+use mk_edit_language::{Edit, LineChange, Place};
 use mk_edit_parts::address::{Address, address_of};
 use mk_listing::{Position, numbered};
 use mk_tree::{Doc, WordTexts};
@@ -27,7 +27,7 @@ impl<B: Allocator + Copy> RunNotes<'_, B> {
     /// | Edit | Notes |
     /// |---|---|
     /// | each but `RemoveAssign`, `RemoveRule`, `ChangeValues` and `RenameTarget` | where the changed line is in a conditional: that make may skip it, and the line |
-    /// | `SetValue`, `AppendValue`, `AddWord`, `RemoveWord`, `PrependValue`, `ReplaceWord`, `SubstituteValue` | where the operator is `?=`: that make takes the value only where the variable has none, and the line |
+    /// | `SetValue`, `AppendValue`, `AddWord`, `RemoveWord`, and `ChangeLine` except for `SetOperator` | where the operator is `?=`: that make takes the value only where the variable has none, and the line |
     /// | the same, `SetOperator` and `AddAssign` | where the variable is assigned again below, and not in another branch of the same conditional: that it is, and the lines that assign it |
     /// | the same | where it is assigned in another branch of the same conditional: that it is, and the lines that assign it |
     /// | the same, and anywhere in the makefile `RemoveAssign` and `ChangeValues` | where lines below seem to assign it that are not read: that they do, and these lines |
@@ -76,8 +76,7 @@ impl<'a, A: Allocator, B: Allocator + Copy> Notes<'a, A, B> {
         }
         let changed = changed_line(self.doc, edit);
         if let Some(at) = changed {
-            let says_operator = matches!(edit, Edit::AddAssign { .. } | Edit::SetOperator { .. });
-            self.on_line(at, says_operator)?;
+            self.on_line(at, says_operator(edit))?;
         }
         match (edit, changed) {
             (Edit::AddRule { targets, .. }, _) => self.new_rule(tally, edit, targets, changed),
@@ -145,6 +144,18 @@ impl<'a, A: Allocator, B: Allocator + Copy> Notes<'a, A, B> {
         let said = b" has more assignments, in lines that mkedit cannot parse";
         self.lines(&[name, said], found).map(|_| ())
     }
+}
+
+// Whether an edit says the operator of its line.
+fn says_operator<A: Allocator>(edit: &Edit<A>) -> bool {
+    matches!(
+        edit,
+        Edit::AddAssign { .. }
+            | Edit::ChangeLine {
+                change: LineChange::SetOperator(_),
+                ..
+            }
+    )
 }
 
 // Whether an edit has put a line into a recipe, or has changed one.

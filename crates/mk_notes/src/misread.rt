@@ -3,7 +3,7 @@
 use crate::broken::{Test, barred_unit, open_end};
 use crate::part::Part::Words;
 use crate::text::Notes;
-use mk_edit_language::Edit;
+use mk_edit_language::{Edit, LineChange};
 use std::alloc::{AllocError, Allocator};
 
 impl<'a, A: Allocator, B: Allocator + Copy> Notes<'a, A, B> {
@@ -11,30 +11,33 @@ impl<'a, A: Allocator, B: Allocator + Copy> Notes<'a, A, B> {
     /// cause.
     pub(crate) fn misread<C: Allocator>(&mut self, edit: &Edit<C>) -> Result<(), AllocError> {
         self.say("the new line would read differently", &[])?;
-        let new = new_text(edit);
+        let Edit::ChangeLine { change, .. } = edit else {
+            return Ok(());
+        };
+        let new = new_text(change);
         if let Some(cause) = open_end(new).or(barred_unit(new, Test::Value)) {
             return self.say(": the new text @", &[Words(cause)]);
         }
-        match closing_byte(old_text(edit)) {
+        match closing_byte(old_text(change)) {
             Some(cause) => self.say(": the text to replace @", &[Words(cause)]),
             None => Ok(()),
         }
     }
 }
 
-// The text that an edit puts into a value.
-fn new_text<A: Allocator>(edit: &Edit<A>) -> &[u8] {
-    match edit {
-        Edit::PrependValue { value, .. } | Edit::ReplaceWord { value, .. } => value,
-        Edit::SubstituteValue { to, .. } => to,
+// The text that a change puts into a value.
+fn new_text<A: Allocator>(change: &LineChange<A>) -> &[u8] {
+    match change {
+        LineChange::Prepend(value) | LineChange::ReplaceWord { value, .. } => value,
+        LineChange::Substitute { to, .. } => to,
         _ => &[],
     }
 }
 
-// The text that an edit takes out of a value, within words too.
-fn old_text<A: Allocator>(edit: &Edit<A>) -> &[u8] {
-    match edit {
-        Edit::SubstituteValue { from, .. } => from,
+// The text that a change takes out of a value, within words too.
+fn old_text<A: Allocator>(change: &LineChange<A>) -> &[u8] {
+    match change {
+        LineChange::Substitute { from, .. } => from,
         _ => &[],
     }
 }

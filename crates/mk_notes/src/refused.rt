@@ -27,7 +27,7 @@ impl<C: Allocator + Copy> RunNotes<'_, C> {
     ///
     /// | Refusal of an edit | Notes on |
     /// |---|---|
-    /// | `Ambiguous` | the lines that fit the address, and what tells one of them; the line of the rule, if several of its recipe lines have the text |
+    /// | `Ambiguous` | the lines that fit the address, and what tells one of them; the line itself, if several of its recipe lines or words fit |
     /// | `NoSuch` | if the number is too high, the lines of the name; otherwise the lines of other names that are spelled alike, and those that begin with the name and that no edit looks at |
     /// | `Absent`, `Already`, `SharedRule` | the line that the edit means; with `all` those of the name |
     /// | `Misread` | the line that the edit means |
@@ -130,7 +130,7 @@ impl<'a, A: Allocator, C: Allocator + Copy> Notes<'a, A, C> {
     }
 
     // Puts the notes on several lines of which an address means one, and what tells one of them. Where
-    // there is one alone, it is its recipe lines that are several.
+    // there is one alone, it is its recipe lines or its words that are several.
     fn ambiguous<B: Allocator>(
         &mut self,
         edit: &Edit<B>,

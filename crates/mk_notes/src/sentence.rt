@@ -8,7 +8,7 @@ use crate::line::hides_prefix;
 use crate::part::Part::{Count, Makefile, Number, Text, Times, Words};
 use crate::text::Notes;
 use mk_class::is_reserved_word;
-use mk_edit_language::{Edit, Refusal};
+use mk_edit_language::{Edit, LineChange, Refusal};
 use mk_edit_parts::address::Address;
 use mk_listing::numbered;
 use mk_tree::WordTexts;
@@ -47,7 +47,7 @@ impl<'a, A: Allocator, B: Allocator + Copy> Notes<'a, A, B> {
             }
             (Refusal::NoSuch, _) => self.no_such(address),
             (Refusal::Ambiguous(count), _) => self.several(edit, address, count),
-            (Refusal::Absent | Refusal::Already, _) => self.idle(edit, address),
+            (Refusal::Absent | Refusal::Already, _) => self.idle(edit, address, refusal),
             (Refusal::Taken, Edit::RenameTarget { to, .. }) => {
                 self.say("@ has the target @ already", &[Makefile, Text(to)])
             }
@@ -122,26 +122,39 @@ impl<'a, A: Allocator, B: Allocator + Copy> Notes<'a, A, B> {
         self.say(", and `nth @` is asked for", &[Number(nth)])
     }
 
-    // Puts which lines are several of which an edit means one.
+    // Puts which lines, or which words of a value, are several of which an edit means one.
     fn several<'e, C: Allocator>(
         &mut self,
         edit: &'e Edit<C>,
         address: Address<'e>,
         count: u64,
     ) -> Result<(), AllocError> {
-        let old = match edit {
-            Edit::SetRecipeByText { old, .. } | Edit::RemoveRecipeByText { old, .. } => Text(old),
+        let (meant, noun) = match edit {
+            Edit::SetRecipeByText { old, .. } | Edit::RemoveRecipeByText { old, .. } => {
+                (Text(old), "recipe line")
+            }
+            Edit::ChangeLine {
+                change: LineChange::InsertWord { word, .. },
+                ..
+            } => (Text(word), "word"),
             _ => return self.has(address, count),
         };
-        let target = Text(name_in(address));
+        let name = Text(name_in(address));
         if number_in(address).is_some() || (self.walks && count_of(self.doc, address) == 1) {
-            let lines = Count(count, "recipe line");
-            self.say("@ of @ are `@`", &[lines, target, old])
-        } else if self.walks {
-            self.has(address, count)
-        } else {
-            let rules = Count(count, "rule");
-            self.say("@ for @, or lines of its recipe, fit", &[rules, target])
+            return self.say("@ of @ are `@`", &[Count(count, noun), name, meant]);
+        }
+        if self.walks {
+            return self.has(address, count);
+        }
+        match address {
+            Address::Variable(..) => {
+                let lines = Count(count, "assignment");
+                self.say("@ of @, or words of its value, fit", &[lines, name])
+            }
+            Address::Rule(..) => {
+                let rules = Count(count, "rule");
+                self.say("@ for @, or lines of its recipe, fit", &[rules, name])
+            }
         }
     }
 

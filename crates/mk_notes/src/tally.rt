@@ -3,7 +3,7 @@
 use crate::address::meant_by;
 use crate::line::is_doubtful;
 use mk_class::Flavor;
-use mk_edit_language::{Edit, Place};
+use mk_edit_language::{Edit, LineChange, Place};
 use mk_edit_parts::address::Address;
 use mk_index::bucket::hash_of;
 use mk_tree::{Doc, WordTexts};
@@ -69,9 +69,9 @@ impl<A: Allocator + Copy> Tally<A> {
         match edit {
             Edit::AddAssign { name, flavor, .. } => self.assign(name, *flavor),
             // The line itself is counted already.
-            Edit::SetOperator {
+            Edit::ChangeLine {
                 name,
-                operator: Flavor::Conditional,
+                change: LineChange::SetOperator(Flavor::Conditional),
                 ..
             } => self.add(Use::Default, name, 1),
             Edit::RemoveAssign { name, .. } => self.assign(name, Flavor::Conditional),

@@ -3,8 +3,8 @@
 /// The commands and the requests.
 pub const HELP: &str = "\
 Commands, of each of which `help COMMAND` says more:
-    set append add drop prepend replace subst operator unset assign rename
-    rule unrule depend depend-order undepend
+    set append add drop prepend replace add-before add-after subst operator
+    unset assign rename rule unrule depend depend-order undepend
     recipe recipe-insert recipe-set recipe-del recipe-replace recipe-remove nth all try
     undo redo begin end cancel
 Requests:

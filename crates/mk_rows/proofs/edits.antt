@@ -7,3 +7,7 @@ mod CornerEdits
 mod WordEdits
 mod EveryValue
 mod FurtherEdits
+mod LineOutcomes
+mod LineRuns
+mod EachOutcomes
+mod EachLine

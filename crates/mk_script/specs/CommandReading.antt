@@ -1,7 +1,8 @@
 -- How the fields of a line are read: which command they are, and what the line says.
 -- Told in docs/ARCHITECTURE.md, "From a script to a text".
 use Rattle.std.specs.Prelude.{ℕ, ◌-◌, true, false, List, [], ◌∷◌, length, take, drop, Option, Some, None, option_map, option_and_then}
-use Rattle.mk_edit_language.specs.Edits.{Place, Bottom, BeforeVar, AfterVar, BeforeRule, NewLine, NewAssign, NewRule, Which, One, Every, Set, Append, Add, Remove, Prepend, ReplaceWord, Substitute, SetOperator, AddPrereq, RemovePrereq, ByNumber, ByText, Last, At, OfAssign, OfRule, OfRecipe, Edit, ChangeValue, ChangeLine, ChangePrereqs, AddLine, AddRecipe, SetRecipe, RemoveLines, RenameTarget}
+use Rattle.mk_edit_language.specs.Edits.{Place, Bottom, BeforeVar, AfterVar, BeforeRule, NewLine, NewAssign, NewRule, Which, One, Every, Set, Append, Add, Remove, LineChange, Prepend, ReplaceWord, InsertWord, Substitute, SetOperator, AddPrereq, RemovePrereq, ByNumber, ByText, Last, At, OfAssign, OfRule, OfRecipe, Edit, ChangeValue, ChangeLine, ChangePrereqs, AddLine, AddRecipe, SetRecipe, RemoveLines, RenameTarget}
+use Rattle.mk_edit_language.specs.declared.edit.Side.TheVariants.{Before, After}
 use Rattle.mk_history.specs.Machine.{Command, Apply, Undo, Redo, Begin, End, Cancel}
 use Rattle.mk_script.specs.Lines.{Saying, Plain, Try, Or}
 use Rattle.mk_script.specs.Numbers.{number}
@@ -85,7 +86,23 @@ add_line nth line fields =
 
 -- ---- edits
 
--- an edit of a recipe, by its word and the fields behind it
+-- a change of the line of an assignment, by its word and the fields behind the name
+abbrev pub line_change : Word → Texts → Option LineChange
+line_change word.Prepend fields = option_map Prepend (one fields)
+line_change word.Replace fields = option_map (λ p. ReplaceWord p.0 p.1) (two fields)
+line_change word.AddBefore fields = option_map (λ p. InsertWord Before p.0 p.1) (two fields)
+line_change word.AddAfter fields = option_map (λ p. InsertWord After p.0 p.1) (two fields)
+line_change word.Subst fields = option_map (λ p. Substitute p.0 p.1) (two fields)
+line_change word.Operator fields =
+    option_and_then (λ t. option_map SetOperator (named operators t)) (one fields)
+line_change w fields = None
+
+abbrev pub change_line : (nth : Option ℕ) → Word → Texts → Option Edit
+change_line nth w fields =
+    option_and_then (λ p. option_map (λ c. ChangeLine nth p.0 c) (line_change w p.1))
+    (front fields)
+
+-- an edit of a recipe, by its word and the fields behind it; by another word a change of a line
 abbrev pub recipe_edit : (nth : Option ℕ) → Word → Texts → Option Edit
 recipe_edit nth word.Recipe fields = option_map (λ p. AddRecipe nth p.0 Last p.1) (two fields)
 recipe_edit nth word.RecipeInsert fields =
@@ -99,24 +116,10 @@ recipe_edit nth word.RecipeReplace fields =
     option_map (λ p. SetRecipe nth p.0 (ByText p.1) p.2) (three fields)
 recipe_edit nth word.RecipeRemove fields =
     option_map (λ p. RemoveLines (OfRecipe nth p.0 (ByText p.1))) (two fields)
-recipe_edit nth w fields = None
-
--- an assignment with another operator
-abbrev pub operator_edit : (nth : Option ℕ) → Texts → Option Edit
-operator_edit nth fields =
-    option_and_then
-    (λ p. option_map (λ flavor. ChangeLine nth p.0 (SetOperator flavor)) (named operators p.1))
-    (two fields)
+recipe_edit nth w fields = change_line nth w fields
 
 -- an edit before which a number may stand; none stands before a rename
 abbrev pub line_edit : (nth : Option ℕ) → Word → Texts → Option Edit
-line_edit nth word.Prepend fields =
-    option_map (λ p. ChangeLine nth p.0 (Prepend p.1)) (two fields)
-line_edit nth word.Replace fields =
-    option_map (λ p. ChangeLine nth p.0 (ReplaceWord p.1 p.2)) (three fields)
-line_edit nth word.Subst fields =
-    option_map (λ p. ChangeLine nth p.0 (Substitute p.1 p.2)) (three fields)
-line_edit nth word.Operator fields = operator_edit nth fields
 line_edit nth word.Unset fields = option_map (λ name. RemoveLines (OfAssign nth name)) (one fields)
 line_edit nth word.Assign fields = add_line nth new_assign fields
 line_edit nth word.Rule fields = add_line nth new_rule fields

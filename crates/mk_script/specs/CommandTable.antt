@@ -2,7 +2,8 @@
 -- Told in docs/EDITS.md, "The script".
 use Rattle.std.specs.Prelude.{◌≡◌, ℕ, Bool, true, false, List, [], ◌∷◌, ◌++◌, map, Option, Some, None, codes}
 use Rattle.mk_class.specs.OperatorTexts.{operator_text}
-use Rattle.mk_edit_language.specs.Edits.{Place, Bottom, BeforeVar, AfterVar, BeforeRule, NewAssign, NewRule, One, Every, ValueChange, Set, Append, Add, Remove, LineChange, Prepend, ReplaceWord, Substitute, SetOperator, AddPrereq, RemovePrereq, ByNumber, ByText, Last, At, OfAssign, OfRule, OfRecipe, Edit, ChangeValue, ChangeLine, ChangePrereqs, AddLine, AddRecipe, SetRecipe, RemoveLines, RenameTarget}
+use Rattle.mk_edit_language.specs.Edits.{Place, Bottom, BeforeVar, AfterVar, BeforeRule, NewAssign, NewRule, One, Every, ValueChange, Set, Append, Add, Remove, LineChange, Prepend, ReplaceWord, InsertWord, Substitute, SetOperator, AddPrereq, RemovePrereq, ByNumber, ByText, Last, At, OfAssign, OfRule, OfRecipe, Edit, ChangeValue, ChangeLine, ChangePrereqs, AddLine, AddRecipe, SetRecipe, RemoveLines, RenameTarget}
+use Rattle.mk_edit_language.specs.declared.edit.Side.TheVariants.{Before, After}
 use Rattle.mk_edit_language.specs.NewLines.{rule_separator_text}
 use Rattle.mk_history.specs.Machine.{Command, Apply, Undo, Redo, Begin, End, Cancel}
 use Rattle.mk_script.specs.Numbers.{number}
@@ -52,6 +53,10 @@ change_words name (Remove word) = codes "drop" ∷ name ∷ word ∷ []
 abbrev pub line_change_words : (name : List ℕ) → LineChange → List (List ℕ)
 line_change_words name (Prepend value) = codes "prepend" ∷ name ∷ value ∷ []
 line_change_words name (ReplaceWord word value) = codes "replace" ∷ name ∷ word ∷ value ∷ []
+line_change_words name (InsertWord Before word new) =
+    codes "add-before" ∷ name ∷ word ∷ new ∷ []
+line_change_words name (InsertWord After word new) =
+    codes "add-after" ∷ name ∷ word ∷ new ∷ []
 line_change_words name (Substitute from to) = codes "subst" ∷ name ∷ from ∷ to ∷ []
 line_change_words name (SetOperator flavor) =
     codes "operator" ∷ name ∷ operator_text flavor ∷ []

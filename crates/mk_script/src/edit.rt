@@ -4,9 +4,9 @@
 //! once each: memory is asked for only if there is an edit.
 ghost use Rattle.std.specs.Prelude.{◌≡◌, option_map};
 ghost use Rattle.mk_edit_language.specs.Edits as edits;
-ghost use Rattle.mk_edit_language.specs.EditViews.{edit_of, place_of, value_change_of};
+ghost use Rattle.mk_edit_language.specs.EditViews.{edit_of, line_change_of, place_of, value_change_of};
 ghost use Rattle.mk_script.specs.SeenFields.{field_texts};
-ghost use Rattle.mk_script.specs.CommandReading.{add_line, before_three, edit_with, last_three, line_edit, new_assign, new_rule, numbered, operator_edit, place_in, recipe_edit, three, two};
+ghost use Rattle.mk_script.specs.CommandReading.{add_line, before_three, change_line, edit_with, last_three, line_change, line_edit, new_assign, new_rule, numbered, place_in, recipe_edit, three, two};
 ghost use Rattle.mk_script.specs.ReaderAnswers.{IsRead, copied_numbered, copied_three, copied_two, which_of};
 
 use crate::fault::LineFault;
@@ -15,7 +15,7 @@ use crate::fields::{front, one, three, two};
 use crate::number::number_of;
 use crate::table::Word;
 use crate::word::{PlaceWord, flavor, place_word, rule_separator};
-use mk_edit_language::{Edit, Place, ValueChange};
+use mk_edit_language::{Edit, LineChange, Place, Side, ValueChange};
 use std::alloc::Allocator;
 
 /// Which assignments an edit of a value means.
@@ -179,29 +179,6 @@ fn make_line_edit<A: Allocator + Copy>(
     ensures { IsRead edit_of (line_edit nth word (field_texts fields.now)) result }
 {
     match word {
-        Word::Prepend => {
-            let (name, value) = two_copied(alloc, fields)?;
-            Ok(Edit::PrependValue { nth, name, value })
-        }
-        Word::Replace => {
-            let (name, word, value) = three_copied(alloc, fields)?;
-            Ok(Edit::ReplaceWord {
-                nth,
-                name,
-                word,
-                value,
-            })
-        }
-        Word::Subst => {
-            let (name, from, to) = three_copied(alloc, fields)?;
-            Ok(Edit::SubstituteValue {
-                nth,
-                name,
-                from,
-                to,
-            })
-        }
-        Word::Operator => make_operator(alloc, nth, fields),
         Word::Unset => {
             let name = one(fields)?.to_vec(alloc)?;
             Ok(Edit::RemoveAssign { nth, name })
@@ -227,26 +204,6 @@ fn make_line_edit<A: Allocator + Copy>(
         }
         _ => make_recipe_edit(alloc, nth, word, fields),
     }
-}
-
-// `operator NAME OP`.
-fn make_operator<A: Allocator + Copy>(
-    alloc: A,
-    nth: Option<u32>,
-    fields: &[Field<'_>],
-) -> Result<Edit<A>, LineFault>
-    ensures { IsRead edit_of (operator_edit nth (field_texts fields.now)) result }
-{
-    let (name, operator) = two(fields)?;
-    let Some(operator) = flavor(operator) else {
-        return Err(LineFault::NotACommand);
-    };
-    let name = name.to_vec(alloc)?;
-    Ok(Edit::SetOperator {
-        nth,
-        name,
-        operator,
-    })
 }
 
 // `assign PLACE NAME OP VALUE`.
@@ -318,7 +275,7 @@ fn make_depend<A: Allocator + Copy>(
     })
 }
 
-// An edit of a recipe.
+// An edit of a recipe; by another word a change of a line.
 #[tactic(auto, using(crate::proofs::on_commands::TableLemmas::is_some_mapped))]
 fn make_recipe_edit<A: Allocator + Copy>(
     alloc: A,
@@ -374,6 +331,61 @@ fn make_recipe_edit<A: Allocator + Copy>(
             let (target, old) = two_copied(alloc, fields)?;
             Ok(Edit::RemoveRecipeByText { nth, target, old })
         }
+        _ => make_change_line(alloc, nth, word, fields),
+    }
+}
+
+// A change of the line of an assignment.
+fn make_change_line<A: Allocator + Copy>(
+    alloc: A,
+    nth: Option<u32>,
+    word: Word,
+    fields: &[Field<'_>],
+) -> Result<Edit<A>, LineFault>
+    ensures { IsRead edit_of (change_line nth word (field_texts fields.now)) result }
+{
+    let (name, others) = front(fields)?;
+    let change = make_line_change(alloc, word, others)?;
+    let name = name.to_vec(alloc)?;
+    Ok(Edit::ChangeLine { nth, name, change })
+}
+
+// What is done to the line, by the fields behind the name.
+#[tactic(auto, using(crate::proofs::on_commands::TableLemmas::is_some_mapped))]
+fn make_line_change<A: Allocator + Copy>(
+    alloc: A,
+    word: Word,
+    fields: &[Field<'_>],
+) -> Result<LineChange<A>, LineFault>
+    ensures { IsRead line_change_of (line_change word (field_texts fields.now)) result }
+{
+    match word {
+        Word::Prepend => {
+            let value = one(fields)?.to_vec(alloc)?;
+            Ok(LineChange::Prepend(value))
+        }
+        Word::Replace => {
+            let (word, value) = two_copied(alloc, fields)?;
+            Ok(LineChange::ReplaceWord { word, value })
+        }
+        Word::AddBefore => {
+            let (word, new) = two_copied(alloc, fields)?;
+            let side = Side::Before;
+            Ok(LineChange::InsertWord { side, word, new })
+        }
+        Word::AddAfter => {
+            let (word, new) = two_copied(alloc, fields)?;
+            let side = Side::After;
+            Ok(LineChange::InsertWord { side, word, new })
+        }
+        Word::Subst => {
+            let (from, to) = two_copied(alloc, fields)?;
+            Ok(LineChange::Substitute { from, to })
+        }
+        Word::Operator => match flavor(one(fields)?) {
+            Some(flavor) => Ok(LineChange::SetOperator(flavor)),
+            None => Err(LineFault::NotACommand),
+        },
         _ => Err(LineFault::NotACommand),
     }
 }

@@ -36,6 +36,8 @@ pub(crate) enum Word {
     Drop,
     Prepend,
     Replace,
+    AddBefore,
+    AddAfter,
     Subst,
     Operator,
     Unset,
@@ -83,13 +85,15 @@ impl CommandForm {
 pub(crate) type Row = (&'static str, CommandKind, Word);
 
 /// All commands of a script, and the words that may stand before one.
-pub(crate) const COMMANDS: [(&str, CommandKind, Word); 31] = [
+pub(crate) const COMMANDS: [(&str, CommandKind, Word); 33] = [
     ("set NAME VALUE", ValueEdit, Word::Set),
     ("append NAME VALUE", ValueEdit, Word::Append),
     ("add NAME WORD", ValueEdit, Word::Add),
     ("drop NAME WORD", ValueEdit, Word::Drop),
     ("prepend NAME VALUE", NumberedEdit, Word::Prepend),
     ("replace NAME WORD VALUE", NumberedEdit, Word::Replace),
+    ("add-before NAME WORD NEW", NumberedEdit, Word::AddBefore),
+    ("add-after NAME WORD NEW", NumberedEdit, Word::AddAfter),
     ("subst NAME FROM TO", NumberedEdit, Word::Subst),
     ("operator NAME OP", NumberedEdit, Word::Operator),
     ("unset NAME", NumberedEdit, Word::Unset),

@@ -6,16 +6,16 @@ ghost use Rattle.std.specs.Prelude.{◌≡◌, ◌++◌, ◌∷◌, [], Err, tru
 ghost use Rattle.std.specs.List.{list_any};
 ghost use Rattle.mk_lines.specs.Spacing.{each_after_space};
 ghost use Rattle.mk_class.specs.OperatorTexts.{operator_text};
-ghost use Rattle.mk_edit_language.specs.EditViews.{edit_of, place_of, value_change_of};
+ghost use Rattle.mk_edit_language.specs.EditViews.{edit_of, line_change_of, place_of, value_change_of};
 ghost use Rattle.mk_edit_language.specs.NewLines.{rule_separator_text};
 ghost use Rattle.mk_history.specs.Machine.{Apply};
-ghost use Rattle.mk_script.specs.CommandTable.{Number, Text, after_nth, change_words, command_fields, depend_word, nth_of_place, place_words, texts};
+ghost use Rattle.mk_script.specs.CommandTable.{Number, Text, after_nth, change_words, command_fields, depend_word, line_change_words, nth_of_place, place_words, texts};
 ghost use Rattle.mk_script.specs.Fields.{escaped, quoted};
 ghost use Rattle.mk_script.specs.WrittenEdits.{SaysOnly, fields_of, has_line_feed, is_plain, is_quoted_byte, line_with, written};
 ghost use Rattle.mk_script.specs.WrittenLines.{IsCommandText, fields_in, is_of_recipe};
 
 use mk_class::Flavor;
-use mk_edit_language::{Edit, Place, RuleSeparator, ValueChange};
+use mk_edit_language::{Edit, LineChange, Place, RuleSeparator, Side, ValueChange};
 use std::alloc::{AllocError, Allocator};
 use thiserror::Error;
 
@@ -85,24 +85,7 @@ fn command_text<A: Allocator + Copy, B: Allocator>(
         Edit::AddWord { nth, name, word } => said(alloc, *nth, b"add", &[name, word]),
         Edit::RemoveWord { nth, name, word } => said(alloc, *nth, b"drop", &[name, word]),
         Edit::ChangeValues { name, change } => change_text(alloc, name, change),
-        Edit::PrependValue { nth, name, value } => said(alloc, *nth, b"prepend", &[name, value]),
-        Edit::ReplaceWord {
-            nth,
-            name,
-            word,
-            value,
-        } => said(alloc, *nth, b"replace", &[name, word, value]),
-        Edit::SubstituteValue {
-            nth,
-            name,
-            from,
-            to,
-        } => said(alloc, *nth, b"subst", &[name, from, to]),
-        Edit::SetOperator {
-            nth,
-            name,
-            operator: flavor,
-        } => said(alloc, *nth, b"operator", &[name, operator(*flavor)]),
+        Edit::ChangeLine { nth, name, change } => line_change_text(alloc, *nth, name, change),
         Edit::AddAssign {
             place,
             name,
@@ -150,6 +133,38 @@ fn change_text<A: Allocator + Copy, B: Allocator>(
         ValueChange::Append(value) => said(alloc, None, b"all", &[b"append", name, value]),
         ValueChange::Add(word) => said(alloc, None, b"all", &[b"add", name, word]),
         ValueChange::Remove(word) => said(alloc, None, b"all", &[b"drop", name, word]),
+    }
+}
+
+// The command of a change of the line of an assignment.
+fn line_change_text<A: Allocator + Copy, B: Allocator>(
+    alloc: A,
+    nth: Option<u32>,
+    name: &[u8],
+    change: &LineChange<B>,
+) -> Result<Vec<u8, A>, AllocError>
+    ensures { IfOk result (λ text. IsCommandText (after_nth nth
+        (texts (line_change_words name.now (line_change_of change.now)))) text.items) }
+{
+    match change {
+        LineChange::Prepend(value) => said(alloc, nth, b"prepend", &[name, value]),
+        LineChange::ReplaceWord { word, value } => {
+            said(alloc, nth, b"replace", &[name, word, value])
+        }
+        LineChange::InsertWord {
+            side: Side::Before,
+            word,
+            new,
+        } => said(alloc, nth, b"add-before", &[name, word, new]),
+        LineChange::InsertWord {
+            side: Side::After,
+            word,
+            new,
+        } => said(alloc, nth, b"add-after", &[name, word, new]),
+        LineChange::Substitute { from, to } => said(alloc, nth, b"subst", &[name, from, to]),
+        LineChange::SetOperator(flavor) => {
+            said(alloc, nth, b"operator", &[name, operator(*flavor)])
+        }
     }
 }
 

@@ -1,14 +1,17 @@
--- What a session does to a makefile, said of its bytes and its lines alone: which lines an edit that
--- is accepted changes, puts in or takes out; that a call that is not done changes nothing; and where
--- undoing leads. To read it one needs no definition of classes, causes or spans.
+-- What a session does to a makefile, said of its bytes and its lines alone: which lines an edit
+-- that is accepted changes, puts in or takes out; that a call that is not done changes nothing; and
+-- where undoing leads. To read it one needs no definition of classes, causes or spans.
 -- Told in docs/BELIEVED.md.
-use Rattle.std.specs.Prelude.{◌≡◌, ◌⊎◌, ℕ, ◌<◌, ◌≤◌, ◌==◌, ◌&&◌, not, nat_lt, Bool, true, false, List, [], ◌∷◌, ◌++◌, length, map, filter, codes, Some, None, All, Contains}
-use Rattle.std.specs.List.{list_any, AllZip, Any}
+use Rattle.std.specs.Prelude.{◌≡◌, ◌⊎◌, ℕ, ◌<◌, ◌≤◌, Bool, true, false, List, [], ◌∷◌, ◌++◌, length, map, filter, take, codes, Some, None, All, Contains}
+use Rattle.std.specs.List.{AllZip, Any, join_by}
 use Rattle.mk_lines.specs.PhysicalLines.{without_line_end}
 use Rattle.mk_lines.specs.LogicalLines.{logical_lines}
+use Rattle.mk_class.specs.OperatorTexts.{operator_text}
 use Rattle.mk_history.specs.Shown.{Shown, shown_opened, shown_edited, shown_ended}
+use Rattle.mk_edit_language.specs.declared.edit.LineChange.{LineChange}
+use Rattle.mk_edit_language.specs.declared.edit.LineChange.TheVariants.{Prepend, ReplaceWord, InsertWord, Substitute, SetOperator}
 use Rattle.mk_edit_language.specs.declared.edit.Edit.{Edit}
-use Rattle.mk_edit_language.specs.declared.edit.Edit.TheVariants.{SetValue, AppendValue, AddWord, RemoveWord, PrependValue, ReplaceWord, SubstituteValue, SetOperator, ChangeValues, AddAssign, RemoveAssign, AddRule, RemoveRule, AddPrereq, RemovePrereq, AddRecipe, SetRecipe, RemoveRecipe, InsertRecipe, SetRecipeByText, RemoveRecipeByText, RenameTarget}
+use Rattle.mk_edit_language.specs.declared.edit.Edit.TheVariants.{SetValue, AppendValue, AddWord, RemoveWord, ChangeValues, ChangeLine, AddAssign, RemoveAssign, AddRule, RemoveRule, AddPrereq, RemovePrereq, AddRecipe, SetRecipe, RemoveRecipe, InsertRecipe, SetRecipeByText, RemoveRecipeByText, RenameTarget}
 use Rattle.mk_edit_language.specs.declared.command.Command.{Command}
 use Rattle.mk_edit_language.specs.declared.command.Command.TheVariants.{Apply, Undo, Redo, Begin, End, Cancel}
 
@@ -16,20 +19,15 @@ use Rattle.mk_edit_language.specs.declared.command.Command.TheVariants.{Apply, U
 
 -- a text stands somewhere in another
 abbrev pub Has : (part whole : List ℕ) → Type 0
-Has p t = (a : List ℕ) × (b : List ℕ) × (t ≡ a ++ (p ++ b))
+Has p t = (a b : List ℕ) × (t ≡ a ++ (p ++ b))
 
--- a text is empty, or ends in a blank or a line end
-abbrev pub EndsBlank : List ℕ → Type 0
-EndsBlank t = (t ≡ []) ⊎ ((a : List ℕ) × (b : ℕ) × (t ≡ a ++ b ∷ []) × (b < 33))
-
--- A line names a word: the line begins with it, or has a blank before it; behind it comes a tab, a
--- backslash, a blank or one of `!&+:=?`; and somewhere behind it comes a sign, the `=` of an
--- assignment or the `:` of a rule. Nothing is said of a word with a blank in it, such as `$(a b)`,
--- which a line may fold there.
+-- A line names a word: directly before the word comes a blank or a line end, which may be that of
+-- the line above; behind it comes a tab, a backslash, a blank or one of `!&+:=?`; and somewhere
+-- behind it comes a sign, the `=` of an assignment or the `:` of a rule. Nothing is said of a word
+-- with a blank in it, such as `$(a b)`, which a line may fold there.
 abbrev pub Names : (word : List ℕ) → (sign : ℕ) → (line : List ℕ) → Type 0
-Names w s l = list_any (λ b. nat_lt b 33) w ≡ false
-    → (a : List ℕ) × (x : ℕ) × (b : List ℕ) × (l ≡ a ++ (w ++ x ∷ b))
-    × EndsBlank a × Contains (9 ∷ 92 ∷ codes " !&+:=?") x × Has (s ∷ []) (x ∷ b)
+Names w s l = All (λ b. 32 < b) w → (a b : List ℕ) × (y x : ℕ) × (10 ∷ l ≡ a ++ y ∷ (w ++ x ∷ b))
+    × (y < 33) × Contains (9 ∷ 92 ∷ codes " !&+:=?") x × Has (s ∷ []) (x ∷ b)
 
 -- ---- lines at a place, below those above them
 
@@ -39,13 +37,7 @@ Lines = List (List ℕ)
 
 -- a recipe line: it begins with a tab, or with another byte if a line above sets `.RECIPEPREFIX`
 abbrev pub IsRecipe : (above : Lines) → (line : List ℕ) → Type 0
-IsRecipe up l =
-    (p : ℕ) × (c : List ℕ) × (l ≡ p ∷ c) × ((p ≡ 9) ⊎ Any (Has (codes ".RECIPEPREFIX")) up)
-
--- a line of a rule's recipe: a recipe line, a line with a comment, or a blank line
-abbrev pub IsOfRecipe : (above : Lines) → (line : List ℕ) → Type 0
-IsOfRecipe up l = IsRecipe up l ⊎ (Has (35 ∷ []) l
-    ⊎ (list_any (λ b. nat_lt 32 b && not (b == 92)) l ≡ false))
+IsRecipe up l = (take 1 l ≡ 9 ∷ []) ⊎ ((0 < length l) × Any (Has (codes ".RECIPEPREFIX")) up)
 
 -- one line with a word before a sign, and with a text
 abbrev pub Line : (word : List ℕ) → (sign : ℕ) → (text : List ℕ) → (above lines : Lines) → Type 0
@@ -55,28 +47,33 @@ Line w s t up ls = (l : List ℕ) × (ls ≡ l ∷ []) × Names w s l × Has t l
 abbrev pub Recipe : (target text : List ℕ) → (above lines : Lines) → Type 0
 Recipe g t up ls = (l : List ℕ) × (ls ≡ l ∷ []) × IsRecipe up l × Has t l × Any (Names g 58) up
 
--- the line of a rule for the target, and the lines of its recipe
+-- the line of a rule for the target, and below it recipe lines, lines with a comment, and lines of
+-- blanks and backslashes
 abbrev pub Rule : (target : List ℕ) → (above lines : Lines) → Type 0
-Rule g up ls = (l : List ℕ) × (rs : Lines) × (ls ≡ l ∷ rs) × Names g 58 l × All (IsOfRecipe up) rs
+Rule g up ls = (l : List ℕ) × (rs : Lines) × (ls ≡ l ∷ rs) × Names g 58 l
+    × All (λ r. IsRecipe up r ⊎ (Has (35 ∷ []) r ⊎ All (λ b. (b < 33) ⊎ (b ≡ 92)) r)) rs
 
 -- ---- an edit
 
--- Lines at one place, or no line, become others. All lines above and below stay. A last line that has no line end
--- gets one, where a new line comes behind it.
+-- Lines at one place, or no line, become others. All lines above and below stay. A last line that
+-- has no line end gets one, where a new line comes behind it: `top` are the lines above then.
 abbrev pub Become : (Old New : (above lines : Lines) → Type 0) → (before after : Lines) → Type 0
-Become Old New ls ms = (up : Lines) × (old : Lines) × (new : Lines) × (down : Lines) × (ended : Lines)
-    × (ls ≡ up ++ (old ++ down)) × Old up old × (ms ≡ ended ++ (new ++ down)) × New up new
-    × AllZip (λ l m. (m ≡ l) ⊎ (without_line_end m ≡ l)) up ended
+Become P Q ls ms = (up old new down top : Lines) × (ls ≡ up ++ (old ++ down)) × P up old × Q up new
+    × (ms ≡ top ++ (new ++ down)) × AllZip (λ l m. (m ≡ l) ⊎ (without_line_end m ≡ l)) up top
 
--- parts of a line, each with a word behind it
-abbrev pub joined : (word : List ℕ) → (parts : List (List ℕ)) → List ℕ
-joined w [] = []
-joined w (p ∷ ps) = p ++ (w ++ joined w ps)
-
--- a line with a word in the place of another one, wherever that stood or at some of these places
+-- a line with a word in the place of another one, wherever that stood or at some of these places:
+-- the same parts, with the one word or the other between each two
 abbrev pub Renames : (word other : List ℕ) → (old new : List ℕ) → Type 0
-Renames w v l m = list_any (λ b. nat_lt b 33) w ≡ false
-    → (ps : List (List ℕ)) × (rest : List ℕ) × (l ≡ joined w ps ++ rest) × (m ≡ joined v ps ++ rest)
+Renames w v l m = All (λ b. 32 < b) w
+    → (ps : List (List ℕ)) × (l ≡ join_by (λ p. p) w ps) × (m ≡ join_by (λ p. p) v ps)
+
+-- the text that a change puts into the line of an assignment
+abbrev put_in : {A : _} → LineChange A → List ℕ
+put_in (Prepend v) = v.items
+put_in (ReplaceWord w v) = v.items
+put_in (InsertWord s w n) = n.items
+put_in (Substitute f t) = t.items
+put_in (SetOperator f) = operator_text f
 
 -- what an edit that is accepted does to the lines of a makefile
 abbrev pub Does : {A : _} → Edit A → (before after : Lines) → Type 0
@@ -84,10 +81,7 @@ Does (SetValue k n v) = Become (Line n.items 61 []) (Line n.items 61 v.items)
 Does (AppendValue k n v) = Become (Line n.items 61 []) (Line n.items 61 v.items)
 Does (AddWord k n w) = Become (Line n.items 61 []) (Line n.items 61 w.items)
 Does (RemoveWord k n w) = Become (Line n.items 61 []) (Line n.items 61 [])
-Does (PrependValue k n v) = Become (Line n.items 61 []) (Line n.items 61 v.items)
-Does (ReplaceWord k n w v) = Become (Line n.items 61 []) (Line n.items 61 v.items)
-Does (SubstituteValue k n f t) = Become (Line n.items 61 []) (Line n.items 61 t.items)
-Does (SetOperator k n f) = Become (Line n.items 61 []) (Line n.items 61 [])
+Does (ChangeLine k n c) = Become (Line n.items 61 []) (Line n.items 61 (put_in c))
 Does (ChangeValues n c) = AllZip (λ l m. (m ≡ l) ⊎ (Names n.items 61 l × Names n.items 61 m))
 Does (AddAssign p n f v) = Become (λ up ls. ls ≡ []) (Line n.items 61 v.items)
 Does (RemoveAssign k n) = Become (Line n.items 61 []) (λ up ls. ls ≡ [])
@@ -105,18 +99,16 @@ Does (RenameTarget o n) = AllZip (Renames o.items n.items)
 
 -- ---- the calls of a session
 
--- one step back: to the nearest of the texts that undoing leads back through
-abbrev pub IsBack : (before after : Shown (List ℕ)) → Type 0
-IsBack s t = (s.back ≡ t.text ∷ t.back)
-    × (t ≡ record s { text = t.text; back = t.back; forward = s.text ∷ s.forward })
-
--- A call, which is done or not. One that is not done changes nothing. An undo outside a group is not
--- done only if nothing can be undone.
+-- A call, which is done or not. One that is not done changes nothing. An undo goes to the nearest
+-- of the texts that undoing leads back through, and a redo to the nearest of those that redoing
+-- leads through. An undo outside a group is not done only if nothing can be undone.
 abbrev pub IsCall : {A : _} → Command A → (done : Bool) → (before after : Shown (List ℕ)) → Type 0
 IsCall (Apply e) true s t =
     Does e (logical_lines s.text) (logical_lines t.text) × (t ≡ shown_edited t.text s)
-IsCall Undo true s t = (s.begun ≡ None) × IsBack s t
-IsCall Redo true s t = (s.begun ≡ None) × IsBack t s
+IsCall Undo true s t = (s.begun ≡ None) × (s.back ≡ t.text ∷ t.back)
+    × (t ≡ record s { text = t.text; back = t.back; forward = s.text ∷ s.forward })
+IsCall Redo true s t = (s.begun ≡ None) × (s.forward ≡ t.text ∷ t.forward)
+    × (t ≡ record s { text = t.text; back = s.text ∷ s.back; forward = t.forward })
 IsCall Begin true s t = (s.begun ≡ None) × (t ≡ record s { begun = Some s.text; pending = 0 })
 IsCall End true s t = (b : List ℕ) × (s.begun ≡ Some b) × (t ≡ shown_ended b s.pending s)
 IsCall Cancel true s t =
@@ -129,8 +121,8 @@ abbrev pub AreCalls : {A : _} → List (Command A × Bool) → (before after : S
 AreCalls [] s u = u ≡ s
 AreCalls ((c, done) ∷ cs) s u = (t : Shown (List ℕ)) × IsCall c done s t × AreCalls cs t u
 
--- After calls of which no more are done than the depth, outside a group: as many undos, of which some
--- may be refused, give back the first bytes.
+-- After calls of which no more are done than the depth, outside a group: as many undos, of which
+-- some may be refused, give back the first bytes.
 abbrev pub AreTakenBack : {A : _} → (depth : ℕ) → (text : List ℕ) → List (Command A × Bool) → Type 0
 AreTakenBack {A} depth text calls = (s t : Shown (List ℕ)) (dones : List Bool)
     → AreCalls calls (shown_opened depth text) s → s.begun ≡ None

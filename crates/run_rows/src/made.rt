@@ -53,6 +53,8 @@ fn edit_at(heap: &Heap, number: u64) -> Result<Edit<&Heap>, AllocError> {
         29 => Edit::replace_word(heap, b"A", b"b", b"c"),
         30 => Edit::substitute(heap, b"A", b"b", b"c"),
         31 => Edit::operator(heap, b"A", Flavor::Simple),
+        32 => Edit::add_before(heap, b"A", b"b", b"c"),
+        33 => Edit::add_after(heap, b"A", b"b", b"c"),
         place => place_at(heap, place)?.assign(heap, b"A", Flavor::Simple, b"b"),
     }
 }
@@ -112,6 +114,8 @@ fn apply_at(session: &mut Session<&Heap>, number: u64) -> Result<(), Refusal> {
         23 => session.replace_word(b"A", b"b", b"c"),
         24 => session.substitute(b"A", b"b", b"c"),
         25 => session.operator(b"A", Flavor::Simple),
+        26 => session.add_before(b"A", b"b", b"c"),
+        27 => session.add_after(b"A", b"b", b"c"),
         _ => session.rule(Place::Bottom, b"A", RuleSeparator::Single, b"b"),
     }
 }

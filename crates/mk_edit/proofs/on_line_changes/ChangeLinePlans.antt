@@ -1,7 +1,7 @@
 -- A change of an assignment's line that is checked by reading: its causes, by what the code finds in the line, and its plan.
 use Rattle.std.proofs.Common.{◌≡◌, refl, sym, ap, ◌∙◌, subst, arith, ℕ, zero, suc, ◌+◌, ◌*◌, ◌<◌, ◌≤◌, Bool, true, false, not, ◌&&◌, List, [], ◌∷◌, length, Option, Some, None, option_map, inl, inr}
 use Rattle.std.specs.List.{list_any}
-use Rattle.std.specs.Prelude.{◌==◌, nat_lt, ◌⊎◌, slice_get, Ok, Err, Result, IfOk, OnOk, IsErrAnd, IsOkUnless}
+use Rattle.std.specs.Prelude.{◌==◌, nat_lt, ◌⊎◌, if◌then◌else◌, slice_get, Ok, Err, Result, IfOk, OnOk, IsErrAnd, IsOkUnless}
 use Rattle.std.proofs.lemmas.Bool.{and_parts}
 use Rattle.std.proofs.lemmas.Grind.{common_steps}
 use Rattle.std.proofs.lemmas.List.{append-nil, length-map}
@@ -10,7 +10,7 @@ use Rattle.mk_lines.specs.LogicalLines.{logical_lines}
 use Rattle.mk_lines.proofs.on_lines.LineLemmas.{concat-logical_lines}
 use Rattle.mk_lines.specs.Limits.{max_text}
 use Rattle.mk_lines.specs.Cells.{Cell, joined_byte, line_cells}
-use Rattle.mk_lines.specs.Pieces.{replaced, replacements}
+use Rattle.mk_lines.specs.Pieces.{replaced}
 use Rattle.mk_lines.specs.declared.split.Span.{Span}
 use Rattle.mk_lines.specs.Ranges.{raw_range}
 use Rattle.mk_class.specs.Arguments.{is_clean, is_name}
@@ -33,14 +33,14 @@ use Rattle.mk_tree.proofs.on_changes.Sizes.{size_of-text}
 use Rattle.mk_edit_language.specs.Addresses.{Variable}
 use Rattle.mk_edit_language.specs.ArgumentCauses.{Tested, line_change_tests, bad_argument}
 use Rattle.mk_edit_language.specs.Causes.{where_holds}
-use Rattle.mk_edit_language.specs.Edits.{LineChange, Prepend, ReplaceWord, Substitute, SetOperator, Edit, ChangeLine}
+use Rattle.mk_edit_language.specs.Edits.{LineChange, Prepend, ReplaceWord, InsertWord, Substitute, SetOperator, Edit, ChangeLine}
 use Rattle.mk_edit_language.specs.EditSpans.{spans_of, where_found}
 use Rattle.mk_edit_language.specs.KeptLines.{respanned_bytes}
 use Rattle.mk_edit_language.specs.Lengths.{bytes_taken, bytes_put}
 use Rattle.mk_edit_language.specs.LineCauses.{misread, is_found_misread, too_long}
 use Rattle.mk_edit_language.specs.LineChanges.{line_pieces, line_change_spans, is_line_changed, line_after, value_after, flavor_after, assigned_after, is_one, fits_line, reads_as, is_misread}
 use Rattle.mk_edit_language.specs.Refusals.{causes, first_cause, spans}
-use Rattle.mk_edit_language.specs.RuleCauses.{absent, class_found}
+use Rattle.mk_edit_language.specs.RuleCauses.{absent, already, class_found, not_inserted}
 use Rattle.mk_edit_language.specs.Stretches.{this_line}
 use Rattle.mk_edit_language.specs.ValueChanges.{assignment_passes, assignment_spans, value_spans}
 use Rattle.mk_edit_language.specs.WordPieces.{is_replaced}
@@ -51,12 +51,12 @@ use Rattle.mk_edit_language.proofs.on_edits.Accepted.{where_holds-none, first-pa
 use Rattle.mk_edit_language.proofs.on_values.FoundAssignments.{assignment-found}
 use Rattle.mk_edit_language.proofs.on_values.SetValueLemmas.{not_prefix}
 use Rattle.mk_edit_parts.specs.Found.{IsAddressed, IsFoundAt, IsPlaceOf}
-use Rattle.mk_edit_parts.specs.LineChangePlaces.{change_places, new_text, raw_ranges}
+use Rattle.mk_edit_parts.specs.LineChangePlaces.{change_places, new_text, raw_ranges, separator_bytes, separator_place}
 use Rattle.mk_edit_parts.specs.RenamedRanges.{bytes_in}
 use Rattle.mk_edit_parts.specs.SeenAssignments.{IsAssignmentAt}
 use Rattle.mk_edit_parts.specs.declared.seek.Found.{Found}
 use Rattle.mk_edit_parts.proofs.CauseLemmas.{refused, unrefused}
-use Rattle.mk_edit.specs.LineChangePlans.{IsLineChange, IsAssignmentIn, IsAssigning, IsMadeOf, IsSought, Reads, first_of_places, with_parts}
+use Rattle.mk_edit.specs.LineChangePlans.{IsLineChange, IsAssignmentIn, IsAssigning, IsMadeOf, IsSought, Reads, first_of_words, not_inserted_in, with_parts}
 use Rattle.mk_patch.specs.Moves.{Move, Exchange}
 use Rattle.mk_tree.specs.Counting.{AreCounted}
 use Rattle.mk_edit.specs.PlannedMoves.{replacing_moves}
@@ -66,12 +66,12 @@ use Rattle.mk_edit.specs.ValueChangeLines.{value_text_located}
 use Rattle.mk_edit.proofs.on_plans.CausePlans.{AreBalanced, addressed-all, first-before, long-by}
 use Rattle.mk_edit.proofs.on_plans.LinePlans.{IsReplaced, line-replaced}
 use Rattle.mk_edit.proofs.on_renaming.CausesOfRenameTarget.{after-cause}
-use Rattle.mk_edit.proofs.on_renaming.LinesRenamed.{apart-bytes, replaced-some, replacing-number}
+use Rattle.mk_edit.proofs.on_renaming.LinesRenamed.{apart-bytes, replaced-some}
 use Rattle.mk_edit.proofs.on_renaming.SizesOfTexts.{put-moved, taken-moved}
 use Rattle.mk_edit.proofs.on_renaming.SizesOfWords.{put-replacing, taken-replacing}
 use Rattle.mk_edit_language.proofs.on_edits.MadeEdits.{line_change-by_itself}
 use Rattle.mk_edit.proofs.on_values.ValuePlaces.{IsValuePlace, IsVariablePlace, value-place, variable-place}
-use Rattle.mk_edit.proofs.on_line_changes.LinesMade.{CanMake, can-make}
+use Rattle.mk_edit.proofs.on_line_changes.LinesMade.{HasPlaces, IsWritten, has-places, is-written, words-told}
 
 -- ---- the sizes of replacements
 
@@ -85,16 +85,23 @@ none-there (suc k) b h = ap not (sym h) ∙ more
 
 -- ---- the causes
 
--- two causes and a third
-third : (o p q : Option Refusal) → first_cause (o ∷ p ∷ []) ≡ None → first_cause (o ∷ p ∷ q ∷ []) ≡ first_cause (q ∷ [])
-third None None q h = refl
-third None (Some r) q h = absurd (cc)
-third (Some r) p q h = absurd (cc)
+-- causes that do not hold, before others
+after-none : (o p : Option Refusal) (cs : List (Option Refusal)) → first_cause (o ∷ p ∷ []) ≡ None → first_cause (o ∷ p ∷ cs) ≡ first_cause cs
+after-none None None cs h = refl
+after-none None (Some r) cs h = absurd (cc)
+after-none (Some r) p cs h = absurd (cc)
+
+-- what the words of the value decide, as two causes
+two-causes : (b : Bool) (r : Refusal) (o : Option Refusal) → first_cause (where_holds b r ∷ o ∷ []) ≡ (if b then Some r else o)
+two-causes true r o = refl
+two-causes false r None = refl
+two-causes false r (Some q) = refl
 
 -- the text that is looked for is not empty
 sought-there : (nth : Option ℕ) (n : List ℕ) (c : LineChange) → bad_argument (ChangeLine nth n c) ≡ None → IsSought c
 sought-there nth n (Prepend v) h = tt
 sought-there nth n (ReplaceWord w v) h = tt
+sought-there nth n (InsertWord i w v) h = tt
 sought-there nth n (SetOperator o) h = tt
 sought-there nth n (Substitute f v) h = some f (first-passed field.From (is_clean f && not (is_empty f)) (Tested field.To (is_clean v) ∷ []) (first-passed field.Name (is_name n) (line_change_tests (Substitute f v)) h).1).0
   where
@@ -158,6 +165,9 @@ module _ (ls : List LocatedLine) (nth : Option ℕ) (n : List ℕ) (c : LineChan
       ap (λ (o : Option StandingLine). where_holds (not (assignment_passes (is_line_changed c) (class_found o))) Absent) P.found_is
       ∙ ap (λ (k : Class Cell). where_holds (not (assignment_passes (is_line_changed c) (Some k))) Absent) P.class_is
 
+  already-is : already lines edit ≡ not_inserted c (Some (Assign a None))
+  already-is = ap (λ (o : Option StandingLine). not_inserted c (class_found o)) P.found_is ∙ ap (λ (k : Class Cell). not_inserted c (Some k)) P.class_is
+
   misread-is : misread lines edit ≡ where_holds (is_misread c f.context l.bytes (Assign a None)) Misread
   misread-is =
       ap (λ (o : Option StandingLine). where_holds (is_found_misread c o) Misread) P.found_is
@@ -165,51 +175,66 @@ module _ (ls : List LocatedLine) (nth : Option ℕ) (n : List ℕ) (c : LineChan
       ∙ (ap (λ b. where_holds (is_misread c f.context b P.spot.line.class) Misread) bytes-are ∙ ap (λ (k : Class Cell). where_holds (is_misread c f.context l.bytes k) Misread) P.class_is))
 
   -- the causes that may hold
-  own-causes : first_cause (causes text lines edit) ≡ first_cause (absent lines edit ∷ too_long text (spans_of text lines edit) ∷ misread lines edit ∷ [])
+  own-causes : first_cause (causes text lines edit) ≡ first_cause (absent lines edit ∷ already lines edit ∷ too_long text (spans_of text lines edit) ∷ misread lines edit ∷ [])
   own-causes =
       let long = too_long text (spans_of text lines edit) in
-      addressed-all edit ls f _ A (after-cause (absent lines edit) (None ∷ None ∷ None ∷ None ∷ None ∷ None ∷ None ∷ None ∷ long ∷ misread lines edit ∷ []) (long ∷ misread lines edit ∷ []) refl)
+      let last = long ∷ misread lines edit ∷ [] in
+      let others = None ∷ None ∷ None ∷ None ∷ None ∷ None ∷ None ∷ last in
+      addressed-all edit ls f _ A (after-cause (absent lines edit) (already lines edit ∷ others) (already lines edit ∷ last) (after-cause (already lines edit) others last refl))
 
-  module _ (at : offsets.Assignment) (q : IsAssignmentAt l at) (ss : List Span) (s : ss ≡ change_places c (text_of_line l) at) (v m : List ℕ) (t : v ≡ value_text_located l) (w : m ≡ new_text c v) where
-    made : CanMake c l a at ss m
-    made = can-make c f.context l a at ss v m own-in q (sought-there nth n c A.arguments) s t w
-
-    number-is : length ss ≡ length (line_change_spans c 0 a)
-    number-is = omega (arith, replacing-number m (raw_ranges (line_cells l.bytes) ss), ap length made.pieces, length-map ss (λ (x : Span). raw_range (line_cells l.bytes) x.start x.end))
+  module _ (at : offsets.Assignment) (q : IsAssignmentAt l at) (ss : List Span) (s : ss ≡ change_places c (text_of_line l) at) (v : List ℕ) (t : v ≡ value_text_located l) where
+    placed : HasPlaces c l a ss
+    placed = has-places c f.context l a at ss own-in q (sought-there nth n c A.arguments) s
 
     changed-is : not (is_line_changed c a) ≡ (length ss == 0)
-    changed-is = none-there (length ss) (list_any is_replaced (line_pieces c a)) (ap (nat_lt 0) number-is ∙ replaced-some 0 (line_pieces c a))
-
-    long-is : size_of ls ≤ max_text → too_long text (spans_of text lines edit) ≡ where_holds (nat_lt (max_text + bytes_in (raw_ranges (line_cells l.bytes) ss)) (size_of ls + length ss * length m)) TooLong
-    long-is few =
-        let rs = line_change_spans c base a in
-        let taken : bytes_taken rs ≡ bytes_in (raw_ranges (line_cells l.bytes) ss) = taken-moved base 0 (line_pieces c a) ∙ (ap bytes_taken (sym made.pieces) ∙ taken-replacing m (raw_ranges (line_cells l.bytes) ss)) in
-        let put : bytes_put rs ≡ length ss * length m =
-        put-moved base 0 (line_pieces c a)
-        ∙ (ap bytes_put (sym made.pieces) ∙ (put-replacing m (raw_ranges (line_cells l.bytes) ss) ∙ ap (λ k. k * length m) (length-map ss (λ (x : Span). raw_range (line_cells l.bytes) x.start x.end)))) in
-        let balanced : AreBalanced (bytes_in (raw_ranges (line_cells l.bytes) ss)) (length ss * length m) rs = omega (arith, taken, put) in
-        long-by text edit (bytes_in (raw_ranges (line_cells l.bytes) ss)) (length ss * length m) (subst (AreBalanced (bytes_in (raw_ranges (line_cells l.bytes) ss)) (length ss * length m)) (sym spans-are) balanced)
-        ∙ ap (λ k. where_holds (nat_lt (max_text + bytes_in (raw_ranges (line_cells l.bytes) ss)) (k + length ss * length m)) TooLong) (sym (size_of-text ls))
+    changed-is = none-there (length ss) (list_any is_replaced (line_pieces c a)) (ap (nat_lt 0) placed.number ∙ replaced-some 0 (line_pieces c a))
 
     -- the places are a part of the line
     places-short : bytes_in (raw_ranges (line_cells l.bytes) ss) ≤ length l.bytes
-    places-short = omega (arith, apart-bytes 0 (length l.bytes) _ made.apart)
+    places-short = omega (arith, apart-bytes 0 (length l.bytes) _ placed.apart)
 
-    -- what the counts say
-    counted : size_of ls ≤ max_text
-        → first_cause (causes text lines edit)
-        ≡ first_cause (where_holds (length ss == 0) Absent ∷ where_holds (nat_lt (max_text + bytes_in (raw_ranges (line_cells l.bytes) ss)) (size_of ls + length ss * length m)) TooLong ∷ misread lines edit ∷ [])
-    counted few =
-        let long = too_long text (spans_of text lines edit) in
-        own-causes
-        ∙ (ap (λ o. first_cause (o ∷ long ∷ misread lines edit ∷ [])) (absent-is ∙ ap (λ b. where_holds b Absent) changed-is)
-        ∙ ap (λ o. first_cause (where_holds (length ss == 0) Absent ∷ o ∷ misread lines edit ∷ [])) (long-is few))
+    -- what the words of the value say
+    of-words : first_cause (absent lines edit ∷ already lines edit ∷ []) ≡ first_of_words c (length ss) v
+    of-words =
+        ap (λ o. first_cause (o ∷ already lines edit ∷ [])) (absent-is ∙ ap (λ b. where_holds b Absent) changed-is)
+        ∙ (ap (λ o. first_cause (where_holds (length ss == 0) Absent ∷ o ∷ [])) (already-is ∙ words-told c f.context l a at ss v own-in q s t)
+        ∙ two-causes (length ss == 0) Absent (not_inserted_in c (length ss) v))
 
-    refused-counted : (r : Refusal) → size_of ls ≤ max_text → first_of_places (length ss) (bytes_in (raw_ranges (line_cells l.bytes) ss)) (length m) (size_of ls) ≡ Some r → spans text edit ≡ Err r
-    refused-counted r few k = refused text edit r (counted few ∙ first-before (where_holds (length ss == 0) Absent ∷ where_holds (nat_lt (max_text + bytes_in (raw_ranges (line_cells l.bytes) ss)) (size_of ls + length ss * length m)) TooLong ∷ []) (misread lines edit ∷ []) r k)
+    refused-words : (r : Refusal) → first_of_words c (length ss) v ≡ Some r → spans text edit ≡ Err r
+    refused-words r k =
+        refused text edit r (own-causes ∙ first-before (absent lines edit ∷ already lines edit ∷ []) (too_long text (spans_of text lines edit) ∷ misread lines edit ∷ []) r (of-words ∙ k))
 
-    left-misread : size_of ls ≤ max_text → first_of_places (length ss) (bytes_in (raw_ranges (line_cells l.bytes) ss)) (length m) (size_of ls) ≡ None → first_cause (causes text lines edit) ≡ first_cause (misread lines edit ∷ [])
-    left-misread few k = counted few ∙ third _ _ (misread lines edit) k
+    module _ (m : List ℕ) (w : m ≡ new_text c (separator_bytes (line_cells l.bytes) (separator_place c (text_of_line l) at)) v) (one : first_of_words c (length ss) v ≡ None) where
+      made : IsWritten c l a ss m
+      made = is-written c f.context l a at ss v m own-in q (sought-there nth n c A.arguments) s t one w
+
+      -- whether the text would be too long, by what is counted
+      abbrev is_long : Bool
+      is_long = nat_lt (max_text + bytes_in (raw_ranges (line_cells l.bytes) ss)) (size_of ls + length ss * length m)
+
+      long-is : too_long text (spans_of text lines edit) ≡ where_holds is_long TooLong
+      long-is =
+          let rs = line_change_spans c base a in
+          let taken : bytes_taken rs ≡ bytes_in (raw_ranges (line_cells l.bytes) ss) = taken-moved base 0 (line_pieces c a) ∙ (ap bytes_taken (sym made.pieces) ∙ taken-replacing m (raw_ranges (line_cells l.bytes) ss)) in
+          let put : bytes_put rs ≡ length ss * length m =
+          put-moved base 0 (line_pieces c a)
+          ∙ (ap bytes_put (sym made.pieces) ∙ (put-replacing m (raw_ranges (line_cells l.bytes) ss) ∙ ap (λ k. k * length m) (length-map ss (λ (x : Span). raw_range (line_cells l.bytes) x.start x.end)))) in
+          let balanced : AreBalanced (bytes_in (raw_ranges (line_cells l.bytes) ss)) (length ss * length m) rs = omega (arith, taken, put) in
+          long-by text edit (bytes_in (raw_ranges (line_cells l.bytes) ss)) (length ss * length m) (subst (AreBalanced (bytes_in (raw_ranges (line_cells l.bytes) ss)) (length ss * length m)) (sym spans-are) balanced)
+          ∙ ap (λ k. where_holds (nat_lt (max_text + bytes_in (raw_ranges (line_cells l.bytes) ss)) (k + length ss * length m)) TooLong) (sym (size_of-text ls))
+
+      -- the causes that are left
+      left-causes : (b : Bool) → is_long ≡ b → first_cause (causes text lines edit) ≡ first_cause (where_holds b TooLong ∷ misread lines edit ∷ [])
+      left-causes b k =
+          let last = too_long text (spans_of text lines edit) ∷ misread lines edit ∷ [] in
+          own-causes
+          ∙ (after-none (absent lines edit) (already lines edit) last (of-words ∙ one) ∙ ap (λ o. first_cause (o ∷ misread lines edit ∷ [])) (long-is ∙ ap (λ z. where_holds z TooLong) k))
+
+      refused-long : is_long ≡ true → spans text edit ≡ Err TooLong
+      refused-long k = refused text edit TooLong (left-causes true k)
+
+      left-misread : is_long ≡ false → first_cause (causes text lines edit) ≡ first_cause (misread lines edit ∷ [])
+      left-misread k = left-causes false k
 
   -- ---- whether it is misread
 
@@ -282,12 +307,14 @@ pub record IsLineChangeOf (c : LineChange) (e : Edit) (ls : List LocatedLine) (f
   pub sought : IsSought c
   pub own : (l : LocatedLine) → Some l ≡ slice_get ls f.at → IsAssigning f.context l
   pub short : (l : LocatedLine) (at : offsets.Assignment) → Some l ≡ slice_get ls f.at → IsAssignmentAt l at → bytes_in (raw_ranges (line_cells l.bytes) (change_places c (text_of_line l) at)) ≤ length l.bytes
-  pub refused : (l : LocatedLine) (at : offsets.Assignment) (ss : List Span) (v m : List ℕ) (r : Refusal) → Some l ≡ slice_get ls f.at → IsAssignmentAt l at → ss ≡ change_places c (text_of_line l) at
-      → v ≡ value_text_located l → m ≡ new_text c v → size_of ls ≤ max_text
-      → first_of_places (length ss) (bytes_in (raw_ranges (line_cells l.bytes) ss)) (length m) (size_of ls) ≡ Some r → spans (located_text ls) e ≡ Err r
+  pub refused : (l : LocatedLine) (at : offsets.Assignment) (ss : List Span) (v : List ℕ) (r : Refusal) → Some l ≡ slice_get ls f.at → IsAssignmentAt l at → ss ≡ change_places c (text_of_line l) at
+      → v ≡ value_text_located l → first_of_words c (length ss) v ≡ Some r → spans (located_text ls) e ≡ Err r
+  pub long : (l : LocatedLine) (at : offsets.Assignment) (ss : List Span) (v m : List ℕ) → Some l ≡ slice_get ls f.at → IsAssignmentAt l at → ss ≡ change_places c (text_of_line l) at
+      → v ≡ value_text_located l → m ≡ new_text c (separator_bytes (line_cells l.bytes) (separator_place c (text_of_line l) at)) v → first_of_words c (length ss) v ≡ None
+      → nat_lt (max_text + bytes_in (raw_ranges (line_cells l.bytes) ss)) (size_of ls + length ss * length m) ≡ true → spans (located_text ls) e ≡ Err TooLong
   pub left : (l : LocatedLine) (at : offsets.Assignment) (ss : List Span) (v m : List ℕ) → Some l ≡ slice_get ls f.at → IsAssignmentAt l at → ss ≡ change_places c (text_of_line l) at
-      → v ≡ value_text_located l → m ≡ new_text c v → size_of ls ≤ max_text
-      → first_of_places (length ss) (bytes_in (raw_ranges (line_cells l.bytes) ss)) (length m) (size_of ls) ≡ None → IsLeft c e ls f l
+      → v ≡ value_text_located l → m ≡ new_text c (separator_bytes (line_cells l.bytes) (separator_place c (text_of_line l) at)) v → first_of_words c (length ss) v ≡ None
+      → nat_lt (max_text + bytes_in (raw_ranges (line_cells l.bytes) ss)) (size_of ls + length ss * length m) ≡ false → IsLeft c e ls f l
 
 change_line : (nth : Option ℕ) (n : List ℕ) (c : LineChange) (ls : List LocatedLine) (f : Found) → IsFaithful ls → IsAddressed (ChangeLine nth n c) ls f → IsLineChangeOf c (ChangeLine nth n c) ls f
 change_line nth n c ls f h A = record {
@@ -295,11 +322,12 @@ change_line nth n c ls f h A = record {
   place = V.place;
   sought = sought-there nth n c A.arguments;
   own = λ l g. own-assigning ls nth n c f l h A (there l g);
-  short = λ l at g q. places-short ls nth n c f l h A (there l g) at q _ refl (value_text_located l) (new_text c (value_text_located l)) refl refl;
-  refused = λ l at ss v m r g q s t w few k. refused-counted ls nth n c f l h A (there l g) at q ss s v m t w r few k;
-  left = λ l at ss v m g q s t w few k.
+  short = λ l at g q. places-short ls nth n c f l h A (there l g) at q _ refl (value_text_located l) refl;
+  refused = λ l at ss v r g q s t k. refused-words ls nth n c f l h A (there l g) at q ss s v t r k;
+  long = λ l at ss v m g q s t w one k. refused-long ls nth n c f l h A (there l g) at q ss s v t m w one k;
+  left = λ l at ss v m g q s t w one k.
       let P = there l g in
-      let o = left-misread ls nth n c f l h A P at q ss s v m t w few k in
+      let o = left-misread ls nth n c f l h A P at q ss s v t m w one k in
       record {
         unrefused = unrefused-but ls nth n c f l h A P o;
         a = P.assigned;

@@ -1,51 +1,62 @@
 -- The line of an assignment that is changed: its parts, by what the code knows of it, and what the code makes of them.
-use Rattle.std.proofs.Common.{◌≡◌, refl, sym, ap, ◌∙◌, subst, arith, ℕ, ◌+◌, ◌≤◌, List, [], ◌∷◌, ◌++◌, length, length-append, None}
-use Rattle.std.specs.Prelude.{nat_lt}
-use Rattle.mk_lines.specs.Lists.{concat, leading, after_leading}
+use Rattle.std.proofs.Common.{◌≡◌, refl, sym, ap, ◌∙◌, subst, arith, ℕ, ◌+◌, ◌≤◌, Bool, true, false, List, [], ◌∷◌, ◌++◌, length, length-append, Some, None}
+use Rattle.std.specs.Prelude.{◌==◌, nat_lt, if◌then◌else◌, IfSome}
+use Rattle.std.proofs.lemmas.Bool.{ltb-false}
+use Rattle.mk_lines.specs.Lists.{concat, leading, after_leading, FirstFails, LastFails}
 use Rattle.mk_lines.specs.Bytes.{ByteKind, LineFeed, CarriageReturn, Backslash, Blank, Ordinary, byte_kind}
 use Rattle.mk_lines.specs.PhysicalLines.{line_end, line_end_bytes, without_line_end}
 use Rattle.mk_lines.proofs.on_lines.LineEndLemmas.{without_line_end-line_end}
-use Rattle.mk_lines.specs.Cells.{Cell, Byte, Fold, LfEnd, CrLfEnd, joined_byte, joined_text, is_blank_cell, prepend, cells, line_cells}
+use Rattle.mk_lines.specs.Cells.{Cell, Byte, Fold, LfEnd, CrLfEnd, joined_byte, joined_text, raw_text, is_blank_cell, prepend, cells, line_cells}
 use Rattle.mk_lines.specs.Limits.{max_text}
+use Rattle.mk_lines.specs.Pieces.{Piece, Keep, Replace, replacements}
 use Rattle.mk_lines.specs.declared.split.Span.{Span}
 use Rattle.mk_lines.specs.Units.{units}
-use Rattle.mk_lines.specs.Words.{tokens}
+use Rattle.mk_lines.specs.Words.{tokens, is_gap, words_in}
 use Rattle.mk_lines.proofs.on_lists.ListLemmas.{concat-append, leading-after_leading}
 use Rattle.mk_class.specs.CutTexts.{cut_text}
-use Rattle.mk_class.specs.ListTests.{is_empty}
 use Rattle.mk_class.specs.Assignments.{Assignment, before_value}
 use Rattle.mk_class.specs.Classes.Class.{Assign}
 use Rattle.mk_class.specs.Contexts.{Context}
+use Rattle.mk_class.specs.LineParts.{IsAssignmentLocated}
 use Rattle.mk_class.specs.LocatedClasses.{located_assignment}
 use Rattle.mk_class.specs.RecipePrefix.{is_prefix_led}
+use Rattle.mk_class.specs.Texts.{is_one_of}
 use Rattle.mk_class.specs.declared.assignment.Assignment as offsets
 use Rattle.mk_class.specs.declared.class.Class as class
 use Rattle.mk_class.specs.declared.class.Class.TheVariants as variants
 use Rattle.mk_class.proofs.on_classes.ClassLemmas.{plain_class-assign, class_at-assign}
 use Rattle.mk_tree.specs.LocatedLines.{LocatedLine, text_of_line}
-use Rattle.mk_edit_language.specs.Edits.{LineChange}
+use Rattle.mk_edit_language.specs.Causes.{where_holds}
+use Rattle.mk_edit_language.specs.Edits.{LineChange, Prepend, ReplaceWord, InsertWord, Substitute, SetOperator}
 use Rattle.mk_edit_language.specs.LineChanges.{line_pieces, line_change_spans, line_after, value_after}
-use Rattle.mk_edit_parts.specs.LineChangePlaces.{new_text, change_places, raw_ranges, CanNote}
-use Rattle.mk_edit_parts.specs.RenamedRanges.{AreWithin}
+use Rattle.mk_edit_language.specs.RuleCauses.{count_of_word, not_inserted}
+use Rattle.mk_edit_language.specs.declared.edit.Side.{Side}
+use Rattle.mk_edit_language.specs.declared.refusal.Refusal.TheVariants.{Absent, Already, Ambiguous}
+use Rattle.mk_edit_language.proofs.on_edits.Accepted.{where_holds-none}
+use Rattle.mk_edit_parts.specs.LineChangePlaces.{new_text, change_places, separator_place, separator_bytes, separator_text, raw_ranges, CanNote}
+use Rattle.mk_edit_parts.specs.RenamedRanges.{AreWithin, IsWithin}
 use Rattle.mk_edit_parts.specs.RenamedTexts.{AreApart, rewritten}
-use Rattle.mk_edit_parts.specs.SeenAssignments.{IsAssignmentAt, IsAssignmentSeen}
+use Rattle.mk_edit_parts.specs.SeenAssignments.{HasAssignment, IsAssignmentAt, IsAssignmentSeen}
 use Rattle.mk_edit_parts.proofs.on_values.ValueCells.{assign-parts}
 use Rattle.mk_edit_parts.proofs.on_renaming.PieceRanges.{replacing}
-use Rattle.mk_edit.specs.LineChangePlans.{IsAssignmentIn, IsSought, CanRewrite, value_made}
+use Rattle.mk_edit.specs.LineChangePlans.{IsAssignmentIn, IsSought, CanRewrite, first_of_words, not_inserted_in, value_made}
 use Rattle.mk_edit.specs.ValueChangeLines.{value_text_located}
-use Rattle.mk_edit.proofs.on_values.OwnLines.{own_line, own-text}
+use Rattle.mk_edit.proofs.on_values.OwnLines.{IsValueText, own_line, own-text}
 use Rattle.mk_edit.proofs.on_values.ValuePlaces.{assignment-located}
 use Rattle.mk_edit.proofs.on_line_changes.OperatorPlaces.{HasOperator, assignment-operator}
 use Rattle.mk_edit.proofs.on_line_changes.PiecePlaces.{places, AllBecome}
-use Rattle.mk_edit.proofs.on_line_changes.ChangePlaces.{line-places, line-become, line-within, line-apart, line-can_rewrite, line-rewritten, value-made, line-raw, line-can_note}
+use Rattle.mk_edit.proofs.on_line_changes.WordsBeside.{beside-number, first_separator, separator_cells, separator-bytes, separator-text}
+use Rattle.mk_edit.proofs.on_line_changes.ChangePlaces.{Separates, pieces_said, line-places, line-become, line-within, line-apart, line-can_rewrite, line-rewritten, line-separator, value-made, line-raw, line-can_note}
 
 -- the parts of the line
-pub record HasParts (l : LocatedLine) (a : Assignment Cell) : Type 0 where
+record HasParts (l : LocatedLine) (a : Assignment Cell) : Type 0 where
   pub rest : List Cell
   pub seen : IsAssignmentSeen l (located_assignment 0 a) a rest
   pub operator : HasOperator a.operator a.flavor
+  pub begins : FirstFails (is_gap joined_byte) a.value
+  pub ends : LastFails (is_gap joined_byte) a.value
 
-pub parts-in : (x : Context) (l : LocatedLine) (a : Assignment Cell) → IsAssignmentIn x l a → HasParts l a
+parts-in : (x : Context) (l : LocatedLine) (a : Assignment Cell) → IsAssignmentIn x l a → HasParts l a
 parts-in x l a I =
     let p = assign-parts x l.bytes a None I.here in
     let led = is_prefix_led x.prefix l.bytes in
@@ -60,6 +71,8 @@ parts-in x l a I =
         located = assignment-located x l.bytes a I.here;
       };
       operator = assignment-operator (tokens joined_byte (cut_text joined_byte (units joined_byte cs))) a i.assigned;
+      begins = p.is.are_value.begins;
+      ends = p.is.are_value.ends;
     }
 
 -- the offsets of its parts
@@ -68,40 +81,134 @@ offsets-are x l a at I q =
     let same : variants.Assign at q.prefix ≡ variants.Assign (located_assignment 0 a) None = sym q.class_is ∙ I.class_is in
     cc
 
--- what the code makes of the line, by the places of the change, and the text that goes there
-pub record CanMake (c : LineChange) (l : LocatedLine) (a : Assignment Cell) (at : offsets.Assignment) (ss : List Span) (n : List ℕ) : Type 0 where
+-- the code may ask for them
+pub has-assignment : (x : Context) (l : LocatedLine) (a : Assignment Cell) (at : offsets.Assignment) → IsAssignmentIn x l a → IsAssignmentAt l at → HasAssignment l at
+has-assignment x l a at I q =
+    let P = parts-in x l a I in
+    let e = offsets-are x l a at I q in
+    record { assigned = a; rest = P.rest; seen = record { cells_are = P.seen.cells_are; offsets_are = e; located = subst (λ z. IsAssignmentLocated (line_cells l.bytes) z [] a) (sym e) P.seen.located } }
+
+-- ---- the places
+
+-- the places of the change, as the code finds them
+pub record HasPlaces (c : LineChange) (l : LocatedLine) (a : Assignment Cell) (ss : List Span) : Type 0 where
   pub within : AreWithin (length (line_cells l.bytes)) ss
   pub apart : AreApart 0 (length l.bytes) (raw_ranges (line_cells l.bytes) ss)
-  pub can : CanRewrite c (text_of_line l) at ss n
-  pub bytes : rewritten l.bytes n (raw_ranges (line_cells l.bytes) ss) ≡ line_after c l.bytes a
-  pub value : value_made c (text_of_line l) at ss n ≡ value_after c a.value
-  pub pieces : replacing n (raw_ranges (line_cells l.bytes) ss) ≡ line_change_spans c 0 a
-  pub become : AllBecome n (line_pieces c a)
+  pub number : length ss ≡ length (line_change_spans c 0 a)
 
--- whether the value is empty is told by its text
-empty-told : (x : Context) (l : LocatedLine) (a : Assignment Cell) (v : List ℕ) → IsAssignmentIn x l a → v ≡ value_text_located l → is_empty v ≡ is_empty a.value
-empty-told x l a v I h =
-    let own : value_text_located l ≡ value_text_located (own_line l.bytes a) = ap (λ (k : class.Class). value_text_located (record { bytes = l.bytes; class = k })) I.class_is in
-    (own-text x l.bytes a I.here v (h ∙ own)).empty_is
+places-number : (k m : ℕ) (ps : List Piece) → length (places k ps) ≡ length (replacements m ps)
+places-number k m [] = refl
+places-number k m (Keep cs ∷ ps) = places-number (k + length cs) (m + length (raw_text cs)) ps
+places-number k m (Replace cs v ∷ ps) = omega (arith, places-number (k + length cs) (m + length (raw_text cs)) ps)
 
-pub can-make : (c : LineChange) (x : Context) (l : LocatedLine) (a : Assignment Cell) (at : offsets.Assignment) (ss : List Span) (v n : List ℕ) → IsAssignmentIn x l a → IsAssignmentAt l at → IsSought c
-    → ss ≡ change_places c (text_of_line l) at → v ≡ value_text_located l → n ≡ new_text c v → CanMake c l a at ss n
-can-make c x l a at ss v n I q h s t w =
+places-are : (said : List Cell → List ℕ) (c : LineChange) (x : Context) (l : LocatedLine) (a : Assignment Cell) (at : offsets.Assignment) (ss : List Span) → IsAssignmentIn x l a → IsAssignmentAt l at → IsSought c → ss ≡ change_places c (text_of_line l) at
+    → ss ≡ places 0 (pieces_said said c a)
+places-are said c x l a at ss I q h s =
     let P = parts-in x l a I in
-    let S = P.seen in
-    let o : at ≡ located_assignment 0 a = offsets-are x l a at I q in
-    let e : ss ≡ places 0 (line_pieces c a) = s ∙ (ap (change_places c (text_of_line l)) o ∙ line-places l a P.rest S c h P.operator) in
-    let all : AllBecome n (line_pieces c a) = subst (λ z. AllBecome z (line_pieces c a)) (sym w) (line-become c a v (empty-told x l a v I t)) in
-    let M : CanMake c l a (located_assignment 0 a) (places 0 (line_pieces c a)) n = record {
-      within = line-within l a P.rest S c h;
-      apart = line-apart l a P.rest S c n h all x I.here;
-      can = line-can_rewrite l a P.rest S c n h all;
-      bytes = line-rewritten l a P.rest S c n h all x I.here;
-      value = value-made l a P.rest S c n h all;
-      pieces = line-raw l a P.rest S c n h all;
-      become = all;
-    } in
-    subst (λ z. CanMake c l a z ss n) (sym o) (subst (λ z. CanMake c l a (located_assignment 0 a) z n) (sym e) M)
+    s ∙ (ap (change_places c (text_of_line l)) (offsets-are x l a at I q) ∙ line-places l a P.rest P.seen said c h P.operator)
+
+pub has-places : (c : LineChange) (x : Context) (l : LocatedLine) (a : Assignment Cell) (at : offsets.Assignment) (ss : List Span) → IsAssignmentIn x l a → IsAssignmentAt l at → IsSought c → ss ≡ change_places c (text_of_line l) at → HasPlaces c l a ss
+has-places c x l a at ss I q h s =
+    let P = parts-in x l a I in
+    subst (HasPlaces c l a) (sym (places-are raw_text c x l a at ss I q h s)) (record {
+      within = line-within l a P.rest P.seen raw_text c h;
+      apart = line-apart l a P.rest P.seen raw_text c h;
+      number = places-number 0 0 (line_pieces c a);
+    })
+
+-- ---- the words of the value
+
+-- what the text of the value tells
+text-told : (x : Context) (l : LocatedLine) (a : Assignment Cell) (v : List ℕ) → IsAssignmentIn x l a → v ≡ value_text_located l → IsValueText a v
+text-told x l a v I h =
+    let own : value_text_located l ≡ value_text_located (own_line l.bytes a) = ap (λ (k : class.Class). value_text_located (record { bytes = l.bytes; class = k })) I.class_is in
+    own-text x l.bytes a I.here v (h ∙ own)
+
+-- one place is one word that is that beside which a new one goes
+one-word : (i : Side) (w n : List ℕ) (x : Context) (l : LocatedLine) (a : Assignment Cell) (at : offsets.Assignment) (ss : List Span) → IsAssignmentIn x l a → IsAssignmentAt l at → ss ≡ change_places (InsertWord i w n) (text_of_line l) at
+    → length ss ≡ count_of_word w a
+one-word i w n x l a at ss I q s =
+    ap length (places-are raw_text (InsertWord i w n) x l a at ss I q tt s) ∙ beside-number i raw_text w n [] (tokens joined_byte a.value) (0 + length (concat (a.before ++ a.name)) + length (concat a.operator))
+
+-- what the words of the value decide of the change
+pub words-told : (c : LineChange) (x : Context) (l : LocatedLine) (a : Assignment Cell) (at : offsets.Assignment) (ss : List Span) (v : List ℕ) → IsAssignmentIn x l a → IsAssignmentAt l at → ss ≡ change_places c (text_of_line l) at → v ≡ value_text_located l
+    → not_inserted c (Some (Assign a None)) ≡ not_inserted_in c (length ss) v
+words-told (Prepend y) x l a at ss v I q s t = refl
+words-told (ReplaceWord w y) x l a at ss v I q s t = refl
+words-told (Substitute f y) x l a at ss v I q s t = refl
+words-told (SetOperator o) x l a at ss v I q s t = refl
+words-told (InsertWord i w n) x l a at ss v I q s t =
+    ap (λ z. if is_one_of n z then Some Already else where_holds (nat_lt 1 (count_of_word w a)) (Ambiguous (count_of_word w a))) (sym (text-told x l a v I t).words_are)
+    ∙ ap (λ k. if is_one_of n (words_in v) then Some Already else where_holds (nat_lt 1 k) (Ambiguous k)) (sym (one-word i w n x l a at ss I q s))
+
+-- a word beside which a new one goes stands once where the change is not refused
+at-most-one : (i : Side) (w n : List ℕ) (k : ℕ) (v : List ℕ) → first_of_words (InsertWord i w n) k v ≡ None → k ≤ 1
+at-most-one i w n k v h = go (k == 0) (is_one_of n (words_in v)) h
+  where
+    go : (b d : Bool) → (if b then Some Absent else (if d then Some Already else where_holds (nat_lt 1 k) (Ambiguous k))) ≡ None → k ≤ 1
+    go true d e = absurd (cc)
+    go false true e = absurd (cc)
+    go false false e = ltb-false 1 k (where_holds-none (nat_lt 1 k) (Ambiguous k) e)
+
+-- ---- the separator
+
+-- the code's separator stands in the line
+pub separator-within : (c : LineChange) (x : Context) (l : LocatedLine) (a : Assignment Cell) (at : offsets.Assignment) → IsAssignmentIn x l a → IsAssignmentAt l at → IfSome (separator_place c (text_of_line l) at) (IsWithin (length (line_cells l.bytes)))
+separator-within (Prepend y) x l a at I q = tt
+separator-within (ReplaceWord w y) x l a at I q = tt
+separator-within (Substitute f y) x l a at I q = tt
+separator-within (SetOperator o) x l a at I q = tt
+separator-within (InsertWord i w n) x l a at I q =
+    let P = parts-in x l a I in
+    subst (λ z. IfSome (separator_place (InsertWord i w n) (text_of_line l) z) (IsWithin (length (line_cells l.bytes)))) (sym (offsets-are x l a at I q)) (line-separator l a P.rest P.seen i w n P.begins P.ends).within
+
+-- and separates the new word from the other, as a text that is made of its cells
+separates : (said : List Cell → List ℕ) (c : LineChange) (x : Context) (l : LocatedLine) (a : Assignment Cell) (at : offsets.Assignment) (ss : List Span) (v s : List ℕ) → IsAssignmentIn x l a → IsAssignmentAt l at → ss ≡ change_places c (text_of_line l) at
+    → first_of_words c (length ss) v ≡ None → s ≡ said (separator_cells (line_cells l.bytes) (separator_place c (text_of_line l) at)) → Separates said c a s
+separates said (Prepend y) x l a at ss v s I q p h e = tt
+separates said (ReplaceWord w y) x l a at ss v s I q p h e = tt
+separates said (Substitute f y) x l a at ss v s I q p h e = tt
+separates said (SetOperator o) x l a at ss v s I q p h e = tt
+separates said (InsertWord i w n) x l a at ss v s I q p h e =
+    let P = parts-in x l a I in
+    let C = (line-separator l a P.rest P.seen i w n P.begins P.ends).cells in
+    let o : separator_cells (line_cells l.bytes) (separator_place (InsertWord i w n) (text_of_line l) at) ≡ first_separator i w [] (tokens joined_byte a.value) =
+    ap (λ z. separator_cells (line_cells l.bytes) (separator_place (InsertWord i w n) (text_of_line l) z)) (offsets-are x l a at I q) ∙ C in
+    let k : length ss ≤ 1 = at-most-one i w n (length ss) v h in
+    (omega (arith, k, one-word i w n x l a at ss I q p), e ∙ ap said o)
+
+-- ---- what the code makes of the line
+
+-- its bytes, by the places of the change and the text that goes there
+pub record IsWritten (c : LineChange) (l : LocatedLine) (a : Assignment Cell) (ss : List Span) (n : List ℕ) : Type 0 where
+  pub bytes : rewritten l.bytes n (raw_ranges (line_cells l.bytes) ss) ≡ line_after c l.bytes a
+  pub pieces : replacing n (raw_ranges (line_cells l.bytes) ss) ≡ line_change_spans c 0 a
+
+pub is-written : (c : LineChange) (x : Context) (l : LocatedLine) (a : Assignment Cell) (at : offsets.Assignment) (ss : List Span) (v n : List ℕ) → IsAssignmentIn x l a → IsAssignmentAt l at → IsSought c
+    → ss ≡ change_places c (text_of_line l) at → v ≡ value_text_located l → first_of_words c (length ss) v ≡ None
+    → n ≡ new_text c (separator_bytes (line_cells l.bytes) (separator_place c (text_of_line l) at)) v → IsWritten c l a ss n
+is-written c x l a at ss v n I q h s t one w =
+    let P = parts-in x l a I in
+    let o = separator_place c (text_of_line l) at in
+    let d = separates raw_text c x l a at ss v (separator_bytes (line_cells l.bytes) o) I q s one (separator-bytes (line_cells l.bytes) o) in
+    let all : AllBecome n (line_pieces c a) = subst (λ z. AllBecome z (line_pieces c a)) (sym w) (line-become raw_text c a (separator_bytes (line_cells l.bytes) o) v (text-told x l a v I t).empty_is d) in
+    subst (λ z. IsWritten c l a z n) (sym (places-are raw_text c x l a at ss I q h s)) (record { bytes = line-rewritten l a P.rest P.seen c n h all; pieces = line-raw l a P.rest P.seen c n h all })
+
+-- its value, by the text that goes there as it is read
+pub record IsSaid (c : LineChange) (l : LocatedLine) (a : Assignment Cell) (at : offsets.Assignment) (ss : List Span) (n : List ℕ) : Type 0 where
+  pub can : CanRewrite c (text_of_line l) at ss n
+  pub value : value_made c (text_of_line l) at ss n ≡ value_after c a.value
+
+pub is-said : (c : LineChange) (x : Context) (l : LocatedLine) (a : Assignment Cell) (at : offsets.Assignment) (ss : List Span) (v n : List ℕ) → IsAssignmentIn x l a → IsAssignmentAt l at → IsSought c
+    → ss ≡ change_places c (text_of_line l) at → v ≡ value_text_located l → first_of_words c (length ss) v ≡ None
+    → n ≡ new_text c (separator_text (text_of_line l) (separator_place c (text_of_line l) at)) v → IsSaid c l a at ss n
+is-said c x l a at ss v n I q h s t one w =
+    let P = parts-in x l a I in
+    let o = separator_place c (text_of_line l) at in
+    let d = separates joined_text c x l a at ss v (separator_text (text_of_line l) o) I q s one (separator-text (line_cells l.bytes) o) in
+    let all : AllBecome n (pieces_said joined_text c a) = subst (λ z. AllBecome z (pieces_said joined_text c a)) (sym w) (line-become joined_text c a (separator_text (text_of_line l) o) v (text-told x l a v I t).empty_is d) in
+    let M : IsSaid c l a (located_assignment 0 a) (places 0 (pieces_said joined_text c a)) n = record { can = line-can_rewrite l a P.rest P.seen joined_text c n h all; value = value-made l a P.rest P.seen c n h all } in
+    subst (λ z. IsSaid c l a z ss n) (sym (offsets-are x l a at I q)) (subst (λ z. IsSaid c l a (located_assignment 0 a) z n) (sym (places-are joined_text c x l a at ss I q h s)) M)
 
 -- a line has no more cells than bytes
 prepend-count : (k : ByteKind) (b : ℕ) (cs : List Cell) → length (prepend k b cs) ≤ length cs + 1
@@ -138,12 +245,5 @@ pub can-note : (c : LineChange) (x : Context) (l : LocatedLine) (a : Assignment 
     → CanNote (line_cells l.bytes) (change_places c (text_of_line l) at)
 can-note c x l a at I q h short =
     let P = parts-in x l a I in
-    let all = line-become c a (joined_text (concat a.value)) (empty-of a.value) in
     subst (λ z. CanNote (line_cells l.bytes) (change_places c (text_of_line l) z)) (sym (offsets-are x l a at I q))
-    (line-can_note l a P.rest P.seen c (new_text c (joined_text (concat a.value))) h P.operator all x I.here short (omega (arith, line_cells-count l.bytes, short)))
-  where
-    shown : value_text_located (own_line l.bytes a) ≡ joined_text (concat a.value)
-    shown = (assignment-located x l.bytes a I.here).value.text_is
-
-    empty-of : (us : List (List Cell)) → is_empty (joined_text (concat a.value)) ≡ is_empty a.value
-    empty-of us = (own-text x l.bytes a I.here (joined_text (concat a.value)) (sym shown)).empty_is
+    (line-can_note l a P.rest P.seen c h P.operator short (omega (arith, line_cells-count l.bytes, short)))

@@ -1,5 +1,5 @@
 -- The words and the texts of a value that a change replaces: the code's list of places is that of the value's pieces.
-use Rattle.std.proofs.Common.{◌≡◌, refl, sym, ap, ◌∙◌, arith, ℕ, zero, suc, ◌+◌, ◌-◌, ◌≤◌, max, Bool, true, false, cond, ◌&&◌, List, [], ◌∷◌, ◌++◌, map, take, drop, length, length-append, append_assoc}
+use Rattle.std.proofs.Common.{◌≡◌, refl, sym, ap, ◌∙◌, arith, ℕ, zero, suc, ◌+◌, ◌-◌, ◌≤◌, max, Bool, true, false, cond, ◌&&◌, List, [], ◌∷◌, ◌++◌, map, take, drop, length, length-append, append_assoc, None}
 use Rattle.std.specs.Str.{bytes_eq}
 use Rattle.std.specs.Prelude.{slice_range, if◌then◌else◌, nat_le}
 use Rattle.std.proofs.lemmas.Bool.{le-leb}
@@ -25,7 +25,7 @@ use Rattle.mk_edit.proofs.on_line_changes.PiecePlaces.{places, AllBecome}
 
 -- the words among some tokens
 pub words-places : (cs b : List Cell) (ts : List (Token Cell)) (a : List Cell) (o n : List ℕ) (start at : ℕ) → cs ≡ b ++ (token_text ts ++ a) → start + at ≡ length b
-    → word_places (joined_text cs) start o (word_token_ranges at ts) ≡ places (start + at) (renamed_tokens o n ts)
+    → word_places (joined_text cs) start None o (word_token_ranges at ts) ≡ places (start + at) (renamed_tokens o n ts)
 words-places cs b [] a o n start at h k = refl
 words-places cs b (Gap u ∷ ts) a o n start at h k =
     let e : cs ≡ (b ++ u) ++ (token_text ts ++ a) = h ∙ simp append_assoc in
@@ -48,17 +48,17 @@ words-places cs b (Word w ∷ ts) a o n start at h k =
     go (is_word_of o w) (ap (λ t. bytes_eq t o) text) s rest
   where
     go : (c : Bool) → bytes_eq (text_at (joined_text cs) (span (start + at) (start + (at + length (concat w))))) o ≡ c → start + (at + length (concat w)) ≡ start + at + length (concat w)
-        → word_places (joined_text cs) start o (word_token_ranges (at + length (concat w)) ts) ≡ places (start + at + length (concat w)) (renamed_tokens o n ts)
-        → word_places (joined_text cs) start o (word_token_ranges at (Word w ∷ ts)) ≡ places (start + at) ((if c then Replace (concat w) n else Keep (concat w)) ∷ renamed_tokens o n ts)
+        → word_places (joined_text cs) start None o (word_token_ranges (at + length (concat w)) ts) ≡ places (start + at + length (concat w)) (renamed_tokens o n ts)
+        → word_places (joined_text cs) start None o (word_token_ranges at (Word w ∷ ts)) ≡ places (start + at) ((if c then Replace (concat w) n else Keep (concat w)) ∷ renamed_tokens o n ts)
     go true t s r =
         let S = start + at in
         let E = start + (at + length (concat w)) in
-        let R = word_places (joined_text cs) start o (word_token_ranges (at + length (concat w)) ts) in
+        let R = word_places (joined_text cs) start None o (word_token_ranges (at + length (concat w)) ts) in
         ap (λ b. if b then span S E ∷ R else R) t ∙ (ap (λ z. span S z ∷ R) s ∙ ap (λ z. span S (S + length (concat w)) ∷ z) r)
     go false t s r =
         let S = start + at in
         let E = start + (at + length (concat w)) in
-        let R = word_places (joined_text cs) start o (word_token_ranges (at + length (concat w)) ts) in
+        let R = word_places (joined_text cs) start None o (word_token_ranges (at + length (concat w)) ts) in
         ap (λ b. if b then span S E ∷ R else R) t ∙ r
 
 pub words-become : (o n : List ℕ) (ts : List (Token Cell)) → AllBecome n (renamed_tokens o n ts)

@@ -26,7 +26,7 @@ use Rattle.mk_edit_parts.specs.WordCuts.{last_end}
 -- ---- ranges that stand apart
 
 -- ranges stand apart if their replacements rise
-pub apart-rise : (a b : ℕ) (n : List ℕ) (ss : List Span) → Rise a b (replacing n ss) → AreApart a b ss
+apart-rise : (a b : ℕ) (n : List ℕ) (ss : List Span) → Rise a b (replacing n ss) → AreApart a b ss
 apart-rise a b n [] h = h
 apart-rise a b n (s ∷ ss) h = (h.0, h.1, apart-rise s.end b n ss h.2)
 
@@ -86,7 +86,7 @@ renamed-length o n l h = omega (arith, written-length l.bytes 0 n (renamed_range
 
 -- ---- which lines hold a word
 
-pub replacing-number : (n : List ℕ) (ss : List Span) → length (replacing n ss) ≡ length ss
+replacing-number : (n : List ℕ) (ss : List Span) → length (replacing n ss) ≡ length ss
 replacing-number n [] = refl
 replacing-number n (s ∷ ss) = omega (arith, replacing-number n ss)
 

@@ -100,7 +100,7 @@ read-as i (Header x) h = absurd (cc)
 
 -- ---- a line that fits
 
-only-line : (ls : List (List ℕ)) (m : List ℕ) → is_one ls ≡ true → concat ls ≡ m → ls ≡ m ∷ []
+pub only-line : (ls : List (List ℕ)) (m : List ℕ) → is_one ls ≡ true → concat ls ≡ m → ls ≡ m ∷ []
 only-line [] m h k = absurd (cc)
 only-line (l ∷ []) m h k = ap (λ z. z ∷ []) (sym (append-nil l) ∙ k)
 only-line (l ∷ l' ∷ ls) m h k = absurd (cc)
@@ -109,7 +109,7 @@ ended : (x y : Bool) → (not x || y) ≡ true → x ≡ true → y ≡ true
 ended true y h k = h
 ended false y h k = cc
 
-ends-too : (l m : List ℕ) (below : List (List ℕ)) → (not (ends_line l) || ends_line m) ≡ true → EndsBefore l below → EndsBefore m below
+pub ends-too : (l m : List ℕ) (below : List (List ℕ)) → (not (ends_line l) || ends_line m) ≡ true → EndsBefore l below → EndsBefore m below
 ends-too l m [] h e = tt
 ends-too l m (b ∷ bs) h e = ends_line-ends m (ended (ends_line l) (ends_line m) h (Ends-ends_line l e))
 

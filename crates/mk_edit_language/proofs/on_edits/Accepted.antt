@@ -16,7 +16,7 @@ use Rattle.mk_edit_language.specs.Refusals.{first_cause, unless_refused, causes,
 use Rattle.mk_edit_language.specs.declared.refusal.Field.{Field}
 use Rattle.mk_edit_language.specs.declared.refusal.Refusal.{Refusal}
 
-none-first : (o : Option Refusal) (cs : List (Option Refusal)) → first_cause (o ∷ cs) ≡ None → (o ≡ None) × (first_cause cs ≡ None)
+pub none-first : (o : Option Refusal) (cs : List (Option Refusal)) → first_cause (o ∷ cs) ≡ None → (o ≡ None) × (first_cause cs ≡ None)
 none-first None cs h = (refl, h)
 none-first (Some r) cs h = absurd (cc)
 
@@ -25,7 +25,7 @@ pub where_holds-none : (b : Bool) (r : Refusal) → where_holds b r ≡ None →
 where_holds-none true r h = cc
 where_holds-none false r h = refl
 
-unrefused : (o : Option Refusal) (rs rs' : List Replacement) → unless_refused o rs ≡ Ok rs' → (o ≡ None) × (rs ≡ rs')
+pub unrefused : (o : Option Refusal) (rs rs' : List Replacement) → unless_refused o rs ≡ Ok rs' → (o ≡ None) × (rs ≡ rs')
 unrefused None rs rs' h = let e : rs ≡ rs' = cc in (refl, e)
 unrefused (Some r) rs rs' h = absurd (cc)
 

@@ -27,7 +27,7 @@ use Rattle.mk_edit_language.proofs.on_renames.RenamedHeaders.{none-replaced}
 
 -- ---- pieces of which none is replaced
 
-unreplaced-spans : (at : ℕ) (ps : List Piece) → list_any is_replaced ps ≡ false → replacements at ps ≡ []
+pub unreplaced-spans : (at : ℕ) (ps : List Piece) → list_any is_replaced ps ≡ false → replacements at ps ≡ []
 unreplaced-spans at [] h = refl
 unreplaced-spans at (Keep cs ∷ ps) h = unreplaced-spans (at + length (raw_text cs)) ps h
 unreplaced-spans at (Replace cs v ∷ ps) h = cc

@@ -32,12 +32,12 @@ use Rattle.mk_tree.specs.Documents.{text_of, context_of}
 use Rattle.mk_tree.proofs.on_documents.LinesInText.{line-in_text, run-in_text, AreClassed, AreClassed-class, AreClassed-tail, AreClassed-lines}
 use Rattle.mk_tree.proofs.on_documents.DocumentLemmas.{text_of-classed_lines}
 use Rattle.mk_tree.specs.LineTexts.{StandingLine}
-use Rattle.mk_edit_language.specs.Edits.{ValueChange, Set, Append, Add, Remove, One, Every, LineChange, Prepend, ReplaceWord, Substitute, SetOperator, PrereqChange, AddPrereq, RemovePrereq, Edit, ChangeValue, ChangeLine, ChangePrereqs, AddLine, AddRecipe, SetRecipe, RemoveLines, RenameTarget}
+use Rattle.mk_edit_language.specs.Edits.{ValueChange, Set, Append, Add, Remove, One, Every, LineChange, Prepend, ReplaceWord, InsertWord, Substitute, SetOperator, PrereqChange, AddPrereq, RemovePrereq, Edit, ChangeValue, ChangeLine, ChangePrereqs, AddLine, AddRecipe, SetRecipe, RemoveLines, RenameTarget}
 use Rattle.mk_edit_language.specs.Addresses.{Variable, Rule, found}
 use Rattle.mk_edit_language.specs.Stretches.{Stretch, this_line, between, place_found, recipe_place, recipe_found, touched_by}
 use Rattle.mk_edit_language.specs.NewLines.{new_line_span}
 use Rattle.mk_edit_language.specs.ValueChanges.{value_start, value_spans, set_value_span, append_value_span, assignment_spans, LedWord, led_words_among, led_words, staying, led_units, from_first_word, remove_word_pieces, remove_word_spans, is_class_changed, change_spans, changed_line_spans}
-use Rattle.mk_edit_language.specs.LineChanges.{begins_with, substituted, value_pieces, from_operator, operator_pieces, line_pieces, line_change_spans}
+use Rattle.mk_edit_language.specs.LineChanges.{tokens_beside, begins_with, substituted, value_pieces, from_operator, operator_pieces, line_pieces, line_change_spans}
 use Rattle.mk_edit_language.proofs.on_values.RemoveWordLemmas.{remove_word-old}
 use Rattle.mk_edit_language.specs.WordPieces.{add_pieces, remove_pieces, rename_pieces, renamed_pieces, header_pieces, kept, put_last, prerequisite_text, removed_words, renamed_words}
 use Rattle.mk_edit_language.proofs.on_prerequisites.WordsRemoved.{removed-old_cells}
@@ -52,6 +52,8 @@ use Rattle.mk_edit_language.proofs.on_lines.PrefixLemmas.{CanBegin, context-can_
 use Rattle.mk_edit_language.proofs.on_edits.EditPlaces.{IsSpotOf, found-spot, touched-stretch}
 use Rattle.mk_edit_language.proofs.on_lines.ClassParts.{part_units, parts-within, raw_width-append}
 use Rattle.mk_edit_language.proofs.on_renames.WordsRenamed.{renamed-old_cells}
+use Rattle.mk_edit_language.proofs.on_changes.WordsBeside.{beside-old_cells}
+use Rattle.mk_edit_language.specs.declared.edit.Side.{Side}
 
 -- ---- inside a line
 
@@ -309,11 +311,15 @@ substituted-width f v zero (c ∷ cs) = go (begins_with f (c ∷ cs)) (substitut
         let y = length-append (raw_bytes c) [] in
         omega (arith, e, x, y, k)
 
-value-width : (c : LineChange) (us : List (List Cell)) → old_length (value_pieces c us) ≤ raw_width us
-value-width (Prepend v) us = let e = kept-length us in omega (arith, e)
-value-width (ReplaceWord w v) us = let e = renamed-length w v us in omega (arith, e)
-value-width (Substitute f v) us = substituted-width f v 0 (concat us)
-value-width (SetOperator o) us = let e = kept-length us in omega (arith, e)
+beside-length : (s : Side) (f : List Cell → List ℕ) (w n : List ℕ) (us : List (List Cell)) → old_length (tokens_beside s f w n [] (tokens joined_byte us)) ≡ raw_width us
+beside-length s f w n us = old_length-cells (tokens_beside s f w n [] (tokens joined_byte us)) us (beside-old_cells s f w n [] (tokens joined_byte us) ∙ token_text-tokens joined_byte us)
+
+value-width : (f : List Cell → List ℕ) (c : LineChange) (us : List (List Cell)) → old_length (value_pieces f c us) ≤ raw_width us
+value-width f (Prepend v) us = let e = kept-length us in omega (arith, e)
+value-width f (ReplaceWord w v) us = let e = renamed-length w v us in omega (arith, e)
+value-width f (InsertWord s w n) us = let e = beside-length s f w n us in omega (arith, e)
+value-width f (Substitute x v) us = substituted-width x v 0 (concat us)
+value-width f (SetOperator o) us = let e = kept-length us in omega (arith, e)
 
 operator-width : (c : LineChange) (a : Assignment Cell) → old_length (operator_pieces c a) ≡ raw_width a.operator
 operator-width (SetOperator f) a =
@@ -327,16 +333,17 @@ operator-width (SetOperator f) a =
     omega (arith, x, y, z, w, kept-length gap, kept-length (drop n rest))
 operator-width (Prepend v) a = kept-length a.operator
 operator-width (ReplaceWord w v) a = kept-length a.operator
+operator-width (InsertWord s w n) a = kept-length a.operator
 operator-width (Substitute f v) a = kept-length a.operator
 
 pub line_change-rises : (c : LineChange) → RiseInAssignment (line_change_spans c)
 line_change-rises c at a n h =
     let ps = line_pieces c a in
-    let x = old_length-append (kept (a.before ++ a.name)) (operator_pieces c a ++ value_pieces c a.value) in
-    let y = old_length-append (operator_pieces c a) (value_pieces c a.value) in
+    let x = old_length-append (kept (a.before ++ a.name)) (operator_pieces c a ++ value_pieces raw_text c a.value) in
+    let y = old_length-append (operator_pieces c a) (value_pieces raw_text c a.value) in
     let b : raw_width (before_value a) ≡ raw_width (a.before ++ a.name) + raw_width a.operator =
     ap raw_width (sym (append_assoc a.before a.name a.operator)) ∙ raw_width-append (a.before ++ a.name) a.operator in
-    let most : at + old_length ps ≤ at + n = omega (arith, x, y, b, kept-length (a.before ++ a.name), operator-width c a, value-width c a.value, assignment-length a, h) in
+    let most : at + old_length ps ≤ at + n = omega (arith, x, y, b, kept-length (a.before ++ a.name), operator-width c a, value-width raw_text c a.value, assignment-length a, h) in
     Rise-until at (at + old_length ps) (at + n) (replacements at ps) (Rise-pieces at ps) most
 
 -- ---- several lines

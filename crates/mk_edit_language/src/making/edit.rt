@@ -4,7 +4,7 @@ ghost use Rattle.mk_edit_language.specs.EditViews.{edit_of, place_of};
 ghost use Rattle.mk_edit_language.specs.Edits as edits;
 ghost use Rattle.mk_edit_language.specs.Numbered.{numbered};
 
-use crate::edit::{Edit, ValueChange};
+use crate::edit::{Edit, LineChange, Side, ValueChange};
 use crate::making::place::number_place;
 use mk_class::Flavor;
 use std::alloc::{AllocError, Allocator};
@@ -75,10 +75,10 @@ impl<A: Allocator + Copy> Edit<A> {
     {
         let name = Vec::from_slice(alloc, name)?;
         let value = Vec::from_slice(alloc, value)?;
-        Ok(Edit::PrependValue {
+        Ok(Edit::ChangeLine {
             nth: None,
             name,
-            value,
+            change: LineChange::Prepend(value),
         })
     }
 
@@ -95,12 +95,29 @@ impl<A: Allocator + Copy> Edit<A> {
         let name = Vec::from_slice(alloc, name)?;
         let word = Vec::from_slice(alloc, word)?;
         let value = Vec::from_slice(alloc, value)?;
-        Ok(Edit::ReplaceWord {
+        Ok(Edit::ChangeLine {
             nth: None,
             name,
-            word,
-            value,
+            change: LineChange::ReplaceWord { word, value },
         })
+    }
+
+    /// Puts a word before another one of the value of the only assignment of a name:
+    /// `add-before NAME WORD NEW`.
+    pub fn add_before(alloc: A, name: &[u8], word: &[u8], new: &[u8]) -> Result<Edit<A>, AllocError>
+        ensures { IfOk result (λ e. edit_of e
+            ≡ edits.ChangeLine None name.now (edits.InsertWord Side.Before word.now new.now)) }
+    {
+        insert_word(alloc, name, Side::Before, word, new)
+    }
+
+    /// Puts a word after another one of the value of the only assignment of a name:
+    /// `add-after NAME WORD NEW`.
+    pub fn add_after(alloc: A, name: &[u8], word: &[u8], new: &[u8]) -> Result<Edit<A>, AllocError>
+        ensures { IfOk result (λ e. edit_of e
+            ≡ edits.ChangeLine None name.now (edits.InsertWord Side.After word.now new.now)) }
+    {
+        insert_word(alloc, name, Side::After, word, new)
     }
 
     /// Puts a text in the place of each occurrence of another in the value of the only assignment
@@ -111,11 +128,10 @@ impl<A: Allocator + Copy> Edit<A> {
         let name = Vec::from_slice(alloc, name)?;
         let from = Vec::from_slice(alloc, from)?;
         let to = Vec::from_slice(alloc, to)?;
-        Ok(Edit::SubstituteValue {
+        Ok(Edit::ChangeLine {
             nth: None,
             name,
-            from,
-            to,
+            change: LineChange::Substitute { from, to },
         })
     }
 
@@ -124,10 +140,10 @@ impl<A: Allocator + Copy> Edit<A> {
         ensures { IfOk result (λ e. edit_of e ≡ edits.ChangeLine None name.now (edits.SetOperator operator)) }
     {
         let name = Vec::from_slice(alloc, name)?;
-        Ok(Edit::SetOperator {
+        Ok(Edit::ChangeLine {
             nth: None,
             name,
-            operator,
+            change: LineChange::SetOperator(operator),
         })
     }
 
@@ -373,10 +389,7 @@ pub fn number_edit<A: Allocator>(edit: &mut Edit<A>, number: u32)
         Edit::AppendValue { nth, .. } => *nth = Some(number),
         Edit::AddWord { nth, .. } => *nth = Some(number),
         Edit::RemoveWord { nth, .. } => *nth = Some(number),
-        Edit::PrependValue { nth, .. } => *nth = Some(number),
-        Edit::ReplaceWord { nth, .. } => *nth = Some(number),
-        Edit::SubstituteValue { nth, .. } => *nth = Some(number),
-        Edit::SetOperator { nth, .. } => *nth = Some(number),
+        Edit::ChangeLine { nth, .. } => *nth = Some(number),
         Edit::RemoveAssign { nth, .. } => *nth = Some(number),
         Edit::RemoveRule { nth, .. } => *nth = Some(number),
         Edit::AddPrereq { nth, .. } => *nth = Some(number),
@@ -391,4 +404,25 @@ pub fn number_edit<A: Allocator>(edit: &mut Edit<A>, number: u32)
         Edit::AddRule { place, .. } => number_place(place, number),
         Edit::ChangeValues { .. } | Edit::RenameTarget { .. } => {}
     }
+}
+
+// Puts a word on one side of another one of the value of the only assignment of a name.
+fn insert_word<A: Allocator + Copy>(
+    alloc: A,
+    name: &[u8],
+    side: Side,
+    word: &[u8],
+    new: &[u8],
+) -> Result<Edit<A>, AllocError>
+    ensures { IfOk result (λ e. edit_of e
+        ≡ edits.ChangeLine None name.now (edits.InsertWord side word.now new.now)) }
+{
+    let name = Vec::from_slice(alloc, name)?;
+    let word = Vec::from_slice(alloc, word)?;
+    let new = Vec::from_slice(alloc, new)?;
+    Ok(Edit::ChangeLine {
+        nth: None,
+        name,
+        change: LineChange::InsertWord { side, word, new },
+    })
 }

@@ -53,10 +53,12 @@ pub text_at-length : (t : List ℕ) (p : Span) → IsWithin (length t) p → len
 text_at-length t p h = length-take-le (p.end - p.start) (drop p.start t) (omega (arith, length-drop p.start t, h.0, h.1))
 
 -- the words of a part stand within it
+pub text-words : (t : List ℕ) (p : Span) (ws : List Span) → IsWithin (length t) p → ws ≡ word_ranges (text_at t p) → AreWithin (p.end - p.start) ws
+text-words t p ws h e = subst (AreWithin (p.end - p.start)) (sym e) (subst (λ m. AreWithin m (word_ranges (text_at t p))) (text_at-length t p h) (words-within (text_at t p)))
+
+-- the words of a part of a line's text
 pub part-words : (cs : List Cell) (p : Span) (ws : List Span) → IsWithin (length cs) p → ws ≡ word_ranges (text_at (joined_text cs) p) → AreWithin (p.end - p.start) ws
-part-words cs p ws h e =
-    let n : length (text_at (joined_text cs) p) ≡ p.end - p.start = text_at-length (joined_text cs) p (h.0, omega (arith, h.1, length-map cs joined_byte)) in
-    subst (AreWithin (p.end - p.start)) (sym e) (subst (λ m. AreWithin m (word_ranges (text_at (joined_text cs) p))) n (words-within (text_at (joined_text cs) p)))
+part-words cs p ws h e = text-words (joined_text cs) p ws (h.0, omega (arith, h.1, length-map cs joined_byte)) e
 
 -- the first of some ranges that stand within the line does too
 pub first-within : (n : ℕ) (w : Span) (ws vs : List Span) → AreWithin n vs → vs ≡ w ∷ ws → IsWithin n w × AreWithin n ws

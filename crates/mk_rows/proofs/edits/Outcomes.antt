@@ -59,7 +59,7 @@ are_same_texts [] [] = true
 are_same_texts (x ∷ xs) (y ∷ ys) = bytes_eq x y && are_same_texts xs ys
 are_same_texts xs ys = false
 
-abbrev is_same_reading : List Item → List Item → Bool
+abbrev pub is_same_reading : List Item → List Item → Bool
 is_same_reading [] [] = true
 is_same_reading (x ∷ xs) (y ∷ ys) = are_same_texts (item_texts x) (item_texts y) && is_same_reading xs ys
 is_same_reading xs ys = false
@@ -77,7 +77,7 @@ pub data Outcome : Type 0 where
   Refused : Refusal → Outcome
   ReadsOtherwise : Outcome
 
-abbrev becomes : (is_read_as_changed : Bool) → (after : List ℕ) → Outcome
+abbrev pub becomes : (is_read_as_changed : Bool) → (after : List ℕ) → Outcome
 becomes true a = Becomes a
 becomes false a = ReadsOtherwise
 

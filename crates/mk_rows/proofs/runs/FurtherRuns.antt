@@ -4,6 +4,7 @@ use Rattle.std.specs.Prelude.{codes}
 use Rattle.std.specs.Fmt.{digits}
 use Rattle.mk_class.specs.declared.assignment.Flavor.TheVariants.{PosixSimple, Shell}
 use Rattle.mk_edit_language.specs.declared.edit.RuleSeparator.TheVariants.{Single}
+use Rattle.mk_edit_language.specs.declared.edit.Side.TheVariants.{Before, After}
 use Rattle.mk_edit_language.specs.Edits.{Bottom}
 use Rattle.mk_edit_language.specs.Edits.{One, Every, NewRule, ByText, At, OfAssign, OfRecipe, ChangeValue, ChangeLine, AddLine, AddRecipe, RemoveLines}
 use Rattle.mk_edit_language.specs.Edits as edits
@@ -24,9 +25,14 @@ ends outcome report output = record { outcome = outcome; report = report; output
 
 abbrev rows_1 : List (Bool × ℕ × List ℕ × List Step × RunResult)
 rows_1 =
+    (false, 100, codes "S = a.c\n", on_line 1 (Apply (ChangeLine None (codes "S") (edits.InsertWord After (codes "a.c") (codes "x.c")))) ∷ tried_on 2 (ChangeLine None (codes "S") (edits.InsertWord After (codes "a.c") (codes "x.c"))) ∷ on_line 3 (Apply (ChangeLine None (codes "S") (edits.InsertWord Before (codes "a.c") (codes "w.c")))) ∷ on_line 4 Undo ∷ [], ends Done [] (Some (codes "S = a.c x.c\n"))) ∷  -- further-run-6
+    (false, 100, codes "S = a.c\n", Chain (edit_on 1 (ChangeLine None (codes "S") (edits.InsertWord After (codes "b.c") (codes "x.c")))) (edit_on 2 (ChangeLine None (codes "S") (edits.InsertWord After (codes "a.c") (codes "x.c")))) [] ∷ [], ends Done [] (Some (codes "S = a.c\n"))) ∷  -- further-run-7
+    (false, 100, codes "S = a.c\n", Chain (edit_on 1 (ChangeLine None (codes "T") (edits.InsertWord After (codes "a.c") (codes "x.c")))) (edit_on 2 (ChangeLine None (codes "S") (edits.InsertWord After (codes "a.c") (codes "x.c")))) ((edit_on 3 (ChangeValue (One None) (codes "S") (edits.Set (codes "b")))) ∷ []) ∷ [], ends Done [] (Some (codes "S = a.c x.c\n"))) ∷  -- further-run-8
     (false, 100, codes "F = a\n", on_line 1 (Apply (ChangeLine None (codes "F") (edits.ReplaceWord (codes "a") (codes "a x")))) ∷ on_line 2 (Apply (ChangeLine None (codes "F") (edits.ReplaceWord (codes "a") (codes "a x")))) ∷ [], ends Done [] (Some (codes "F = a x x\n"))) ∷  -- further-run-31
+    (false, 100, codes "S = a a\n", Chain (edit_on 1 (ChangeLine None (codes "S") (edits.InsertWord After (codes "a") (codes "b")))) (edit_on 2 (ChangeValue (One None) (codes "S") (edits.Set (codes "c")))) [] ∷ [], ends (Refused 1) (codes "1: refused 5 Ambiguous 2\n") None) ∷  -- further-run-67
+    (false, 100, codes "S = a b a\n", tried_on 1 (ChangeLine None (codes "S") (edits.InsertWord After (codes "a") (codes "b"))) ∷ on_line 2 (Apply (ChangeValue (One None) (codes "S") (edits.Set (codes "c")))) ∷ [], ends Done [] (Some (codes "S = c\n"))) ∷  -- further-run-68
+    (false, 100, codes "override= $(a\tb)\nF ?= -O2 \\\n    $x \n\tfor f in x; do \\\na: b& b&\n\tfor f in x; do \\\n\t  cc $$f; \\\n\tdone\nc: ; true\nF\\\n?=$(a b)\n\t\ttrue\na.b = #\n", on_line 1 (Apply (ChangeLine (Some 1) (codes "F") (edits.InsertWord After (codes "-O2") (codes "-O3")))) ∷ [], ends Done [] (Some (codes "override= $(a\tb)\nF ?= -O2 \\\n    -O3 \\\n    $x \n\tfor f in x; do \\\na: b& b&\n\tfor f in x; do \\\n\t  cc $$f; \\\n\tdone\nc: ; true\nF\\\n?=$(a b)\n\t\ttrue\na.b = #\n"))) ∷  -- further-run-109
     (true, 100, codes ".RECIPEPREFIX = F\nc:\n\ttrue \\\r\n\ttrue\n# F=-g b", on_line 1 (Apply (RemoveLines (OfAssign None (codes "X")))) ∷ [], ends (Refused 1) (codes "1: refused 4 NoSuch\n") (Some (codes ".RECIPEPREFIX = F\nc:\n\ttrue \\\r\n\ttrue\n# F=-g b"))) ∷  -- further-run-118
-    (false, 100, codes "## F = 1\na.b=-g $\\\n\\\n;\na.b += -g $\\\n\\\n;\na: a b b& | a d\nendif\nifdef A\n\ta\\\r\n\tb\n\t#\\\\\n# F=-g b\nifdef A\nF =\\\n -O2\nendif\n", on_line 1 (Apply (ChangeLine None (codes "F") (edits.SetOperator Shell))) ∷ [], ends Done [] (Some (codes "## F = 1\na.b=-g $\\\n\\\n;\na.b += -g $\\\n\\\n;\na: a b b& | a d\nendif\nifdef A\n\ta\\\r\n\tb\n\t#\\\\\n# F=-g b\nifdef A\nF !=\\\n -O2\nendif\n"))) ∷  -- further-run-133
     (true, 2, codes "override define X =\r\nendef\r\nc d: b& a a ; true\r\n\tcc -s y; cc -s z\r\nifdef A\r\nexport F = b\\\r\n$(A -g)\r\nelse\r\nF = -O2 b \\\r\n    | b\r\nendif\r\n#Y=\r\nc: x.o ; true\r\n", [], ends Done [] (Some (codes "override define X =\r\nendef\r\nc d: b& a a ; true\r\n\tcc -s y; cc -s z\r\nifdef A\r\nexport F = b\\\r\n$(A -g)\r\nelse\r\nF = -O2 b \\\r\n    | b\r\nendif\r\n#Y=\r\nc: x.o ; true\r\n"))) ∷  -- further-run-136
     (true, 100, codes "F = $(t \\\n -g) -O2 $(s (b) a)\nF\\\n= $(t \\\n -g) b\\\n\t-g a\t|# a \\\\\nF ::= $x \\\r\n -g\\\n\t-g\\\nx$(a  b) ${c}# a \\\\", [], ends Done [] (Some (codes "F = $(t \\\n -g) -O2 $(s (b) a)\nF\\\n= $(t \\\n -g) b\\\n\t-g a\t|# a \\\\\nF ::= $x \\\r\n -g\\\n\t-g\\\nx$(a  b) ${c}# a \\\\"))) ∷  -- further-run-144
     (true, 2, codes "F = a | = # a \\\\\r\nF += ; -g ;\tx$(a  b) \\\r\n    a$  \r\noverride X ::= $(a\tb)#-g\r\n", on_line 1 (Apply (ChangeValue (One None) (codes "X") (edits.Remove (codes "$(a\tb)")))) ∷ Chain (edit_on 2 (ChangeLine (Some 0) (codes "X") (edits.Substitute (codes "\\") (codes "$$")))) (edit_on 4 (ChangeValue (One (Some 1)) (codes "F") (edits.Append (codes "$ b")))) [] ∷ tried_on 5 (ChangeValue (One (Some 1)) (codes "F") (edits.Set (codes "$(q:;=|)"))) ∷ [], ends Done [] (Some (codes "F = $(q:;=|) # a \\\\\r\nF += ; -g ;\tx$(a  b) \\\r\n    a$  \r\noverride X ::= #-g\r\n"))) ∷  -- further-run-176
@@ -36,6 +42,7 @@ rows_1 =
     (false, 2, codes "override F= \nX= -g\tb \n", on_line 1 (Apply (ChangeValue (One None) (codes "F") (edits.Add (codes "a")))) ∷ on_line 2 (Apply (ChangeLine None (codes "X") (edits.SetOperator PosixSimple))) ∷ on_line 3 (Apply (RemoveLines (OfAssign (Some 1) (codes "F")))) ∷ tried_on 4 (ChangeValue Every (codes "X") (edits.Set (codes "-O2"))) ∷ [], ends Done [] (Some (codes "X::= -O2 \n"))) ∷  -- further-run-221
     (true, 100, codes "override !=  # \\\n d\nc d: $(w a) $(w a)\ndefine D\n\tababa aaa\n", on_line 1 (Apply (ChangeValue Every (codes "override") (edits.Append (codes "a \\#")))) ∷ on_line 2 (Apply (ChangeLine None (codes "override") (edits.ReplaceWord (codes "\\#") (codes "b x=1")))) ∷ [], ends Done [] (Some (codes "override !=  a b x=1# \\\n d\nc d: $(w a) $(w a)\ndefine D\n\tababa aaa\n"))) ∷  -- further-run-230
     (false, 100, codes "F\\\r\n+= a -g#\r\ni: b a\r\nF =$x\\\r\n\\\r\na \\\r\n    | a\r\nF = -g\r\nendif\r\n#X = 1\r\nd: a\r\n\r\n\ttrue\r\nifdef A\r\n", tried_on 1 (AddLine Bottom (NewRule (codes "x.o") Single [])) ∷ on_line 2 (Apply (AddRecipe None (codes "d") (At 2) (codes "a"))) ∷ [], ends Done [] (Some (codes "F\\\r\n+= a -g#\r\ni: b a\r\nF =$x\\\r\n\\\r\na \\\r\n    | a\r\nF = -g\r\nendif\r\n#X = 1\r\nd: a\r\n\r\n\ttrue\r\n\ta\r\nifdef A\r\nx.o:\r\n"))) ∷  -- further-run-235
+    (true, 100, codes "override F\\\r\n=\\\r\n -g  $(a b)  \\\r\nF = -g ${v a -g\r\nF += -g ${v a -g\r\nF = -g ${v a -g\r\n", on_line 1 Redo ∷ on_line 2 (Apply (ChangeLine (Some 1) (codes "F") (edits.InsertWord After (codes "F") (codes "-lz")))) ∷ on_line 3 (Apply (ChangeValue (One (Some 1)) (codes "F") (edits.Remove (codes "-g")))) ∷ [], ends (Refused 2) (codes "1: refused 17 NothingToRedo\n3: refused 11 OpenValue\n") (Some (codes "override F\\\r\n=\\\r\n -g  $(a b)  \\\r\nF -lz = -g ${v a -g\r\nF += -g ${v a -g\r\nF = -g ${v a -g\r\n"))) ∷  -- further-run-242
     (true, 100, codes "F = -g\\\nb $(a\tb)\\\n\\\n-g# \\\n d\n# X = \0\n\t  cc $$f; \\\n", on_line 1 Undo ∷ on_line 2 (Apply (ChangeValue (One None) (codes "F") (edits.Add (codes "-g")))) ∷ on_line 3 Begin ∷ on_line 4 (Apply (ChangeLine (Some 1) (codes "F") (edits.SetOperator Shell))) ∷ on_line 5 Redo ∷ [], ends (Refused 3) (codes "1: refused 16 NothingToUndo\n2: refused 7 Already\n5: refused 18 GroupOpen\n") (Some (codes "F != -g\\\nb $(a\tb)\\\n\\\n-g# \\\n d\n# X = \0\n\t  cc $$f; \\\n"))) ∷  -- further-run-292
     []
 

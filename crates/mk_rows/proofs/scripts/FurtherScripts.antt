@@ -4,8 +4,9 @@ use Rattle.std.specs.Prelude.{codes, Result, Ok, Err}
 use Rattle.bstr.specs.Text.{line_len, lines_from}
 use Rattle.mk_class.specs.declared.assignment.Flavor.TheVariants.{Recursive, Simple, PosixSimple, Immediate, Conditional, Append, Shell}
 use Rattle.mk_edit_language.specs.declared.edit.RuleSeparator.TheVariants.{Single, Double}
+use Rattle.mk_edit_language.specs.declared.edit.Side.TheVariants.{Before, After}
 use Rattle.mk_edit_language.specs.Edits.{Bottom, BeforeVar, AfterVar, BeforeRule}
-use Rattle.mk_edit_language.specs.Edits.{One, Every, NewAssign, NewRule, ByText, At, OfAssign, OfRule, OfRecipe, ChangeValue, ChangeLine, AddLine, AddRecipe, RemoveLines}
+use Rattle.mk_edit_language.specs.Edits.{One, Every, NewAssign, NewRule, ByText, At, OfAssign, OfRule, OfRecipe, ChangeValue, ChangeLine, AddLine, AddRecipe, SetRecipe, RemoveLines, RenameTarget}
 use Rattle.mk_edit_language.specs.Edits as edits
 use Rattle.mk_history.specs.Machine.{Apply, Undo, Redo, Begin, End}
 use Rattle.mk_script.specs.Scripts.{Step, Chain}
@@ -13,6 +14,9 @@ use Rattle.mk_rows.proofs.scripts.ScriptReader.{on_line, edit_on, tried_on, read
 
 abbrev rows_1 : List (List ℕ × Result (List Step) ℕ)
 rows_1 =
+    (codes "add-after S a.c x.c\ntry add-after S a.c x.c\nadd-before S a.c w.c\nundo\n", Ok (on_line 1 (Apply (ChangeLine None (codes "S") (edits.InsertWord After (codes "a.c") (codes "x.c")))) ∷ tried_on 2 (ChangeLine None (codes "S") (edits.InsertWord After (codes "a.c") (codes "x.c"))) ∷ on_line 3 (Apply (ChangeLine None (codes "S") (edits.InsertWord Before (codes "a.c") (codes "w.c")))) ∷ on_line 4 Undo ∷ [])) ∷  -- further-run-6
+    (codes "add-after S b.c x.c\nor add-after S a.c x.c\n", Ok (Chain (edit_on 1 (ChangeLine None (codes "S") (edits.InsertWord After (codes "b.c") (codes "x.c")))) (edit_on 2 (ChangeLine None (codes "S") (edits.InsertWord After (codes "a.c") (codes "x.c")))) [] ∷ [])) ∷  -- further-run-7
+    (codes "add-after T a.c x.c\nor add-after S a.c x.c\nor set S b\n", Ok (Chain (edit_on 1 (ChangeLine None (codes "T") (edits.InsertWord After (codes "a.c") (codes "x.c")))) (edit_on 2 (ChangeLine None (codes "S") (edits.InsertWord After (codes "a.c") (codes "x.c")))) ((edit_on 3 (ChangeValue (One None) (codes "S") (edits.Set (codes "b")))) ∷ []) ∷ [])) ∷  -- further-run-8
     (codes "replace F a \"a x\"\nreplace F a \"a x\"", Ok (on_line 1 (Apply (ChangeLine None (codes "F") (edits.ReplaceWord (codes "a") (codes "a x")))) ∷ on_line 2 (Apply (ChangeLine None (codes "F") (edits.ReplaceWord (codes "a") (codes "a x")))) ∷ [])) ∷  -- further-run-31
     (codes "all uncomment X", Err 1) ∷  -- further-run-50
     (codes "all comment-out X", Err 1) ∷  -- further-run-51
@@ -25,6 +29,9 @@ rows_1 =
     (codes "all insert top x", Err 1) ∷  -- further-run-58
     (codes "all depend-replace a b c", Err 1) ∷  -- further-run-59
     (codes "operator X ==", Err 1) ∷  -- further-run-61
+    (codes "add-after S a b\nor set S c", Ok (Chain (edit_on 1 (ChangeLine None (codes "S") (edits.InsertWord After (codes "a") (codes "b")))) (edit_on 2 (ChangeValue (One None) (codes "S") (edits.Set (codes "c")))) [] ∷ [])) ∷  -- further-run-67
+    (codes "try add-after S a b\nset S c", Ok (tried_on 1 (ChangeLine None (codes "S") (edits.InsertWord After (codes "a") (codes "b"))) ∷ on_line 2 (Apply (ChangeValue (One None) (codes "S") (edits.Set (codes "c")))) ∷ [])) ∷  -- further-run-68
+    (codes "nth \"001\" add-after \"F\" -O2 -O3\r\n", Ok (on_line 1 (Apply (ChangeLine (Some 1) (codes "F") (edits.InsertWord After (codes "-O2") (codes "-O3")))) ∷ [])) ∷  -- further-run-109
     (codes " \"unset\" X\n", Ok (on_line 1 (Apply (RemoveLines (OfAssign None (codes "X")))) ∷ [])) ∷  -- further-run-118
     (codes "operator\tF\t\"!=\"", Ok (on_line 1 (Apply (ChangeLine None (codes "F") (edits.SetOperator Shell))) ∷ [])) ∷  -- further-run-133
     (codes "\r\n", Ok []) ∷  -- further-run-136
@@ -34,13 +41,19 @@ rows_1 =
     (codes "recipe-remove a t\r\nend\r\nbegin\r\n", Ok (on_line 1 (Apply (RemoveLines (OfRecipe None (codes "a") (ByText (codes "t"))))) ∷ on_line 2 End ∷ on_line 3 Begin ∷ [])) ∷  -- further-run-194
     (codes "begin\nundo\n", Ok (on_line 1 Begin ∷ on_line 2 Undo ∷ [])) ∷  -- further-run-199
     (codes "nth 1 add F \\#\n", Ok (on_line 1 (Apply (ChangeValue (One (Some 1)) (codes "F") (edits.Add (codes "\\#")))) ∷ [])) ∷  -- further-run-203
+    (codes "nth  1  add-before  override  \"$(a\tb)\"  $x\n", Ok (on_line 1 (Apply (ChangeLine (Some 1) (codes "override") (edits.InsertWord Before (codes "$(a\tb)") (codes "$x")))) ∷ [])) ∷  -- further-run-210
     (codes "add F \"a\"\noperator X ::=\nnth\t1\tunset\t\"F\"\ntry all set \"X\" -O2\n", Ok (on_line 1 (Apply (ChangeValue (One None) (codes "F") (edits.Add (codes "a")))) ∷ on_line 2 (Apply (ChangeLine None (codes "X") (edits.SetOperator PosixSimple))) ∷ on_line 3 (Apply (RemoveLines (OfAssign (Some 1) (codes "F")))) ∷ tried_on 4 (ChangeValue Every (codes "X") (edits.Set (codes "-O2"))) ∷ [])) ∷  -- further-run-221
     (codes "all append \"override\" \"a \\\\#\"\r\nreplace \"override\" \\# \"b x=1\"\r\n", Ok (on_line 1 (Apply (ChangeValue Every (codes "override") (edits.Append (codes "a \\#")))) ∷ on_line 2 (Apply (ChangeLine None (codes "override") (edits.ReplaceWord (codes "\\#") (codes "b x=1")))) ∷ [])) ∷  -- further-run-230
     (codes "try rule bottom x.o : \"\"\n\"recipe-insert\" d 2 a\n", Ok (tried_on 1 (AddLine Bottom (NewRule (codes "x.o") Single [])) ∷ on_line 2 (Apply (AddRecipe None (codes "d") (At 2) (codes "a"))) ∷ [])) ∷  -- further-run-235
     (codes "\"unrule\" a\n", Ok (on_line 1 (Apply (RemoveLines (OfRule None (codes "a")))) ∷ [])) ∷  -- further-run-239
+    (codes "redo\nnth 001 add-after F F -lz\n \"nth\" 1 drop F -g\n", Ok (on_line 1 Redo ∷ on_line 2 (Apply (ChangeLine (Some 1) (codes "F") (edits.InsertWord After (codes "F") (codes "-lz")))) ∷ on_line 3 (Apply (ChangeValue (One (Some 1)) (codes "F") (edits.Remove (codes "-g")))) ∷ [])) ∷  -- further-run-242
     (codes "\"nth\" 3 subst F \"$(w a)\" x\n", Ok (on_line 1 (Apply (ChangeLine (Some 3) (codes "F") (edits.Substitute (codes "$(w a)") (codes "x")))) ∷ [])) ∷  -- further-run-289
     (codes "undo\nadd F -g\nbegin\n nth \"001\" operator F !=\nredo", Ok (on_line 1 Undo ∷ on_line 2 (Apply (ChangeValue (One None) (codes "F") (edits.Add (codes "-g")))) ∷ on_line 3 Begin ∷ on_line 4 (Apply (ChangeLine (Some 1) (codes "F") (edits.SetOperator Shell))) ∷ on_line 5 Redo ∷ [])) ∷  -- further-run-292
     (codes "replace F -O2 \"-O3 -g\"", Ok (on_line 1 (Apply (ChangeLine None (codes "F") (edits.ReplaceWord (codes "-O2") (codes "-O3 -g")))) ∷ [])) ∷  -- further-0
+    (codes "add-after S a.c x.c", Ok (on_line 1 (Apply (ChangeLine None (codes "S") (edits.InsertWord After (codes "a.c") (codes "x.c")))) ∷ [])) ∷  -- further-1
+    (codes "add-after S b.c x.c", Ok (on_line 1 (Apply (ChangeLine None (codes "S") (edits.InsertWord After (codes "b.c") (codes "x.c")))) ∷ [])) ∷  -- further-2
+    (codes "add-before S a.c x.c", Ok (on_line 1 (Apply (ChangeLine None (codes "S") (edits.InsertWord Before (codes "a.c") (codes "x.c")))) ∷ [])) ∷  -- further-3
+    (codes "add-after S a.c b.c", Ok (on_line 1 (Apply (ChangeLine None (codes "S") (edits.InsertWord After (codes "a.c") (codes "b.c")))) ∷ [])) ∷  -- further-4
     (codes "subst D /usr/local /usr", Ok (on_line 1 (Apply (ChangeLine None (codes "D") (edits.Substitute (codes "/usr/local") (codes "/usr")))) ∷ [])) ∷  -- further-5
     (codes "subst F \"a \" \"\"", Ok (on_line 1 (Apply (ChangeLine None (codes "F") (edits.Substitute (codes "a ") []))) ∷ [])) ∷  -- further-6
     (codes "subst F a \"\"", Ok (on_line 1 (Apply (ChangeLine None (codes "F") (edits.Substitute (codes "a") []))) ∷ [])) ∷  -- further-7
@@ -49,6 +62,27 @@ rows_1 =
     (codes "operator CC ?=", Ok (on_line 1 (Apply (ChangeLine None (codes "CC") (edits.SetOperator Conditional))) ∷ [])) ∷  -- further-13
     (codes "prepend L -lz", Ok (on_line 1 (Apply (ChangeLine None (codes "L") (edits.Prepend (codes "-lz")))) ∷ [])) ∷  -- further-14
     (codes "drop F -g", Ok (on_line 1 (Apply (ChangeValue (One None) (codes "F") (edits.Remove (codes "-g")))) ∷ [])) ∷  -- further-41
+    (codes "add-after F a b", Ok (on_line 1 (Apply (ChangeLine None (codes "F") (edits.InsertWord After (codes "a") (codes "b")))) ∷ [])) ∷  -- further-81
+    (codes "add-after F a c", Ok (on_line 1 (Apply (ChangeLine None (codes "F") (edits.InsertWord After (codes "a") (codes "c")))) ∷ [])) ∷  -- further-82
+    []
+
+answers_1 : map (λ row. read_script row.0) rows_1 ≡ map (λ row. row.1) rows_1
+unfolding line_len lines_from
+answers_1 = refl
+
+abbrev rows_2 : List (List ℕ × Result (List Step) ℕ)
+rows_2 =
+    (codes "add-after F a a", Ok (on_line 1 (Apply (ChangeLine None (codes "F") (edits.InsertWord After (codes "a") (codes "a")))) ∷ [])) ∷  -- further-83
+    (codes "add-before F c b", Ok (on_line 1 (Apply (ChangeLine None (codes "F") (edits.InsertWord Before (codes "c") (codes "b")))) ∷ [])) ∷  -- further-84
+    (codes "add-after S a x", Ok (on_line 1 (Apply (ChangeLine None (codes "S") (edits.InsertWord After (codes "a") (codes "x")))) ∷ [])) ∷  -- further-105
+    (codes "add-before S b x", Ok (on_line 1 (Apply (ChangeLine None (codes "S") (edits.InsertWord Before (codes "b") (codes "x")))) ∷ [])) ∷  -- further-106
+    (codes "add-after S b x", Ok (on_line 1 (Apply (ChangeLine None (codes "S") (edits.InsertWord After (codes "b") (codes "x")))) ∷ [])) ∷  -- further-107
+    (codes "add-after S c x", Ok (on_line 1 (Apply (ChangeLine None (codes "S") (edits.InsertWord After (codes "c") (codes "x")))) ∷ [])) ∷  -- further-108
+    (codes "add-before S a x", Ok (on_line 1 (Apply (ChangeLine None (codes "S") (edits.InsertWord Before (codes "a") (codes "x")))) ∷ [])) ∷  -- further-110
+    (codes "add-after S \"$(w a)\" x", Ok (on_line 1 (Apply (ChangeLine None (codes "S") (edits.InsertWord After (codes "$(w a)") (codes "x")))) ∷ [])) ∷  -- further-114
+    (codes "add-after S a b", Ok (on_line 1 (Apply (ChangeLine None (codes "S") (edits.InsertWord After (codes "a") (codes "b")))) ∷ [])) ∷  -- further-117
+    (codes "add-after S a \"b c\"", Ok (on_line 1 (Apply (ChangeLine None (codes "S") (edits.InsertWord After (codes "a") (codes "b c")))) ∷ [])) ∷  -- further-118
+    (codes "add-after S \"\" b", Ok (on_line 1 (Apply (ChangeLine None (codes "S") (edits.InsertWord After [] (codes "b")))) ∷ [])) ∷  -- further-119
     (codes "subst F b c", Ok (on_line 1 (Apply (ChangeLine None (codes "F") (edits.Substitute (codes "b") (codes "c")))) ∷ [])) ∷  -- further-120
     (codes "subst F a x", Ok (on_line 1 (Apply (ChangeLine None (codes "F") (edits.Substitute (codes "a") (codes "x")))) ∷ [])) ∷  -- further-121
     (codes "subst F x \"\"", Ok (on_line 1 (Apply (ChangeLine None (codes "F") (edits.Substitute (codes "x") []))) ∷ [])) ∷  -- further-122
@@ -58,23 +92,27 @@ rows_1 =
     (codes "subst F \" \" :", Ok (on_line 1 (Apply (ChangeLine None (codes "F") (edits.Substitute (codes " ") (codes ":")))) ∷ [])) ∷  -- further-129
     (codes "subst F aa b", Ok (on_line 1 (Apply (ChangeLine None (codes "F") (edits.Substitute (codes "aa") (codes "b")))) ∷ [])) ∷  -- further-130
     (codes "subst F a \"\\\\\"", Ok (on_line 1 (Apply (ChangeLine None (codes "F") (edits.Substitute (codes "a") (codes "\\")))) ∷ [])) ∷  -- further-131
+    (codes "set X <<E", Ok (on_line 1 (Apply (ChangeValue (One None) (codes "X") (edits.Set (codes "<<E")))) ∷ [])) ∷  -- further-194
+    (codes "add-before S a b", Ok (on_line 1 (Apply (ChangeLine None (codes "S") (edits.InsertWord Before (codes "a") (codes "b")))) ∷ [])) ∷  -- further-234
+    (codes "add-before S a c", Ok (on_line 1 (Apply (ChangeLine None (codes "S") (edits.InsertWord Before (codes "a") (codes "c")))) ∷ [])) ∷  -- further-235
+    (codes "add-before S c b", Ok (on_line 1 (Apply (ChangeLine None (codes "S") (edits.InsertWord Before (codes "c") (codes "b")))) ∷ [])) ∷  -- further-236
+    (codes "recipe-replace a <<E x", Ok (on_line 1 (Apply (SetRecipe None (codes "a") (ByText (codes "<<E")) (codes "x"))) ∷ [])) ∷  -- further-249
+    (codes "rename <<E b", Ok (on_line 1 (Apply (RenameTarget (codes "<<E") (codes "b"))) ∷ [])) ∷  -- further-250
     (codes "\"nth\" 2 subst F -g $$", Ok (on_line 1 (Apply (ChangeLine (Some 2) (codes "F") (edits.Substitute (codes "-g") (codes "$$")))) ∷ [])) ∷  -- further-259
     (codes " \"operator\" X :=", Ok (on_line 1 (Apply (ChangeLine None (codes "X") (edits.SetOperator Simple))) ∷ [])) ∷  -- further-260
+    (codes "nth 1 add-after \"X\" \"$(a b)\" \"-O3\"", Ok (on_line 1 (Apply (ChangeLine (Some 1) (codes "X") (edits.InsertWord After (codes "$(a b)") (codes "-O3")))) ∷ [])) ∷  -- further-263
+    (codes "nth 0 add-after F $$ -O3", Ok (on_line 1 (Apply (ChangeLine (Some 0) (codes "F") (edits.InsertWord After (codes "$$") (codes "-O3")))) ∷ [])) ∷  -- further-264
     (codes "\"assign\" after-var \"F\" F \"=\" |", Ok (on_line 1 (Apply (AddLine (AfterVar None (codes "F")) (NewAssign (codes "F") Recursive (codes "|")))) ∷ [])) ∷  -- further-267
+    (codes "nth 3 add-after F -g x.c", Ok (on_line 1 (Apply (ChangeLine (Some 3) (codes "F") (edits.InsertWord After (codes "-g") (codes "x.c")))) ∷ [])) ∷  -- further-270
+    (codes " nth\t002\t\"add-before\"\ta.b\ta\t-O3", Ok (on_line 1 (Apply (ChangeLine (Some 2) (codes "a.b") (edits.InsertWord Before (codes "a") (codes "-O3")))) ∷ [])) ∷  -- further-271
     (codes "nth \"4294967295\" prepend \"F\" \"a:b $\\\\x\"", Ok (on_line 1 (Apply (ChangeLine (Some 4294967295) (codes "F") (edits.Prepend (codes "a:b $\\x")))) ∷ [])) ∷  -- further-276
+    (codes "add-before a.b = \"$(new a)\"", Ok (on_line 1 (Apply (ChangeLine None (codes "a.b") (edits.InsertWord Before (codes "=") (codes "$(new a)")))) ∷ [])) ∷  -- further-277
     (codes "\"rule\" bottom c : \"a\"", Ok (on_line 1 (Apply (AddLine Bottom (NewRule (codes "c") Single (codes "a")))) ∷ [])) ∷  -- further-285
-    []
-
-answers_1 : map (λ row. read_script row.0) rows_1 ≡ map (λ row. row.1) rows_1
-unfolding line_len lines_from
-answers_1 = refl
-
-abbrev rows_2 : List (List ℕ × Result (List Step) ℕ)
-rows_2 =
     (codes "rule bottom d \"::\" \"a\"", Ok (on_line 1 (Apply (AddLine Bottom (NewRule (codes "d") Double (codes "a")))) ∷ [])) ∷  -- further-286
     (codes "assign bottom \"F\" ::= \"-g b\"", Ok (on_line 1 (Apply (AddLine Bottom (NewAssign (codes "F") PosixSimple (codes "-g b")))) ∷ [])) ∷  -- further-292
     (codes "prepend X $(u", Ok (on_line 1 (Apply (ChangeLine None (codes "X") (edits.Prepend (codes "$(u")))) ∷ [])) ∷  -- further-302
     (codes "replace F ; a", Ok (on_line 1 (Apply (ChangeLine None (codes "F") (edits.ReplaceWord (codes ";") (codes "a")))) ∷ [])) ∷  -- further-305
+    (codes "add-before F \"a$ \" \"=\"", Ok (on_line 1 (Apply (ChangeLine None (codes "F") (edits.InsertWord Before (codes "a$ ") (codes "=")))) ∷ [])) ∷  -- further-312
     (codes "\"nth\" \"002\" assign \"before-rule\" c \"F\" :::= -O2", Ok (on_line 1 (Apply (AddLine (BeforeRule (Some 2) (codes "c")) (NewAssign (codes "F") Immediate (codes "-O2")))) ∷ [])) ∷  -- further-317
     (codes "assign before-rule \"a b\" F = \"b b\"", Ok (on_line 1 (Apply (AddLine (BeforeRule None (codes "a b")) (NewAssign (codes "F") Recursive (codes "b b")))) ∷ [])) ∷  -- further-319
     (codes "\"replace\" X x=1 \"|\"", Ok (on_line 1 (Apply (ChangeLine None (codes "X") (edits.ReplaceWord (codes "x=1") (codes "|")))) ∷ [])) ∷  -- further-320
@@ -84,20 +122,34 @@ rows_2 =
     (codes "rule bottom c : \"a b\"", Ok (on_line 1 (Apply (AddLine Bottom (NewRule (codes "c") Single (codes "a b")))) ∷ [])) ∷  -- further-349
     (codes "rule\tbefore-var\t\"X\"\tc\t::\t\"a b\"", Ok (on_line 1 (Apply (AddLine (BeforeVar None (codes "X")) (NewRule (codes "c") Double (codes "a b")))) ∷ [])) ∷  -- further-351
     (codes "prepend F -g", Ok (on_line 1 (Apply (ChangeLine None (codes "F") (edits.Prepend (codes "-g")))) ∷ [])) ∷  -- further-352
+    []
+
+answers_2 : map (λ row. read_script row.0) rows_2 ≡ map (λ row. row.1) rows_2
+unfolding line_len lines_from
+answers_2 = refl
+
+abbrev rows_3 : List (List ℕ × Result (List Step) ℕ)
+rows_3 =
+    (codes " nth \"3\" add-after F $x \"$(s (b) a)\"", Ok (on_line 1 (Apply (ChangeLine (Some 3) (codes "F") (edits.InsertWord After (codes "$x") (codes "$(s (b) a)")))) ∷ [])) ∷  -- further-357
+    (codes "nth 002 add-before override ! x.c", Ok (on_line 1 (Apply (ChangeLine (Some 2) (codes "override") (edits.InsertWord Before (codes "!") (codes "x.c")))) ∷ [])) ∷  -- further-363
     (codes "nth 5 replace F x= \"-g\"", Ok (on_line 1 (Apply (ChangeLine (Some 5) (codes "F") (edits.ReplaceWord (codes "x=") (codes "-g")))) ∷ [])) ∷  -- further-364
     (codes "assign \"bottom\" F = \"\"", Ok (on_line 1 (Apply (AddLine Bottom (NewAssign (codes "F") Recursive []))) ∷ [])) ∷  -- further-368
     (codes "rule bottom c : a", Ok (on_line 1 (Apply (AddLine Bottom (NewRule (codes "c") Single (codes "a")))) ∷ [])) ∷  -- further-370
+    (codes "\"nth\" 002 \"add-after\" F a -O3", Ok (on_line 1 (Apply (ChangeLine (Some 2) (codes "F") (edits.InsertWord After (codes "a") (codes "-O3")))) ∷ [])) ∷  -- further-378
     (codes "nth  3  \"prepend\"  \"F\"  |", Ok (on_line 1 (Apply (ChangeLine (Some 3) (codes "F") (edits.Prepend (codes "|")))) ∷ [])) ∷  -- further-381
     (codes "\"nth\" 2 operator X +=", Ok (on_line 1 (Apply (ChangeLine (Some 2) (codes "X") (edits.SetOperator Append))) ∷ [])) ∷  -- further-384
     (codes "nth 003 \"subst\" F ; #", Ok (on_line 1 (Apply (ChangeLine (Some 3) (codes "F") (edits.Substitute (codes ";") (codes "#")))) ∷ [])) ∷  -- further-387
     (codes "operator F !=", Ok (on_line 1 (Apply (ChangeLine None (codes "F") (edits.SetOperator Shell))) ∷ [])) ∷  -- further-388
+    (codes "add-before F a \"$(new a)\"", Ok (on_line 1 (Apply (ChangeLine None (codes "F") (edits.InsertWord Before (codes "a") (codes "$(new a)")))) ∷ [])) ∷  -- further-391
     (codes "\"replace\"\t\"X\"\t1\t\"a\"", Ok (on_line 1 (Apply (ChangeLine None (codes "X") (edits.ReplaceWord (codes "1") (codes "a")))) ∷ [])) ∷  -- further-400
     (codes "rule  \"bottom\"  x.o  \"::\"  \"a\"", Ok (on_line 1 (Apply (AddLine Bottom (NewRule (codes "x.o") Double (codes "a")))) ∷ [])) ∷  -- further-403
     (codes "nth 002 \"prepend\" \"X\" \"x=1\"", Ok (on_line 1 (Apply (ChangeLine (Some 2) (codes "X") (edits.Prepend (codes "x=1")))) ∷ [])) ∷  -- further-407
     (codes "nth\t2\trule\tafter-var\tF\tc\t::\t\"\"", Ok (on_line 1 (Apply (AddLine (AfterVar (Some 2) (codes "F")) (NewRule (codes "c") Double []))) ∷ [])) ∷  -- further-408
     (codes "replace X -g \"a:b \\\\\\\\a\"", Ok (on_line 1 (Apply (ChangeLine None (codes "X") (edits.ReplaceWord (codes "-g") (codes "a:b \\\\a")))) ∷ [])) ∷  -- further-409
     (codes "\"subst\" X b \"\"", Ok (on_line 1 (Apply (ChangeLine None (codes "X") (edits.Substitute (codes "b") []))) ∷ [])) ∷  -- further-410
+    (codes "nth  2  \"add-before\"  \"F\"  \"a\"  x.c", Ok (on_line 1 (Apply (ChangeLine (Some 2) (codes "F") (edits.InsertWord Before (codes "a") (codes "x.c")))) ∷ [])) ∷  -- further-412
     (codes "nth \"001\" \"prepend\" X \"a:b x=1\"", Ok (on_line 1 (Apply (ChangeLine (Some 1) (codes "X") (edits.Prepend (codes "a:b x=1")))) ∷ [])) ∷  -- further-413
+    (codes "nth 2 add-before F \"$x\" -O3", Ok (on_line 1 (Apply (ChangeLine (Some 2) (codes "F") (edits.InsertWord Before (codes "$x") (codes "-O3")))) ∷ [])) ∷  -- further-422
     (codes "nth 1 prepend X \"-g\"", Ok (on_line 1 (Apply (ChangeLine (Some 1) (codes "X") (edits.Prepend (codes "-g")))) ∷ [])) ∷  -- further-423
     (codes "nth 1 rule \"before-rule\" \"\" \"c\" :: \"a b\"", Ok (on_line 1 (Apply (AddLine (BeforeRule (Some 1) []) (NewRule (codes "c") Double (codes "a b")))) ∷ [])) ∷  -- further-424
     (codes "replace \"F\" b \"b x$(a  b)\"", Ok (on_line 1 (Apply (ChangeLine None (codes "F") (edits.ReplaceWord (codes "b") (codes "b x$(a  b)")))) ∷ [])) ∷  -- further-425
@@ -109,6 +161,8 @@ rows_2 =
     (codes " nth 1 replace F \"-g\" x=1", Ok (on_line 1 (Apply (ChangeLine (Some 1) (codes "F") (edits.ReplaceWord (codes "-g") (codes "x=1")))) ∷ [])) ∷  -- further-442
     (codes "nth \"4294967295\" subst \"\" \"\" \"$(\"", Ok (on_line 1 (Apply (ChangeLine (Some 4294967295) [] (edits.Substitute [] (codes "$(")))) ∷ [])) ∷  -- further-443
     (codes "nth\t002\treplace\tF\ta\tb", Ok (on_line 1 (Apply (ChangeLine (Some 2) (codes "F") (edits.ReplaceWord (codes "a") (codes "b")))) ∷ [])) ∷  -- further-444
+    (codes "nth 0 add-before override \"$(A -g)\" \"a \"", Ok (on_line 1 (Apply (ChangeLine (Some 0) (codes "override") (edits.InsertWord Before (codes "$(A -g)") (codes "a ")))) ∷ [])) ∷  -- further-448
+    (codes "nth 1 add-before F aaa \"$(new a)\"", Ok (on_line 1 (Apply (ChangeLine (Some 1) (codes "F") (edits.InsertWord Before (codes "aaa") (codes "$(new a)")))) ∷ [])) ∷  -- further-450
     (codes "operator F :::=", Ok (on_line 1 (Apply (ChangeLine None (codes "F") (edits.SetOperator Immediate))) ∷ [])) ∷  -- further-451
     (codes " rule before-rule a c : \"\"", Ok (on_line 1 (Apply (AddLine (BeforeRule None (codes "a")) (NewRule (codes "c") Single []))) ∷ [])) ∷  -- further-452
     (codes "\"assign\"  bottom  \"F\"  \":=\"  \"; a:b\"", Ok (on_line 1 (Apply (AddLine Bottom (NewAssign (codes "F") Simple (codes "; a:b")))) ∷ [])) ∷  -- further-453
@@ -121,19 +175,20 @@ rows_2 =
     (codes "rule before-var X c : \"a b\"", Ok (on_line 1 (Apply (AddLine (BeforeVar None (codes "X")) (NewRule (codes "c") Single (codes "a b")))) ∷ [])) ∷  -- further-481
     (codes "nth 1 replace F a$\\\\ \"-O2\"", Ok (on_line 1 (Apply (ChangeLine (Some 1) (codes "F") (edits.ReplaceWord (codes "a$\\\\") (codes "-O2")))) ∷ [])) ∷  -- further-485
     (codes "\"prepend\" X \"a b\"", Ok (on_line 1 (Apply (ChangeLine None (codes "X") (edits.Prepend (codes "a b")))) ∷ [])) ∷  -- further-492
-    []
-
-answers_2 : map (λ row. read_script row.0) rows_2 ≡ map (λ row. row.1) rows_2
-unfolding line_len lines_from
-answers_2 = refl
-
-abbrev rows_3 : List (List ℕ × Result (List Step) ℕ)
-rows_3 =
     (codes "nth 2 rule after-var F c : \"\"", Ok (on_line 1 (Apply (AddLine (AfterVar (Some 2) (codes "F")) (NewRule (codes "c") Single []))) ∷ [])) ∷  -- further-494
     (codes "prepend F \"a\\\\\\\\ b\"", Ok (on_line 1 (Apply (ChangeLine None (codes "F") (edits.Prepend (codes "a\\\\ b")))) ∷ [])) ∷  -- further-495
     (codes "\"assign\" bottom \"F\" += \"$(s (b) a) =\"", Ok (on_line 1 (Apply (AddLine Bottom (NewAssign (codes "F") Append (codes "$(s (b) a) =")))) ∷ [])) ∷  -- further-496
     (codes "\"nth\"  \"2\"  prepend  F  \"x=1 ${c}\"", Ok (on_line 1 (Apply (ChangeLine (Some 2) (codes "F") (edits.Prepend (codes "x=1 ${c}")))) ∷ [])) ∷  -- further-501
     (codes "operator F \":=\"", Ok (on_line 1 (Apply (ChangeLine None (codes "F") (edits.SetOperator Simple))) ∷ [])) ∷  -- further-504
+    []
+
+answers_3 : map (λ row. read_script row.0) rows_3 ≡ map (λ row. row.1) rows_3
+unfolding line_len lines_from
+answers_3 = refl
+
+abbrev rows_4 : List (List ℕ × Result (List Step) ℕ)
+rows_4 =
+    (codes " add-before a.b = \"$(new a)\"", Ok (on_line 1 (Apply (ChangeLine None (codes "a.b") (edits.InsertWord Before (codes "=") (codes "$(new a)")))) ∷ [])) ∷  -- further-507
     (codes "rule after-var F %.o :: \"\"", Ok (on_line 1 (Apply (AddLine (AfterVar None (codes "F")) (NewRule (codes "%.o") Double []))) ∷ [])) ∷  -- further-508
     (codes "replace override \"a:b\" -O2", Ok (on_line 1 (Apply (ChangeLine None (codes "override") (edits.ReplaceWord (codes "a:b") (codes "-O2")))) ∷ [])) ∷  -- further-510
     (codes "replace F b -g", Ok (on_line 1 (Apply (ChangeLine None (codes "F") (edits.ReplaceWord (codes "b") (codes "-g")))) ∷ [])) ∷  -- further-512
@@ -170,6 +225,7 @@ rows_3 =
     (codes "assign before-rule i F = \\\\a", Ok (on_line 1 (Apply (AddLine (BeforeRule None (codes "i")) (NewAssign (codes "F") Recursive (codes "\\\\a")))) ∷ [])) ∷  -- further-631
     (codes "replace\t\"\"\t$\\x\t\"$\\\\x\"", Ok (on_line 1 (Apply (ChangeLine None [] (edits.ReplaceWord (codes "$\\x") (codes "$\\x")))) ∷ [])) ∷  -- further-632
     (codes "\"nth\" \"001\" assign before-rule c F += -O2", Ok (on_line 1 (Apply (AddLine (BeforeRule (Some 1) (codes "c")) (NewAssign (codes "F") Append (codes "-O2")))) ∷ [])) ∷  -- further-640
+    (codes "\"add-after\" \".RECIPEPREFIX\" $x x.c", Ok (on_line 1 (Apply (ChangeLine None (codes ".RECIPEPREFIX") (edits.InsertWord After (codes "$x") (codes "x.c")))) ∷ [])) ∷  -- further-641
     (codes "assign before-var X F = \"$(t -g)\"", Ok (on_line 1 (Apply (AddLine (BeforeVar None (codes "X")) (NewAssign (codes "F") Recursive (codes "$(t -g)")))) ∷ [])) ∷  -- further-649
     (codes "nth 0 rule after-var .RECIPEPREFIX c \":\" \"a b\"", Ok (on_line 1 (Apply (AddLine (AfterVar (Some 0) (codes ".RECIPEPREFIX")) (NewRule (codes "c") Single (codes "a b")))) ∷ [])) ∷  -- further-653
     (codes "\"prepend\" X \"x=1 -g\"", Ok (on_line 1 (Apply (ChangeLine None (codes "X") (edits.Prepend (codes "x=1 -g")))) ∷ [])) ∷  -- further-654
@@ -178,23 +234,28 @@ rows_3 =
     (codes "\"prepend\"  .RECIPEPREFIX  b", Ok (on_line 1 (Apply (ChangeLine None (codes ".RECIPEPREFIX") (edits.Prepend (codes "b")))) ∷ [])) ∷  -- further-659
     (codes "assign  \"before-rule\"  include  t  :::=  \"$(t -g)\"", Ok (on_line 1 (Apply (AddLine (BeforeRule None (codes "include")) (NewAssign (codes "t") Immediate (codes "$(t -g)")))) ∷ [])) ∷  -- further-660
     (codes "rule after-var $(X) \"include\" : a", Ok (on_line 1 (Apply (AddLine (AfterVar None (codes "$(X)")) (NewRule (codes "include") Single (codes "a")))) ∷ [])) ∷  -- further-663
+    (codes "nth 4294967295 add-after $(X) \"a\" -g", Ok (on_line 1 (Apply (ChangeLine (Some 4294967295) (codes "$(X)") (edits.InsertWord After (codes "a") (codes "-g")))) ∷ [])) ∷  -- further-664
+    (codes "add-after \"F\" ; -O3", Ok (on_line 1 (Apply (ChangeLine None (codes "F") (edits.InsertWord After (codes ";") (codes "-O3")))) ∷ [])) ∷  -- further-668
+    (codes "nth 2 add-before F $\\x x.c", Ok (on_line 1 (Apply (ChangeLine (Some 2) (codes "F") (edits.InsertWord Before (codes "$\\x") (codes "x.c")))) ∷ [])) ∷  -- further-672
     (codes "\"nth\"  0  operator  F  :::=", Ok (on_line 1 (Apply (ChangeLine (Some 0) (codes "F") (edits.SetOperator Immediate))) ∷ [])) ∷  -- further-675
     []
 
-answers_3 : map (λ row. read_script row.0) rows_3 ≡ map (λ row. row.1) rows_3
+answers_4 : map (λ row. read_script row.0) rows_4 ≡ map (λ row. row.1) rows_4
 unfolding line_len lines_from
-answers_3 = refl
+answers_4 = refl
 
-abbrev rows_4 : List (List ℕ × Result (List Step) ℕ)
-rows_4 =
+abbrev rows_5 : List (List ℕ × Result (List Step) ℕ)
+rows_5 =
     (codes "assign before-var a.b \"F\" != a\\", Ok (on_line 1 (Apply (AddLine (BeforeVar None (codes "a.b")) (NewAssign (codes "F") Shell (codes "a\\")))) ∷ [])) ∷  -- further-676
     (codes "\"prepend\" \"\" \"a\\\\ b\"", Ok (on_line 1 (Apply (ChangeLine None [] (edits.Prepend (codes "a\\ b")))) ∷ [])) ∷  -- further-677
     (codes "replace F a \"-O2 $(s (b) a)\"", Ok (on_line 1 (Apply (ChangeLine None (codes "F") (edits.ReplaceWord (codes "a") (codes "-O2 $(s (b) a)")))) ∷ [])) ∷  -- further-679
     (codes "nth 1 assign before-rule c F = \"$ \"", Ok (on_line 1 (Apply (AddLine (BeforeRule (Some 1) (codes "c")) (NewAssign (codes "F") Recursive (codes "$ ")))) ∷ [])) ∷  -- further-680
     (codes " nth\t\"0\"\t\"rule\"\tbefore-var\t\".RECIPEPREFIX\"\t\"c\"\t:\t\"\"", Ok (on_line 1 (Apply (AddLine (BeforeVar (Some 0) (codes ".RECIPEPREFIX")) (NewRule (codes "c") Single []))) ∷ [])) ∷  -- further-688
     (codes "assign\tbottom\t\"F\"\t?=\t\"x$(a  b)\"", Ok (on_line 1 (Apply (AddLine Bottom (NewAssign (codes "F") Conditional (codes "x$(a  b)")))) ∷ [])) ∷  -- further-690
+    (codes " add-before \".RECIPEPREFIX\" a -lz", Ok (on_line 1 (Apply (ChangeLine None (codes ".RECIPEPREFIX") (edits.InsertWord Before (codes "a") (codes "-lz")))) ∷ [])) ∷  -- further-691
     (codes " \"assign\" after-var \".RECIPEPREFIX\" \"X\" ?= a", Ok (on_line 1 (Apply (AddLine (AfterVar None (codes ".RECIPEPREFIX")) (NewAssign (codes "X") Conditional (codes "a")))) ∷ [])) ∷  -- further-693
     (codes "\"subst\" .RECIPEPREFIX > \"\\\\\"", Ok (on_line 1 (Apply (ChangeLine None (codes ".RECIPEPREFIX") (edits.Substitute (codes ">") (codes "\\")))) ∷ [])) ∷  -- further-696
+    (codes "add-before \"\" \"-g\" -O2", Ok (on_line 1 (Apply (ChangeLine None [] (edits.InsertWord Before (codes "-g") (codes "-O2")))) ∷ [])) ∷  -- further-697
     (codes "assign\tafter-var\toverride\tX\t\"!=\"\ta\\\\", Ok (on_line 1 (Apply (AddLine (AfterVar None (codes "override")) (NewAssign (codes "X") Shell (codes "a\\\\")))) ∷ [])) ∷  -- further-700
     (codes "\"replace\" \".RECIPEPREFIX\" -O2 \"$ b\"", Ok (on_line 1 (Apply (ChangeLine None (codes ".RECIPEPREFIX") (edits.ReplaceWord (codes "-O2") (codes "$ b")))) ∷ [])) ∷  -- further-701
     (codes "nth 4294967295 rule \"before-var\" $(X) c \":\" a", Ok (on_line 1 (Apply (AddLine (BeforeVar (Some 4294967295) (codes "$(X)")) (NewRule (codes "c") Single (codes "a")))) ∷ [])) ∷  -- further-708
@@ -202,6 +263,7 @@ rows_4 =
     (codes "\"prepend\" X \"$(a b)\"", Ok (on_line 1 (Apply (ChangeLine None (codes "X") (edits.Prepend (codes "$(a b)")))) ∷ [])) ∷  -- further-710
     (codes "\"assign\" before-rule c F ?= -g", Ok (on_line 1 (Apply (AddLine (BeforeRule None (codes "c")) (NewAssign (codes "F") Conditional (codes "-g")))) ∷ [])) ∷  -- further-712
     (codes " assign before-var $(X) F = \"x$(a  b) a\"", Ok (on_line 1 (Apply (AddLine (BeforeVar None (codes "$(X)")) (NewAssign (codes "F") Recursive (codes "x$(a  b) a")))) ∷ [])) ∷  -- further-713
+    (codes "\"nth\" 1 \"add-after\" \"F\" a -O2", Ok (on_line 1 (Apply (ChangeLine (Some 1) (codes "F") (edits.InsertWord After (codes "a") (codes "-O2")))) ∷ [])) ∷  -- further-722
     (codes " replace override b -g", Ok (on_line 1 (Apply (ChangeLine None (codes "override") (edits.ReplaceWord (codes "b") (codes "-g")))) ∷ [])) ∷  -- further-727
     (codes " \"nth\"\t000\tassign\tbefore-var\tF\tF\t:=\t\"a\"", Ok (on_line 1 (Apply (AddLine (BeforeVar (Some 0) (codes "F")) (NewAssign (codes "F") Simple (codes "a")))) ∷ [])) ∷  -- further-728
     (codes " rule bottom d : \"a b\"", Ok (on_line 1 (Apply (AddLine Bottom (NewRule (codes "d") Single (codes "a b")))) ∷ [])) ∷  -- further-742
@@ -209,24 +271,42 @@ rows_4 =
     (codes "assign before-rule c F \"+=\" \"\"", Ok (on_line 1 (Apply (AddLine (BeforeRule None (codes "c")) (NewAssign (codes "F") Append []))) ∷ [])) ∷  -- further-744
     (codes "nth 4 prepend F \"\t\"", Ok (on_line 1 (Apply (ChangeLine (Some 4) (codes "F") (edits.Prepend (codes "\t")))) ∷ [])) ∷  -- further-745
     (codes "\"prepend\"  X  -g", Ok (on_line 1 (Apply (ChangeLine None (codes "X") (edits.Prepend (codes "-g")))) ∷ [])) ∷  -- further-746
+    (codes " add-before F a F", Ok (on_line 1 (Apply (ChangeLine None (codes "F") (edits.InsertWord Before (codes "a") (codes "F")))) ∷ [])) ∷  -- further-751
     (codes "nth \"1\" operator F +=", Ok (on_line 1 (Apply (ChangeLine (Some 1) (codes "F") (edits.SetOperator Append))) ∷ [])) ∷  -- further-752
     (codes "nth 2 operator F \"!=\"", Ok (on_line 1 (Apply (ChangeLine (Some 2) (codes "F") (edits.SetOperator Shell))) ∷ [])) ∷  -- further-756
     (codes "operator a.b :::=", Ok (on_line 1 (Apply (ChangeLine None (codes "a.b") (edits.SetOperator Immediate))) ∷ [])) ∷  -- further-759
     (codes "operator  \"F\"  =", Ok (on_line 1 (Apply (ChangeLine None (codes "F") (edits.SetOperator Recursive))) ∷ [])) ∷  -- further-765
+    (codes "add-after F -g \"x.c\"", Ok (on_line 1 (Apply (ChangeLine None (codes "F") (edits.InsertWord After (codes "-g") (codes "x.c")))) ∷ [])) ∷  -- further-771
     (codes "\"assign\" bottom F ?= $x", Ok (on_line 1 (Apply (AddLine Bottom (NewAssign (codes "F") Conditional (codes "$x")))) ∷ [])) ∷  -- further-772
     (codes "nth \"0\" subst X cc \" \"", Ok (on_line 1 (Apply (ChangeLine (Some 0) (codes "X") (edits.Substitute (codes "cc") (codes " ")))) ∷ [])) ∷  -- further-777
     (codes "operator \"\" ?=", Ok (on_line 1 (Apply (ChangeLine None [] (edits.SetOperator Conditional))) ∷ [])) ∷  -- further-780
     (codes "replace \"\" $\\x \"b x$(a  b)\"", Ok (on_line 1 (Apply (ChangeLine None [] (edits.ReplaceWord (codes "$\\x") (codes "b x$(a  b)")))) ∷ [])) ∷  -- further-781
+    (codes "nth \"1\" add-before F a x.c", Ok (on_line 1 (Apply (ChangeLine (Some 1) (codes "F") (edits.InsertWord Before (codes "a") (codes "x.c")))) ∷ [])) ∷  -- further-782
+    (codes "add-before  override  $\\x  -lz", Ok (on_line 1 (Apply (ChangeLine None (codes "override") (edits.InsertWord Before (codes "$\\x") (codes "-lz")))) ∷ [])) ∷  -- further-786
+    (codes "nth \"002\" add-after F -g \"$(new a)\"", Ok (on_line 1 (Apply (ChangeLine (Some 2) (codes "F") (edits.InsertWord After (codes "-g") (codes "$(new a)")))) ∷ [])) ∷  -- further-788
     (codes "\"subst\" X \" a:b -g\" \"\"", Ok (on_line 1 (Apply (ChangeLine None (codes "X") (edits.Substitute (codes " a:b -g") []))) ∷ [])) ∷  -- further-789
     (codes "prepend \"F\" x=1", Ok (on_line 1 (Apply (ChangeLine None (codes "F") (edits.Prepend (codes "x=1")))) ∷ [])) ∷  -- further-798
+    (codes "add-before F ; \"$(new a)\"", Ok (on_line 1 (Apply (ChangeLine None (codes "F") (edits.InsertWord Before (codes ";") (codes "$(new a)")))) ∷ [])) ∷  -- further-799
     (codes " subst .RECIPEPREFIX \\ \"\"", Ok (on_line 1 (Apply (ChangeLine None (codes ".RECIPEPREFIX") (edits.Substitute (codes "\\") []))) ∷ [])) ∷  -- further-802
+    (codes "\"add-before\" F \"-g\" -O3", Ok (on_line 1 (Apply (ChangeLine None (codes "F") (edits.InsertWord Before (codes "-g") (codes "-O3")))) ∷ [])) ∷  -- further-803
     (codes "\"subst\" F aaa \r", Ok (on_line 1 (Apply (ChangeLine None (codes "F") (edits.Substitute (codes "aaa") (codes "\r")))) ∷ [])) ∷  -- further-814
+    (codes "nth 2 add-after X \"a\\\\$ \" -O3", Ok (on_line 1 (Apply (ChangeLine (Some 2) (codes "X") (edits.InsertWord After (codes "a\\$ ") (codes "-O3")))) ∷ [])) ∷  -- further-818
     (codes "assign \"after-var\" X F ::= \"\"", Ok (on_line 1 (Apply (AddLine (AfterVar None (codes "X")) (NewAssign (codes "F") PosixSimple []))) ∷ [])) ∷  -- further-820
     (codes "operator\tF\t\"::=\"", Ok (on_line 1 (Apply (ChangeLine None (codes "F") (edits.SetOperator PosixSimple))) ∷ [])) ∷  -- further-827
     (codes "replace X \"$(s (b) a)\" -g", Ok (on_line 1 (Apply (ChangeLine None (codes "X") (edits.ReplaceWord (codes "$(s (b) a)") (codes "-g")))) ∷ [])) ∷  -- further-832
+    (codes "nth \"1\" add-after F \"$(w a)\" -lz", Ok (on_line 1 (Apply (ChangeLine (Some 1) (codes "F") (edits.InsertWord After (codes "$(w a)") (codes "-lz")))) ∷ [])) ∷  -- further-836
     (codes "nth 001 assign before-rule c \"F\" ?= \"\"", Ok (on_line 1 (Apply (AddLine (BeforeRule (Some 1) (codes "c")) (NewAssign (codes "F") Conditional []))) ∷ [])) ∷  -- further-837
+    []
+
+answers_5 : map (λ row. read_script row.0) rows_5 ≡ map (λ row. row.1) rows_5
+unfolding line_len lines_from
+answers_5 = refl
+
+abbrev rows_6 : List (List ℕ × Result (List Step) ℕ)
+rows_6 =
     (codes "\"nth\"  1  \"assign\"  before-var  \"F\"  F  :::=  a", Ok (on_line 1 (Apply (AddLine (BeforeVar (Some 1) (codes "F")) (NewAssign (codes "F") Immediate (codes "a")))) ∷ [])) ∷  -- further-839
     (codes "rule before-var F c \":\" \"\"", Ok (on_line 1 (Apply (AddLine (BeforeVar None (codes "F")) (NewRule (codes "c") Single []))) ∷ [])) ∷  -- further-843
+    (codes "add-after \"\" \"a\\\\ b\" \"=\"", Ok (on_line 1 (Apply (ChangeLine None [] (edits.InsertWord After (codes "a\\ b") (codes "=")))) ∷ [])) ∷  -- further-845
     (codes "\"replace\" \"F\" a \"a b\"", Ok (on_line 1 (Apply (ChangeLine None (codes "F") (edits.ReplaceWord (codes "a") (codes "a b")))) ∷ [])) ∷  -- further-846
     (codes "nth  0  subst  \"F\"  \"\"  \"x\"", Ok (on_line 1 (Apply (ChangeLine (Some 0) (codes "F") (edits.Substitute [] (codes "x")))) ∷ [])) ∷  -- further-855
     (codes "\"rule\" before-var F d :: \"a b\"", Ok (on_line 1 (Apply (AddLine (BeforeVar None (codes "F")) (NewRule (codes "d") Double (codes "a b")))) ∷ [])) ∷  -- further-860
@@ -237,20 +317,12 @@ rows_4 =
     (codes "prepend X -g", Ok (on_line 1 (Apply (ChangeLine None (codes "X") (edits.Prepend (codes "-g")))) ∷ [])) ∷  -- further-869
     (codes "nth 0 replace X -O2 \"$ b\"", Ok (on_line 1 (Apply (ChangeLine (Some 0) (codes "X") (edits.ReplaceWord (codes "-O2") (codes "$ b")))) ∷ [])) ∷  -- further-871
     (codes "subst \"X\" \"cc\" \"ab\"", Ok (on_line 1 (Apply (ChangeLine None (codes "X") (edits.Substitute (codes "cc") (codes "ab")))) ∷ [])) ∷  -- further-876
-    []
-
-answers_4 : map (λ row. read_script row.0) rows_4 ≡ map (λ row. row.1) rows_4
-unfolding line_len lines_from
-answers_4 = refl
-
-abbrev rows_5 : List (List ℕ × Result (List Step) ℕ)
-rows_5 =
     (codes "rule bottom d : \"\"", Ok (on_line 1 (Apply (AddLine Bottom (NewRule (codes "d") Single []))) ∷ [])) ∷  -- further-880
     (codes "nth 4294967295 \"rule\" after-var \"a.b\" c \":\" a", Ok (on_line 1 (Apply (AddLine (AfterVar (Some 4294967295) (codes "a.b")) (NewRule (codes "c") Single (codes "a")))) ∷ [])) ∷  -- further-881
     (codes "replace X ababa \"$ b\"", Ok (on_line 1 (Apply (ChangeLine None (codes "X") (edits.ReplaceWord (codes "ababa") (codes "$ b")))) ∷ [])) ∷  -- further-887
     (codes "replace \"F\" \"\\\\\\\\\" \";\"", Ok (on_line 1 (Apply (ChangeLine None (codes "F") (edits.ReplaceWord (codes "\\\\") (codes ";")))) ∷ [])) ∷  -- further-897
     []
 
-answers_5 : map (λ row. read_script row.0) rows_5 ≡ map (λ row. row.1) rows_5
+answers_6 : map (λ row. read_script row.0) rows_6 ≡ map (λ row. row.1) rows_6
 unfolding line_len lines_from
-answers_5 = refl
+answers_6 = refl

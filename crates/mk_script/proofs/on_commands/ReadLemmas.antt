@@ -2,14 +2,15 @@
 use Rattle.std.proofs.Common.{◌≡◌, ℕ, ◌≤◌, true, false, List, [], ◌∷◌, ◌++◌, length, refl, ap, ◌∙◌, arith, codes}
 use Rattle.std.specs.Prelude.{Option, Some, None, option_map, option_and_then}
 use Rattle.mk_class.specs.OperatorTexts.{operator_text}
-use Rattle.mk_edit_language.specs.Edits.{Place, Bottom, BeforeVar, AfterVar, BeforeRule, NewLine, NewAssign, NewRule, One, Every, ValueChange, Set, Append, Add, Remove, LineChange, Prepend, ReplaceWord, Substitute, SetOperator, AddPrereq, RemovePrereq, ByNumber, ByText, Last, At, OfAssign, OfRule, OfRecipe, Edit, ChangeValue, ChangeLine, ChangePrereqs, AddLine, AddRecipe, SetRecipe, RemoveLines, RenameTarget}
+use Rattle.mk_edit_language.specs.Edits.{Place, Bottom, BeforeVar, AfterVar, BeforeRule, NewLine, NewAssign, NewRule, One, Every, ValueChange, Set, Append, Add, Remove, LineChange, Prepend, ReplaceWord, InsertWord, Substitute, SetOperator, AddPrereq, RemovePrereq, ByNumber, ByText, Last, At, OfAssign, OfRule, OfRecipe, Edit, ChangeValue, ChangeLine, ChangePrereqs, AddLine, AddRecipe, SetRecipe, RemoveLines, RenameTarget}
+use Rattle.mk_edit_language.specs.declared.edit.Side.TheVariants.{Before, After}
 use Rattle.mk_edit_language.specs.NewLines.{rule_separator_text}
 use Rattle.mk_history.specs.Machine.{Command, Apply, Undo, Redo, Begin, End, Cancel}
 use Rattle.mk_script.specs.Lines.{Plain}
 use Rattle.mk_script.specs.Numbers.{number}
 use Rattle.mk_script.specs.CommandTable.{Content, Text, Number, texts, after_nth, place_words, nth_of_place, change_words, line_change_words, command_fields, HaveContents, IsCommand}
 use Rattle.mk_script.specs.WordReading.{named, words}
-use Rattle.mk_script.specs.CommandReading.{Texts, worded, new_assign, new_rule, add_line, edit_with, edit_by, edit_after, edit_in, saying_after, saying_in}
+use Rattle.mk_script.specs.CommandReading.{Texts, worded, new_assign, new_rule, add_line, line_change, change_line, edit_with, edit_by, edit_after, edit_in, saying_after, saying_in}
 use Rattle.mk_script.specs.declared.table.Word.{Word}
 use Rattle.mk_script.specs.declared.table.Word.TheVariants as word
 use Rattle.mk_script.proofs.on_commands.TableLemmas.{text_of, operator-named, separator-named}
@@ -80,9 +81,11 @@ line_change-read : (nth : Option ℕ) (name : List ℕ) (change : LineChange) (f
     → edit_in fields ≡ Some (ChangeLine nth name change)
 line_change-read nth name (Prepend value) = text-read nth word.Prepend (name ∷ value ∷ []) _ refl (λ fs. refl) refl
 line_change-read nth name (ReplaceWord x value) = text-read nth word.Replace (name ∷ x ∷ value ∷ []) _ refl (λ fs. refl) refl
+line_change-read nth name (InsertWord Before x new) = text-read nth word.AddBefore (name ∷ x ∷ new ∷ []) _ refl (λ fs. refl) refl
+line_change-read nth name (InsertWord After x new) = text-read nth word.AddAfter (name ∷ x ∷ new ∷ []) _ refl (λ fs. refl) refl
 line_change-read nth name (Substitute from to) = text-read nth word.Subst (name ∷ from ∷ to ∷ []) _ refl (λ fs. refl) refl
 line_change-read nth name (SetOperator flavor) =
-    text-read nth word.Operator (name ∷ operator_text flavor ∷ []) _ refl (λ fs. refl) (ap (λ o. option_map (λ f. ChangeLine nth name (SetOperator f)) o) (operator-named flavor))
+    text-read nth word.Operator (name ∷ operator_text flavor ∷ []) _ refl (λ fs. refl) (ap (λ o. option_map (λ c. ChangeLine nth name c) (option_map SetOperator o)) (operator-named flavor))
 
 pub edit-read : (fields : Texts) (e : Edit) → IsCommand fields (Apply e) → edit_in fields ≡ Some e
 edit-read fields (ChangeValue (One nth) name change) h = change-read nth name change fields h
@@ -114,14 +117,20 @@ edit-read fields (RenameTarget old new) h = ap edit_in (texts-are fields (codes 
 
 -- ---- each command
 
+-- a word that is no change of a line makes none
+none-changed : (nth : Option ℕ) (w : Word) (fs : Texts) (e : Edit) → ((ts : Texts) → line_change w ts ≡ None) → change_line nth w fs ≡ Some e → ⊥
+none-changed nth w [] e none h = absurd (cc)
+none-changed nth w (name ∷ fs) e none h =
+    let made : change_line nth w (name ∷ fs) ≡ None = ap (λ o. option_map (λ c. ChangeLine nth name c) o) (none fs) in absurd (cc)
+
 after-said : (w : Word) (fs : Texts) (e : Edit) → edit_after w fs ≡ Some e → saying_after w fs ≡ Some (Plain (Apply e))
-after-said word.Try fs e h = absurd (cc)
-after-said word.Or fs e h = absurd (cc)
-after-said word.Undo fs e h = absurd (cc)
-after-said word.Redo fs e h = absurd (cc)
-after-said word.Begin fs e h = absurd (cc)
-after-said word.End fs e h = absurd (cc)
-after-said word.Cancel fs e h = absurd (cc)
+after-said word.Try fs e h = absurd (none-changed None word.Try fs e (λ ts. refl) h)
+after-said word.Or fs e h = absurd (none-changed None word.Or fs e (λ ts. refl) h)
+after-said word.Undo fs e h = absurd (none-changed None word.Undo fs e (λ ts. refl) h)
+after-said word.Redo fs e h = absurd (none-changed None word.Redo fs e (λ ts. refl) h)
+after-said word.Begin fs e h = absurd (none-changed None word.Begin fs e (λ ts. refl) h)
+after-said word.End fs e h = absurd (none-changed None word.End fs e (λ ts. refl) h)
+after-said word.Cancel fs e h = absurd (none-changed None word.Cancel fs e (λ ts. refl) h)
 after-said w fs e h = ap (λ o. option_map Plain (option_map Apply o)) h
 
 edit-said : (fields : Texts) (e : Edit) → edit_in fields ≡ Some e → saying_in fields ≡ Some (Plain (Apply e))
@@ -160,6 +169,8 @@ change-few name (Remove x) = omega arith
 line_change-few : (name : List ℕ) (change : LineChange) → length (texts (line_change_words name change)) ≤ 4
 line_change-few name (Prepend value) = omega arith
 line_change-few name (ReplaceWord x value) = omega arith
+line_change-few name (InsertWord Before x new) = omega arith
+line_change-few name (InsertWord After x new) = omega arith
 line_change-few name (Substitute from to) = omega arith
 line_change-few name (SetOperator flavor) = omega arith
 

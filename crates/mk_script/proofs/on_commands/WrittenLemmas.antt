@@ -5,13 +5,14 @@ use Rattle.std.proofs.lemmas.List.{take-append-drop}
 use Rattle.mk_class.specs.declared.assignment.Flavor.{Flavor}
 use Rattle.mk_class.specs.OperatorTexts.{operator_text}
 use Rattle.mk_edit_language.specs.declared.edit.RuleSeparator.{RuleSeparator}
-use Rattle.mk_edit_language.specs.Edits.{Place, Bottom, BeforeVar, AfterVar, BeforeRule, NewLine, NewAssign, NewRule, Which, One, Every, ValueChange, Set, Append, Add, Remove, Prepend, ReplaceWord, Substitute, SetOperator, AddPrereq, RemovePrereq, ByNumber, ByText, Last, At, OfAssign, OfRule, OfRecipe, Edit, ChangeValue, ChangeLine, ChangePrereqs, AddLine, AddRecipe, SetRecipe, RemoveLines, RenameTarget}
+use Rattle.mk_edit_language.specs.Edits.{Place, Bottom, BeforeVar, AfterVar, BeforeRule, NewLine, NewAssign, NewRule, Which, One, Every, ValueChange, Set, Append, Add, Remove, LineChange, Prepend, ReplaceWord, InsertWord, Substitute, SetOperator, AddPrereq, RemovePrereq, ByNumber, ByText, Last, At, OfAssign, OfRule, OfRecipe, Edit, ChangeValue, ChangeLine, ChangePrereqs, AddLine, AddRecipe, SetRecipe, RemoveLines, RenameTarget}
+use Rattle.mk_edit_language.specs.declared.edit.Side.TheVariants.{Before, After}
 use Rattle.mk_edit_language.specs.NewLines.{rule_separator_text}
 use Rattle.mk_history.specs.Machine.{Command, Apply, Undo, Redo, Begin, End, Cancel}
 use Rattle.mk_script.specs.Numbers.{number}
-use Rattle.mk_script.specs.CommandTable.{Content, Text, Number, texts, after_nth, place_words, nth_of_place, change_words, command_fields, HaveContents, IsCommand}
+use Rattle.mk_script.specs.CommandTable.{Content, Text, Number, texts, after_nth, place_words, nth_of_place, change_words, line_change_words, command_fields, HaveContents, IsCommand}
 use Rattle.mk_script.specs.WordReading.{named, words, places, operators, separators}
-use Rattle.mk_script.specs.CommandReading.{Texts, one, two, three, numbered, worded, place_with, place_in, new_assign, new_rule, before_three, last_three, edit_with, edit_by, edit_after, edit_in, alone, command_after}
+use Rattle.mk_script.specs.CommandReading.{Texts, one, two, three, numbered, worded, place_with, place_in, new_assign, new_rule, before_three, last_three, line_change, change_line, edit_with, edit_by, edit_after, edit_in, alone, command_after}
 use Rattle.mk_script.specs.declared.table.Word.{Word}
 use Rattle.mk_script.specs.declared.table.Word.TheVariants as word
 use Rattle.mk_script.specs.declared.word.PlaceWord.{PlaceWord}
@@ -150,12 +151,33 @@ add_line-written nth w fields ts e l is h command =
     text-written (One nth) w fields (place_words m.0 ++ ts) e (AddLine m.0 l) whole m.2
     (command m.0 ∙ ap (λ n. after_nth n (Text (text_of w) ∷ texts (place_words m.0 ++ ts))) (sym p.0))
 
-operator-written : (nth : Option ℕ) (fields : Texts) (e : Edit) → edit_with (One nth) word.Operator fields ≡ Some e → IsWrittenEdit (One nth) word.Operator fields e
-operator-written nth fields e h =
-    let c = chained (λ (p : List ℕ × List ℕ). option_map (λ (f : Flavor). ChangeLine nth p.0 (SetOperator f)) (named operators p.1)) (two fields) e h in
-    let f = mapped (λ (f : Flavor). ChangeLine nth c.0.0 (SetOperator f)) (named operators c.0.1) e c.2 in
-    text-written (One nth) word.Operator fields (c.0.0 ∷ operator_text f.0 ∷ []) e (ChangeLine nth c.0.0 (SetOperator f.0))
-    (two-is fields c.0 c.1 ∙ ap (λ z. c.0.0 ∷ z ∷ []) (named-operator c.0.1 f.0 f.1)) f.2 refl
+-- a change of the line of an assignment, behind its name
+pair-is : (w : Word) (name : List ℕ) (ts : Texts) (c : LineChange) (make : List ℕ → List ℕ → LineChange) → option_map (λ (p : List ℕ × List ℕ). make p.0 p.1) (two ts) ≡ Some c
+    → ((a b : List ℕ) → line_change_words name (make a b) ≡ text_of w ∷ name ∷ a ∷ b ∷ []) → line_change_words name c ≡ text_of w ∷ name ∷ ts
+pair-is w name ts c make h is =
+    let m = mapped (λ (p : List ℕ × List ℕ). make p.0 p.1) (two ts) c h in
+    ap (λ d. line_change_words name d) (sym m.2) ∙ (is m.0.0 m.0.1 ∙ ap (λ zs. text_of w ∷ name ∷ zs) (sym (two-is ts m.0 m.1)))
+
+line_change-is : (w : Word) (name : List ℕ) (ts : Texts) (c : LineChange) → line_change w ts ≡ Some c → line_change_words name c ≡ text_of w ∷ name ∷ ts
+line_change-is word.Prepend name ts c h =
+    let m = mapped Prepend (one ts) c h in ap (λ d. line_change_words name d) (sym m.2) ∙ ap (λ zs. codes "prepend" ∷ name ∷ zs) (sym (one-is ts m.0 m.1))
+line_change-is word.Replace name ts c h = pair-is word.Replace name ts c ReplaceWord h (λ a b. refl)
+line_change-is word.AddBefore name ts c h = pair-is word.AddBefore name ts c (λ a b. InsertWord Before a b) h (λ a b. refl)
+line_change-is word.AddAfter name ts c h = pair-is word.AddAfter name ts c (λ a b. InsertWord After a b) h (λ a b. refl)
+line_change-is word.Subst name ts c h = pair-is word.Subst name ts c Substitute h (λ a b. refl)
+line_change-is word.Operator name ts c h =
+    let t = chained (λ (t : List ℕ). option_map SetOperator (named operators t)) (one ts) c h in
+    let f = mapped SetOperator (named operators t.0) c t.2 in
+    ap (λ d. line_change_words name d) (sym f.2)
+    ∙ (ap (λ z. codes "operator" ∷ name ∷ z ∷ []) (sym (named-operator t.0 f.0 f.1)) ∙ ap (λ zs. codes "operator" ∷ name ∷ zs) (sym (one-is ts t.0 t.1)))
+line_change-is w name ts c h = absurd (cc)
+
+change_line-written : (nth : Option ℕ) (w : Word) (fields : Texts) (e : Edit) → change_line nth w fields ≡ Some e → IsWrittenEdit (One nth) w fields e
+change_line-written nth w [] e h = absurd (cc)
+change_line-written nth w (name ∷ ts) e h =
+    let m = mapped (λ (c : LineChange). ChangeLine nth name c) (line_change w ts) e h in
+    text-written (One nth) w (name ∷ ts) (name ∷ ts) e (ChangeLine nth name m.0) refl m.2
+    (ap (λ zs. after_nth nth (texts zs)) (line_change-is w name ts m.0 m.1))
 
 assign-written : (nth : Option ℕ) (fields : Texts) (e : Edit) → edit_with (One nth) word.Assign fields ≡ Some e → IsWrittenEdit (One nth) word.Assign fields e
 assign-written nth fields e h =
@@ -184,10 +206,6 @@ with-written which word.Set fields e h = two-written which word.Set fields e (λ
 with-written which word.Append fields e h = two-written which word.Append fields e (λ a b. ChangeValue which a (Append b)) h (λ a b. change-fields which a (Append b))
 with-written which word.Add fields e h = two-written which word.Add fields e (λ a b. ChangeValue which a (Add b)) h (λ a b. change-fields which a (Add b))
 with-written which word.Drop fields e h = two-written which word.Drop fields e (λ a b. ChangeValue which a (Remove b)) h (λ a b. change-fields which a (Remove b))
-with-written (One nth) word.Prepend fields e h = two-written (One nth) word.Prepend fields e (λ a b. ChangeLine nth a (Prepend b)) h (λ a b. refl)
-with-written (One nth) word.Replace fields e h = three-written (One nth) word.Replace fields e (λ a b c. ChangeLine nth a (ReplaceWord b c)) h (λ a b c. refl)
-with-written (One nth) word.Subst fields e h = three-written (One nth) word.Subst fields e (λ a b c. ChangeLine nth a (Substitute b c)) h (λ a b c. refl)
-with-written (One nth) word.Operator fields e h = operator-written nth fields e h
 with-written (One nth) word.Unset fields e h = one-written (One nth) word.Unset fields e (λ a. RemoveLines (OfAssign nth a)) h (λ a. refl)
 with-written (One nth) word.Assign fields e h = assign-written nth fields e h
 with-written (One nth) word.Rule fields e h = rule-written nth fields e h
@@ -202,7 +220,8 @@ with-written (One nth) word.RecipeDel fields e h = recipe_del-written nth fields
 with-written (One nth) word.RecipeReplace fields e h = three-written (One nth) word.RecipeReplace fields e (λ a b c. SetRecipe nth a (ByText b) c) h (λ a b c. refl)
 with-written (One nth) word.RecipeRemove fields e h = two-written (One nth) word.RecipeRemove fields e (λ a b. RemoveLines (OfRecipe nth a (ByText b))) h (λ a b. refl)
 with-written (One None) word.Rename fields e h = two-written (One None) word.Rename fields e (λ a b. RenameTarget a b) h (λ a b. refl)
-with-written (One nth) w fields e h = absurd (cc)
+with-written (One (Some n)) word.Rename fields e h = absurd (cc)
+with-written (One nth) w fields e h = change_line-written nth w fields e h
 with-written Every w fields e h = absurd (cc)
 
 -- ---- commands

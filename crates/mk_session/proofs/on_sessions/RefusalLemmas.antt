@@ -1,20 +1,25 @@
 -- The machine refuses nothing for want of memory.
 use Rattle.std.proofs.Common.{◌≡◌, refl, ap, ◌∙◌, ℕ, Bool, true, false, List, [], ◌∷◌, Option, Some, None, Ok, Err}
-use Rattle.std.specs.Prelude.{Result}
+use Rattle.std.specs.Prelude.{Result, if◌then◌else◌, nat_lt}
 use Rattle.mk_lines.specs.Pieces.{Replacement}
+use Rattle.mk_lines.specs.Cells.{Cell}
+use Rattle.mk_class.specs.Assignments.{Assignment}
+use Rattle.mk_class.specs.Classes.{Class}
+use Rattle.mk_class.specs.Classes.Class.{Assign}
 use Rattle.mk_class.specs.ClassedLines.{ClassedLine, classed_lines}
 use Rattle.mk_history.specs.Machine as machine
 use Rattle.mk_history.specs.Machine.{Command, Apply, Undo, Redo, Begin, End, Cancel}
 use Rattle.mk_history.specs.Shown.{Shown, shown_edited, shown_ended, shown_back, shown_forward}
 use Rattle.mk_session.specs.Sessions.{answer, edited, text_with, session_refusal}
-use Rattle.mk_edit_language.specs.Edits.{Place, Bottom, Every, Add, Remove, AddPrereq, RemovePrereq, RecipeLine, ByNumber, ByText, At, OfRule, OfRecipe, Edit, ChangeValue, ChangeLine, ChangePrereqs, AddLine, AddRecipe, SetRecipe, RemoveLines, RenameTarget}
+use Rattle.mk_edit_language.specs.Edits.{Place, Bottom, Every, Add, Remove, AddPrereq, RemovePrereq, RecipeLine, ByNumber, ByText, At, OfRule, OfRecipe, LineChange, InsertWord, Edit, ChangeValue, ChangeLine, ChangePrereqs, AddLine, AddRecipe, SetRecipe, RemoveLines, RenameTarget}
 use Rattle.mk_tree.specs.LineTexts.{StandingLine}
-use Rattle.mk_edit_language.specs.Addresses.{Address, address}
+use Rattle.mk_edit_language.specs.Addresses.{Address, Variable, address}
+use Rattle.mk_edit_language.specs.ValueChanges.{has_value_word}
 use Rattle.mk_edit_language.specs.EditSpans.{spans_of}
 use Rattle.mk_edit_language.specs.Causes.{where_holds}
 use Rattle.mk_edit_language.specs.ArgumentCauses.{FieldTest, Tested, first_failed, field_tests, bad_argument, reserved}
 use Rattle.mk_edit_language.specs.AddressCauses.{unread_prefix, no_such, no_such_line, ambiguous, ambiguous_line, prefix_led}
-use Rattle.mk_edit_language.specs.RuleCauses.{not_one, no_recipe, absent, already, taken, shared_rule, straddles}
+use Rattle.mk_edit_language.specs.RuleCauses.{class_meant, not_one, no_recipe, absent, count_of_word, not_beside, not_inserted, already, taken, shared_rule, straddles}
 use Rattle.mk_edit_language.specs.LineCauses.{open_value, open_line, open_define, open_define_at, leaning, too_long, misread}
 use Rattle.mk_edit_language.specs.Refusals.{first_cause, unless_refused, causes, spans}
 use Rattle.mk_edit_language.specs.declared.refusal.Refusal.{Refusal}
@@ -78,8 +83,20 @@ absent-other ls (SetRecipe nth t w c) h = no_recipe-other ls nth t w h
 absent-other ls (RemoveLines (OfRecipe nth t w)) h = no_recipe-other ls nth t w h
 absent-other ls e h = nothing-other h
 
+not_beside-other : (w n : List ℕ) (a : Assignment Cell) → IsOther (not_beside w n a)
+not_beside-other w n a = go (has_value_word n a)
+  where
+    go : (b : Bool) → IsOther (if b then Some Already else where_holds (nat_lt 1 (count_of_word w a)) (Ambiguous (count_of_word w a)))
+    go true h = absurd (cc)
+    go false h = where_holds-other _ (Ambiguous _) (λ k. absurd (cc)) h
+
+not_inserted-other : (c : LineChange) (k : Option (Class Cell)) → IsOther (not_inserted c k)
+not_inserted-other (InsertWord s w n) (Some (Assign a p)) h = not_beside-other w n a h
+not_inserted-other c k h = nothing-other h
+
 already-other : (ls : List ClassedLine) (e : Edit) → IsOther (already ls e)
 already-other ls (ChangeValue w n (Add x)) h = where_holds-other _ Already (λ k. absurd (cc)) h
+already-other ls (ChangeLine nth n c) h = not_inserted-other c (class_meant ls (Variable nth n)) h
 already-other ls (ChangePrereqs nth t (AddPrereq o w)) h = where_holds-other _ Already (λ k. absurd (cc)) h
 already-other ls e h = nothing-other h
 

@@ -6,6 +6,7 @@ use Rattle.mk_lines.specs.Pieces.{Replacement}
 use Rattle.mk_edit_language.specs.Edits as edits
 use Rattle.mk_edit_language.specs.EditViews.{place_of, value_change_of, edit_of}
 use Rattle.mk_edit_language.specs.Refusals.{spans, text_after}
+use Rattle.mk_edit_language.specs.declared.edit.LineChange.TheVariants as line
 use Rattle.mk_edit_language.specs.declared.edit.Edit.{Edit}
 use Rattle.mk_edit_language.specs.declared.edit.Edit.TheVariants as edit
 use Rattle.mk_edit_language.specs.declared.command.Command.{Command}
@@ -14,7 +15,7 @@ use Rattle.mk_edit_language.specs.declared.refusal.Refusal.{Refusal}
 use Rattle.mk_history.specs.Machine as machine
 use Rattle.mk_history.specs.Shown.{Shown, shown_opened, shown_edited, shown_ended, shown_back, shown_forward}
 use Rattle.mk_session.specs.Sessions.{answer, edited, text_with, IsRefusedBy}
-use Rattle.mk_session.specs.Statement.{Does, IsBack, IsCall, AreCalls, AreTakenBack}
+use Rattle.mk_session.specs.Statement.{Does, IsCall, AreCalls, AreTakenBack}
 use Rattle.mk_session.proofs.on_sessions.StepLemmas.{edited-ok}
 use Rattle.mk_session.proofs.on_statement.ValuesStated.{value-stated, values-stated, unset-stated, assign-stated}
 use Rattle.mk_session.proofs.on_statement.LinesStated.{line-stated}
@@ -30,11 +31,12 @@ edit-stated (edit.SetValue k n v) t rs h = value-stated k n.items (edits.Set v.i
 edit-stated (edit.AppendValue k n v) t rs h = value-stated k n.items (edits.Append v.items) t rs h
 edit-stated (edit.AddWord k n w) t rs h = value-stated k n.items (edits.Add w.items) t rs h
 edit-stated (edit.RemoveWord k n w) t rs h = value-stated k n.items (edits.Remove w.items) t rs h
-edit-stated (edit.PrependValue k n v) t rs h = line-stated k n.items (edits.Prepend v.items) t rs h
-edit-stated (edit.ReplaceWord k n w v) t rs h = line-stated k n.items (edits.ReplaceWord w.items v.items) t rs h
-edit-stated (edit.SubstituteValue k n f u) t rs h = line-stated k n.items (edits.Substitute f.items u.items) t rs h
-edit-stated (edit.SetOperator k n f) t rs h = line-stated k n.items (edits.SetOperator f) t rs h
 edit-stated (edit.ChangeValues n c) t rs h = values-stated n.items (value_change_of c) t rs h
+edit-stated (edit.ChangeLine k n (line.Prepend v)) t rs h = line-stated k n.items (edits.Prepend v.items) t rs h
+edit-stated (edit.ChangeLine k n (line.ReplaceWord w v)) t rs h = line-stated k n.items (edits.ReplaceWord w.items v.items) t rs h
+edit-stated (edit.ChangeLine k n (line.InsertWord s w v)) t rs h = line-stated k n.items (edits.InsertWord s w.items v.items) t rs h
+edit-stated (edit.ChangeLine k n (line.Substitute f u)) t rs h = line-stated k n.items (edits.Substitute f.items u.items) t rs h
+edit-stated (edit.ChangeLine k n (line.SetOperator f)) t rs h = line-stated k n.items (edits.SetOperator f) t rs h
 edit-stated (edit.AddAssign p n f v) t rs h = assign-stated (place_of p) n.items f v.items t rs h
 edit-stated (edit.RemoveAssign k n) t rs h = unset-stated k n.items t rs h
 edit-stated (edit.AddRule p gs s ws) t rs h = rule-stated (place_of p) gs.items s ws.items t rs h
@@ -86,29 +88,29 @@ apply-done e s t h = go (edited (edit_of e) s.text) refl h
 
 -- ---- the other calls
 
-undo-done : (s t : Shown (List ℕ)) → answer machine.Undo s ≡ Ok t → (s.begun ≡ None) × IsBack s t
-undo-done s t h = go s.begun s.back refl refl h
+undo-done : (A : _) (s t : Shown (List ℕ)) → answer machine.Undo s ≡ Ok t → IsCall {A = A} command.Undo true s t
+undo-done A s t h = go s.begun s.back refl refl h
   where
     go : (g : Option (List ℕ)) (b : List (List ℕ)) → s.begun ≡ g → s.back ≡ b
         → elim g as (λ x. Result (Shown (List ℕ)) (machine.Refusal Refusal)) [ Some b ↦ Err machine.GroupOpen | None ↦ shown_back s b ] ≡ Ok t
-        → (s.begun ≡ None) × IsBack s t
+        → (s.begun ≡ None) × (s.back ≡ t.text ∷ t.back) × (t ≡ record s { text = t.text; back = t.back; forward = s.text ∷ s.forward })
     go (Some x) b i j k = absurd (cc)
     go None [] i j k = absurd (cc)
     go None (x ∷ xs) i j k =
         let made : record s { text = x; back = xs; forward = s.text ∷ s.forward } ≡ t = cc in
-        (i, (j ∙ ap (λ (z : Shown (List ℕ)). z.text ∷ z.back) made, sym made ∙ ap (λ (z : Shown (List ℕ)). record s { text = z.text; back = z.back; forward = s.text ∷ s.forward }) made))
+        (i, j ∙ ap (λ (z : Shown (List ℕ)). z.text ∷ z.back) made, sym made ∙ ap (λ (z : Shown (List ℕ)). record s { text = z.text; back = z.back; forward = s.text ∷ s.forward }) made)
 
-redo-done : (s t : Shown (List ℕ)) → answer machine.Redo s ≡ Ok t → (s.begun ≡ None) × IsBack t s
-redo-done s t h = go s.begun s.forward refl refl h
+redo-done : (A : _) (s t : Shown (List ℕ)) → answer machine.Redo s ≡ Ok t → IsCall {A = A} command.Redo true s t
+redo-done A s t h = go s.begun s.forward refl refl h
   where
     go : (g : Option (List ℕ)) (f : List (List ℕ)) → s.begun ≡ g → s.forward ≡ f
         → elim g as (λ x. Result (Shown (List ℕ)) (machine.Refusal Refusal)) [ Some b ↦ Err machine.GroupOpen | None ↦ shown_forward s f ] ≡ Ok t
-        → (s.begun ≡ None) × IsBack t s
+        → (s.begun ≡ None) × (s.forward ≡ t.text ∷ t.forward) × (t ≡ record s { text = t.text; back = s.text ∷ s.back; forward = t.forward })
     go (Some x) f i j k = absurd (cc)
     go None [] i j k = absurd (cc)
     go None (x ∷ xs) i j k =
         let made : record s { text = x; back = s.text ∷ s.back; forward = xs } ≡ t = cc in
-        (i, subst (λ (z : Shown (List ℕ)). IsBack z s) made (refl, ap (λ (z : List (List ℕ)). record s { forward = z }) j))
+        (i, j ∙ ap (λ (z : Shown (List ℕ)). z.text ∷ z.forward) made, sym made ∙ ap (λ (z : Shown (List ℕ)). record s { text = z.text; back = s.text ∷ s.back; forward = z.forward }) made)
 
 begin-done : (s t : Shown (List ℕ)) → answer machine.Begin s ≡ Ok t → (s.begun ≡ None) × (t ≡ record s { begun = Some s.text; pending = 0 })
 begin-done s t h = go s.begun refl h
@@ -153,11 +155,11 @@ apply-stated e (Err r) s t h k = k
 
 pub undo-stated : {A : _} (c : Command A) (result : Result (Unit {0}) Refusal) (s t : Shown (List ℕ)) → c ≡ command.Undo → OnOk result (answer machine.Undo s ≡ Ok t) → IfErr result (λ r. IsRefusedBy (answer machine.Undo s) r) → OnErr result (t ≡ s)
     → IsCall c (is_ok result) s t
-undo-stated c (Ok u) s t e h f k = subst (λ z. IsCall z true s t) (sym e) (undo-done s t h)
+undo-stated {A} c (Ok u) s t e h f k = subst (λ z. IsCall z true s t) (sym e) (undo-done A s t h)
 undo-stated c (Err r) s t e h f k = subst (λ z. IsCall z false s t) (sym e) (k, undo-refused s r f)
 
 pub redo-stated : {A : _} (c : Command A) (result : Result (Unit {0}) Refusal) (s t : Shown (List ℕ)) → c ≡ command.Redo → OnOk result (answer machine.Redo s ≡ Ok t) → OnErr result (t ≡ s) → IsCall c (is_ok result) s t
-redo-stated c (Ok u) s t e h k = subst (λ z. IsCall z true s t) (sym e) (redo-done s t h)
+redo-stated {A} c (Ok u) s t e h k = subst (λ z. IsCall z true s t) (sym e) (redo-done A s t h)
 redo-stated c (Err r) s t e h k = subst (λ z. IsCall z false s t) (sym e) k
 
 pub begin-stated : {A : _} (c : Command A) (result : Result (Unit {0}) Refusal) (s t : Shown (List ℕ)) → c ≡ command.Begin → OnOk result (answer machine.Begin s ≡ Ok t) → OnErr result (t ≡ s) → IsCall c (is_ok result) s t
@@ -229,30 +231,30 @@ module _ (f : List ℕ) (d k : ℕ) (some : k + 1 ≤ d) where
         fresh = λ c e p. absurd (omega (arith, p));
       }
 
-  undo-holds : (s t : Shown (List ℕ)) → s.begun ≡ None → IsBack s t → Holds f d k s → Holds f d (k + 1) t
-  undo-holds s t i b h =
-      let begun : t.begun ≡ s.begun = ap (λ (z : Shown (List ℕ)). z.begun) b.1 in
-      let pending : t.pending ≡ s.pending = ap (λ (z : Shown (List ℕ)). z.pending) b.1 in
-      let forward : length t.forward ≡ length s.forward + 1 = ap (λ (z : Shown (List ℕ)). length z.forward) b.1 ∙ omega arith in
-      let back : length s.back ≡ length t.back + 1 = ap length b.0 ∙ omega arith in
+  undo-holds : (A : _) (s t : Shown (List ℕ)) → IsCall {A = A} command.Undo true s t → Holds f d k s → Holds f d (k + 1) t
+  undo-holds A s t r h =
+      let begun : t.begun ≡ None = ap (λ (z : Shown (List ℕ)). z.begun) r.2 ∙ r.0 in
+      let pending : t.pending ≡ s.pending = ap (λ (z : Shown (List ℕ)). z.pending) r.2 in
+      let forward : length t.forward ≡ length s.forward + 1 = ap (λ (z : Shown (List ℕ)). length z.forward) r.2 ∙ omega arith in
+      let back : length s.back ≡ length t.back + 1 = ap length r.1 ∙ omega arith in
       record {
-        depth_is = ap (λ (z : Shown (List ℕ)). z.depth) b.1 ∙ h.depth_is;
+        depth_is = ap (λ (z : Shown (List ℕ)). z.depth) r.2 ∙ h.depth_is;
         few = omega (arith, h.few, pending, forward, back);
-        leads = ap (λ z. last_of (settled z t.text) t.back) (begun ∙ i) ∙ (ap (last_of s.text) (sym b.0) ∙ (ap (λ z. last_of (settled z s.text) s.back) (sym i) ∙ h.leads));
-        fresh = λ c e p. absurd (no-group t.begun c (begun ∙ i) e);
+        leads = ap (λ z. last_of (settled z t.text) t.back) begun ∙ (ap (last_of s.text) (sym r.1) ∙ (ap (λ z. last_of (settled z s.text) s.back) (sym r.0) ∙ h.leads));
+        fresh = λ c e p. absurd (no-group t.begun c begun e);
       }
 
-  redo-holds : (s t : Shown (List ℕ)) → s.begun ≡ None → IsBack t s → Holds f d k s → Holds f d (k + 1) t
-  redo-holds s t i b h =
-      let begun : s.begun ≡ t.begun = ap (λ (z : Shown (List ℕ)). z.begun) b.1 in
-      let pending : s.pending ≡ t.pending = ap (λ (z : Shown (List ℕ)). z.pending) b.1 in
-      let forward : length s.forward ≡ length t.forward + 1 = ap (λ (z : Shown (List ℕ)). length z.forward) b.1 ∙ omega arith in
-      let back : length t.back ≡ length s.back + 1 = ap length b.0 ∙ omega arith in
+  redo-holds : (A : _) (s t : Shown (List ℕ)) → IsCall {A = A} command.Redo true s t → Holds f d k s → Holds f d (k + 1) t
+  redo-holds A s t r h =
+      let begun : t.begun ≡ None = ap (λ (z : Shown (List ℕ)). z.begun) r.2 ∙ r.0 in
+      let pending : t.pending ≡ s.pending = ap (λ (z : Shown (List ℕ)). z.pending) r.2 in
+      let forward : length s.forward ≡ length t.forward + 1 = ap length r.1 ∙ omega arith in
+      let back : length t.back ≡ length s.back + 1 = ap (λ (z : Shown (List ℕ)). length z.back) r.2 ∙ omega arith in
       record {
-        depth_is = sym (ap (λ (z : Shown (List ℕ)). z.depth) b.1) ∙ h.depth_is;
+        depth_is = ap (λ (z : Shown (List ℕ)). z.depth) r.2 ∙ h.depth_is;
         few = omega (arith, h.few, pending, forward, back);
-        leads = ap (λ z. last_of (settled z t.text) t.back) (sym begun ∙ i) ∙ (ap (last_of t.text) b.0 ∙ (ap (λ z. last_of (settled z s.text) s.back) (sym i) ∙ h.leads));
-        fresh = λ c e p. absurd (no-group t.begun c (sym begun ∙ i) e);
+        leads = ap (λ z. last_of (settled z t.text) t.back) begun ∙ (ap (λ (z : Shown (List ℕ)). last_of t.text z.back) r.2 ∙ (ap (λ z. last_of (settled z s.text) s.back) (sym r.0) ∙ h.leads));
+        fresh = λ c e p. absurd (no-group t.begun c begun e);
       }
 
   begin-holds : (s : Shown (List ℕ)) → s.begun ≡ None → Holds f d k s → Holds f d (k + 1) (record s { begun = Some s.text; pending = 0 })
@@ -295,8 +297,8 @@ module _ (f : List ℕ) (d k : ℕ) (some : k + 1 ≤ d) where
 
   done-holds : {A : _} (c : Command A) (s t : Shown (List ℕ)) → IsCall c true s t → Holds f d k s → Holds f d (k + 1) t
   done-holds (command.Apply e) s t r h = subst (Holds f d (k + 1)) (sym r.1) (edit-holds t.text s h)
-  done-holds command.Undo s t r h = undo-holds s t r.0 r.1 h
-  done-holds command.Redo s t r h = redo-holds s t r.0 r.1 h
+  done-holds {A} command.Undo s t r h = undo-holds A s t r h
+  done-holds {A} command.Redo s t r h = redo-holds A s t r h
   done-holds command.Begin s t r h = subst (Holds f d (k + 1)) (sym r.1) (begin-holds s r.0 h)
   done-holds command.End s t r h = subst (Holds f d (k + 1)) (sym r.2) (end-holds s r.0 r.1 h)
   done-holds command.Cancel s t r h = subst (Holds f d (k + 1)) (sym r.2) (cancel-holds s r.0 r.1 h)
@@ -327,9 +329,9 @@ undos-lead A [] s t i l r = ap (λ (z : Shown (List ℕ)). z.text) r ∙ go s.ba
     go (x ∷ xs) e = absurd (omega (arith, e))
 undos-lead A (true ∷ dones) s t i l r =
     let m = r.0 in
-    let b = r.1.1 in
-    let back : length s.back ≡ length m.back + 1 = ap length b.0 ∙ omega arith in
-    undos-lead A dones m t (ap (λ (z : Shown (List ℕ)). z.begun) b.1 ∙ i) (omega (arith, l, back)) r.2 ∙ ap (last_of s.text) (sym b.0)
+    let b = r.1 in
+    let back : length s.back ≡ length m.back + 1 = ap length b.1 ∙ omega arith in
+    undos-lead A dones m t (ap (λ (z : Shown (List ℕ)). z.begun) b.2 ∙ i) (omega (arith, l, back)) r.2 ∙ ap (last_of s.text) (sym b.1)
 undos-lead A (false ∷ dones) s t i l r =
     let m = r.0 in
     let same : m ≡ s = r.1.0 in

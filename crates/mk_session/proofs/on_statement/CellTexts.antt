@@ -1,10 +1,13 @@
 -- A text in another, and the bytes of cells and units.
-use Rattle.std.proofs.Common.{◌≡◌, refl, sym, ap, ◌∙◌, subst, ℕ, List, [], ◌∷◌, ◌++◌, map, false, append_assoc}
+use Rattle.std.proofs.Common.{◌≡◌, refl, sym, ap, ◌∙◌, subst, arith, ℕ, ◌<◌, ◌≤◌, List, [], ◌∷◌, ◌++◌, map, false, append_assoc}
+use Rattle.std.proofs.lemmas.Bool.{le-ltb, ltb-false}
 use Rattle.std.proofs.lemmas.List.{append-nil}
-use Rattle.std.specs.Prelude.{nat_lt}
+use Rattle.std.proofs.lemmas.List.Elements.{All-nil, All-cons}
+use Rattle.std.proofs.lemmas.List.Folds.{list_any_none}
+use Rattle.std.specs.Prelude.{nat_lt, All}
 use Rattle.std.specs.List.{list_any}
 use Rattle.mk_lines.specs.Lists.{concat}
-use Rattle.mk_lines.proofs.on_lists.BoolLemmas.{or-right_false}
+use Rattle.mk_lines.proofs.on_lists.BoolLemmas.{or-left_false, or-right_false}
 use Rattle.mk_lines.proofs.on_lists.ListLemmas.{concat-append}
 use Rattle.mk_lines.specs.PhysicalLines.{line_end, line_end_bytes, without_line_end}
 use Rattle.mk_lines.specs.Cells.{Cell, Byte, Fold, LfEnd, CrLfEnd, joined_byte, raw_text, line_cells}
@@ -35,6 +38,16 @@ pub has-in : (p t u : List ℕ) → t ≡ u → Has p u → Has p t
 has-in p t u e h = subst (Has p) (sym e) h
 
 -- ---- the bytes of cells
+
+-- a word has no blank if all of its bytes are above 32
+pub all-solid : (w : List ℕ) → All (λ b. 32 < b) w → list_any (λ b. nat_lt b 33) w ≡ false
+all-solid w h = list_any_none (λ b. nat_lt b 33) w (λ k d l. le-ltb _ 33 (omega (arith, h k d l)))
+
+pub solid-all : (w : List ℕ) → list_any (λ b. nat_lt b 33) w ≡ false → All (λ b. 32 < b) w
+solid-all [] h = All-nil (λ b. 32 < b)
+solid-all (b ∷ w) h =
+    let high : 33 ≤ b = ltb-false b 33 (or-left_false (nat_lt b 33) (list_any (λ x. nat_lt x 33) w) h) in
+    All-cons (λ x. 32 < x) b w (omega (arith, high)) (solid-all w (or-right_false (nat_lt b 33) (list_any (λ x. nat_lt x 33) w) h))
 
 -- cells whose joined text has no blank are that text
 solid-raw : (cs : List Cell) → list_any (λ b. nat_lt b 33) (map joined_byte cs) ≡ false → raw_text cs ≡ map joined_byte cs

@@ -1,8 +1,8 @@
 -- Words that stand in a line, in its bytes: those of an assignment's line, and those of a rule's.
-use Rattle.std.proofs.Common.{◌≡◌, refl, sym, ap, ◌∙◌, subst, ℕ, List, [], ◌∷◌, ◌++◌, map, true, append_assoc, Option, inl, inr}
+use Rattle.std.proofs.Common.{◌≡◌, refl, sym, ap, ◌∙◌, subst, arith, ℕ, ◌<◌, List, [], ◌∷◌, ◌++◌, map, true, append_assoc, Option, inl, inr}
 use Rattle.std.proofs.lemmas.List.{append-nil, append_cancel_left}
 use Rattle.std.proofs.lemmas.Slice.Eq.{bytes_eq-Decides}
-use Rattle.std.specs.Prelude.{◌⊎◌}
+use Rattle.std.specs.Prelude.{◌⊎◌, codes, All, Contains}
 use Rattle.mk_lines.specs.Lists.{concat}
 use Rattle.mk_lines.proofs.on_lists.ListLemmas.{concat-append}
 use Rattle.mk_lines.specs.PhysicalLines.{line_end, line_end_bytes, without_line_end}
@@ -29,9 +29,9 @@ use Rattle.mk_edit_language.specs.Addresses.{assigns, is_rule_for}
 use Rattle.mk_edit_language.proofs.on_lines.HeaderParts.{one_byte, colon-is}
 use Rattle.mk_edit_language.proofs.on_lines.HeaderChanges.{middle_units, header-cells, header-here}
 use Rattle.mk_edit_parts.proofs.on_values.ValueCells.{assign-parts}
-use Rattle.mk_session.specs.Statement.{Has, EndsBlank, Names}
-use Rattle.mk_session.proofs.on_statement.CellTexts.{has-left, has-right, has-front, has-in, solid-word, raw-units, line-bytes}
-use Rattle.mk_session.proofs.on_statement.WordEdges.{BeginsBehind, behind-colon, behind-ampersand, begins-left, AreEdged, edged-left, edged-right, cells-edged, name-edges, token-cut}
+use Rattle.mk_session.specs.Statement.{Has, Names}
+use Rattle.mk_session.proofs.on_statement.CellTexts.{has-left, has-right, has-front, has-in, all-solid, solid-word, raw-units, line-bytes}
+use Rattle.mk_session.proofs.on_statement.WordEdges.{EndsBlank, BeginsBehind, behind-colon, behind-ampersand, begins-left, AreEdged, edged-left, edged-right, cells-edged, name-edges, token-cut}
 
 -- ---- a word before a sign
 
@@ -39,14 +39,37 @@ use Rattle.mk_session.proofs.on_statement.WordEdges.{BeginsBehind, behind-colon,
 pub names-left : (w : List ℕ) (s : ℕ) (a b : List ℕ) → Names w s a → Names w s (a ++ b)
 names-left w s a b h plain =
     let n = h plain in
-    (n.0, n.1, n.2 ++ b, ap (λ z. z ++ b) n.3 ∙ (append_assoc n.0 (w ++ n.1 ∷ n.2) b ∙ ap (λ z. n.0 ++ z) (append_assoc w (n.1 ∷ n.2) b)), n.4, n.5, has-left (s ∷ []) (n.1 ∷ n.2) b n.6)
+    let r = n.3 ∷ n.1 in
+    (n.0, n.1 ++ b, n.2, n.3, ap (λ z. z ++ b) n.4 ∙ (append_assoc n.0 (n.2 ∷ (w ++ r)) b ∙ ap (λ z. n.0 ++ n.2 ∷ z) (append_assoc w r b)), n.5, n.6, has-left (s ∷ []) r b n.7)
 
 -- a text that is empty or ends in a blank, the word, and a text that begins with what may follow it and has the sign
 pub names-parts : (w : List ℕ) (s : ℕ) (a r : List ℕ) → EndsBlank a → BeginsBehind r → Has (s ∷ []) r → Names w s (a ++ (w ++ r))
-names-parts w s a r e b h plain = (a, b.0, b.1, ap (λ z. a ++ (w ++ z)) b.2, e, b.3, subst (Has (s ∷ [])) b.2 h)
+names-parts w s a r e b h plain = go e
+  where
+    go : EndsBlank a
+        → (f t : List ℕ) × (y x : ℕ) × (10 ∷ (a ++ (w ++ r)) ≡ f ++ y ∷ (w ++ x ∷ t)) × (y < 33) × Contains (9 ∷ 92 ∷ codes " !&+:=?") x × Has (s ∷ []) (x ∷ t)
+    go (inl k) = ([], b.1, 10, b.0, ap (λ z. 10 ∷ (z ++ (w ++ r))) k ∙ ap (λ z. 10 ∷ (w ++ z)) b.2, omega arith, b.3, subst (Has (s ∷ [])) b.2 h)
+    go (inr k) = (
+      10 ∷ k.0,
+      b.1,
+      k.1,
+      b.0,
+      ap (λ z. 10 ∷ (z ++ (w ++ r))) k.2 ∙ (ap (λ z. 10 ∷ z) (append_assoc k.0 (k.1 ∷ []) (w ++ r)) ∙ ap (λ z. 10 ∷ (k.0 ++ k.1 ∷ (w ++ z))) b.2),
+      k.3,
+      b.3,
+      subst (Has (s ∷ [])) b.2 h,
+    )
 
 pub names-in : (w : List ℕ) (s : ℕ) (t u : List ℕ) → t ≡ u → Names w s u → Names w s t
 names-in w s t u e h = subst (Names w s) (sym e) h
+
+-- a line has a word that it names
+pub names-has : (w : List ℕ) (s : ℕ) (l : List ℕ) → All (λ b. 32 < b) w → Names w s l → Has w l
+names-has w s l plain h = let n = h plain in go n.0 n.2 (n.3 ∷ n.1) n.4
+  where
+    go : (a : List ℕ) (y : ℕ) (r : List ℕ) → 10 ∷ l ≡ a ++ y ∷ (w ++ r) → Has w l
+    go [] y r e = ([], r, cc)
+    go (c ∷ a) y r e = let rest : l ≡ a ++ y ∷ (w ++ r) = cc in (a ++ y ∷ [], r, rest ∙ sym (append_assoc a (y ∷ []) (w ++ r)))
 
 -- ---- the line of an assignment
 
@@ -109,7 +132,7 @@ value-front us a n I q e plain =
     let E =
     name-edges (assignment_units a) a (I.again a.value a.after I.are_value) (edged-left (concat a.before) (concat a.name ++ concat a.operator) Q) (edged-right (concat a.name) (concat a.operator) rest) in
     let whole : raw_text (concat (before_value a)) ≡ B ++ (n ++ O) =
-    raw-units a.before (a.name ++ a.operator) ∙ ap (λ z. B ++ z) (raw-units a.name a.operator ∙ ap (λ z. z ++ O) (solid-word (concat a.name) n e plain)) in
+    raw-units a.before (a.name ++ a.operator) ∙ ap (λ z. B ++ z) (raw-units a.name a.operator ∙ ap (λ z. z ++ O) (solid-word (concat a.name) n e (all-solid n plain))) in
     names-in n 61 (raw_text (concat (before_value a))) (B ++ (n ++ O)) whole (names-parts n 61 B O E.before E.behind (operator-has us a I)) plain
 
 -- The line of an assignment of a name: the bytes before the value, which have the name and a `=`, and others.
@@ -216,7 +239,7 @@ header-front c l g h rest k o plain =
     edged-left (concat h.targets) _ (subst AreEdged (H.known.cells_are ∙ header-cells h) (cells-edged (without_line_end l))) in
     let ts = tokens joined_byte h.targets in
     let units = token_units-tokens joined_byte h.targets in
-    let W = token-cut g ts (tokens-are_tokens joined_byte h.targets) (subst (λ z. AreEdged (concat z)) (sym units) edged) o plain in
+    let W = token-cut g ts (tokens-are_tokens joined_byte h.targets) (subst (λ z. AreEdged (concat z)) (sym units) edged) o (all-solid g plain) in
     let targets : T ≡ W.front ++ (g ++ W.rest) = ap (λ z. raw_text (concat z)) (sym units) ∙ W.whole in
     let whole : T ++ (M ++ rest) ≡ W.front ++ (g ++ (W.rest ++ (M ++ rest))) =
     ap (λ z. z ++ (M ++ rest)) targets ∙ (append_assoc W.front (g ++ W.rest) (M ++ rest) ∙ ap (λ z. W.front ++ z) (append_assoc g W.rest (M ++ rest))) in

@@ -22,13 +22,15 @@ use Rattle.mk_class.specs.ClassTable.{class_of}
 use Rattle.mk_class.specs.ClassedLines.{classed_lines}
 use Rattle.mk_tree.specs.LineTexts.{StandingLine, text_of, context_of}
 use Rattle.mk_tree.proofs.on_documents.LinesInText.{line-in_text}
-use Rattle.mk_edit_language.specs.Edits.{LineChange, Prepend, ReplaceWord, Substitute, SetOperator, ChangeLine}
+use Rattle.mk_edit_language.specs.Edits.{LineChange, Prepend, ReplaceWord, InsertWord, Substitute, SetOperator, ChangeLine}
 use Rattle.mk_edit_language.specs.Addresses.{Variable, assigns, found}
 use Rattle.mk_edit_language.specs.Stretches.{this_line, touched_by}
 use Rattle.mk_edit_language.specs.WordPieces.{is_word_of, renamed_tokens, is_replaced}
 use Rattle.mk_edit_language.specs.ValueChanges.{assignment_passes, assignment_spans, value_spans}
-use Rattle.mk_edit_language.specs.LineChanges.{begins_with, substituted, value_pieces, operator_pieces, line_pieces, line_change_spans, is_line_changed, assigned_after, modifier_number, reads_as, fits_line, line_after, is_misread}
+use Rattle.mk_edit_language.specs.LineChanges.{separator, leading_gaps, word_beside, tokens_beside, begins_with, substituted, value_pieces, operator_pieces, line_pieces, line_change_spans, is_line_changed, assigned_after, modifier_number, reads_as, fits_line, line_after, is_misread}
 use Rattle.mk_edit_language.specs.EditSpans.{where_found}
+use Rattle.mk_edit_language.specs.declared.edit.Side.{Side}
+use Rattle.mk_edit_language.specs.declared.edit.Side.TheVariants.{Before, After}
 use Rattle.mk_edit_language.specs.RuleCauses.{class_found}
 use Rattle.mk_edit_language.specs.LineCauses.{is_found_misread}
 use Rattle.mk_edit_language.specs.KeptLines.{respanned_bytes}
@@ -48,8 +50,9 @@ use Rattle.mk_session.proofs.on_statement.ValuesStated.{some-mapped}
 abbrev put_in : LineChange → List ℕ
 put_in (Prepend v) = v
 put_in (ReplaceWord w v) = v
+put_in (InsertWord s w n) = n
 put_in (Substitute f t) = t
-put_in (SetOperator f) = []
+put_in (SetOperator f) = operator_text f
 
 -- each piece that is replaced gets a text that has this one
 abbrev ArePut : (text : List ℕ) → List Piece → Type 0
@@ -82,6 +85,19 @@ tokens-put o n (Word w ∷ ts) = go (is_word_of o w) (tokens-put o n ts)
     go true h = (has-all n, h)
     go false h = h
 
+beside-put : (s : Side) (f : List Cell → List ℕ) (n : List ℕ) (b w a : List Cell) → ArePut n (word_beside s f n b w a)
+beside-put Before f n b w a = (has-front n (f (separator b a)), tt)
+beside-put After f n b w a = (has-right n (f (separator a b)) n (has-all n), tt)
+
+words-put : (s : Side) (f : List Cell → List ℕ) (w n : List ℕ) (b : List Cell) (ts : List (Token Cell)) → ArePut n (tokens_beside s f w n b ts)
+words-put s f w n b [] = tt
+words-put s f w n b (Gap u ∷ ts) = words-put s f w n (b ++ u) ts
+words-put s f w n b (Word x ∷ ts) = go (is_word_of w x) (words-put s f w n [] ts)
+  where
+    go : (c : Bool) → ArePut n (tokens_beside s f w n [] ts) → ArePut n ((if c then word_beside s f n b (concat x) (leading_gaps ts) else Keep (concat x) ∷ []) ++ tokens_beside s f w n [] ts)
+    go true h = put-append n (word_beside s f n b (concat x) (leading_gaps ts)) (tokens_beside s f w n [] ts) (beside-put s f n b (concat x) (leading_gaps ts)) h
+    go false h = h
+
 texts-put : (f t : List ℕ) (n : ℕ) (cs : List Cell) → ArePut t (substituted f t n cs)
 texts-put f t n [] = tt
 texts-put f t (suc n) (c ∷ cs) = texts-put f t n cs
@@ -96,20 +112,22 @@ prepended-has : (v : List ℕ) (b : Bool) → Has v (if b then v else v ++ 32 �
 prepended-has v true = has-all v
 prepended-has v false = has-front v (32 ∷ [])
 
-value-put : (c : LineChange) (us : List (List Cell)) → ArePut (put_in c) (value_pieces c us)
+value-put : (c : LineChange) (us : List (List Cell)) → ArePut (put_in c) (value_pieces raw_text c us)
 value-put (Prepend v) us = (prepended-has v (is_empty us), tt)
 value-put (ReplaceWord w v) us = tokens-put w v (tokens joined_byte us)
+value-put (InsertWord s w n) us = words-put s raw_text w n [] (tokens joined_byte us)
 value-put (Substitute f t) us = texts-put f t 0 (concat us)
 value-put (SetOperator f) us = tt
 
 operator-put : (c : LineChange) (a : Assignment Cell) → ArePut (put_in c) (operator_pieces c a)
 operator-put (Prepend v) a = tt
 operator-put (ReplaceWord w v) a = tt
+operator-put (InsertWord s w n) a = tt
 operator-put (Substitute f t) a = tt
-operator-put (SetOperator f) a = (has-nothing (operator_text f), tt)
+operator-put (SetOperator f) a = (has-all (operator_text f), tt)
 
 line-put : (c : LineChange) (a : Assignment Cell) → ArePut (put_in c) (line_pieces c a)
-line-put c a = put-append (put_in c) (operator_pieces c a) (value_pieces c a.value) (operator-put c a) (value-put c a.value)
+line-put c a = put-append (put_in c) (operator_pieces c a) (value_pieces raw_text c a.value) (operator-put c a) (value-put c a.value)
 
 -- ---- the new line
 

@@ -22,7 +22,7 @@ use Rattle.mk_edit_language.specs.declared.edit.RuleSeparator.TheVariants.{Singl
 use Rattle.mk_edit_language.specs.Refusals.{spans, text_after}
 use Rattle.mk_edit_language.proofs.on_edits.MadeEdits.{one_place-made}
 use Rattle.mk_session.specs.Statement.{Has, Names, Line, Become}
-use Rattle.mk_session.proofs.on_statement.CellTexts.{has-nothing, has-left}
+use Rattle.mk_session.proofs.on_statement.CellTexts.{has-nothing, has-left, all-solid}
 use Rattle.mk_session.proofs.on_statement.WordEdges.{IsOfKind, kind-is, BeginsBehind, begins-left, behind-colon}
 use Rattle.mk_session.proofs.on_statement.LineWords.{names-left, names-parts, names-in}
 use Rattle.mk_session.proofs.on_statement.PlacedLines.{Nothing, lines-become}
@@ -91,7 +91,7 @@ rule-front : (g : List ℕ) (s : RuleSeparator) (ws : List ℕ) → Names g 58 (
 rule-front g s ws plain =
     let S = rule_separator_text s in
     let W = each_after_space (words_in ws) in
-    names-in g 58 (rule_text g s ws) (g ++ (S ++ W)) (ap (λ z. z ++ (S ++ W)) (word-is g plain))
+    names-in g 58 (rule_text g s ws) (g ++ (S ++ W)) (ap (λ z. z ++ (S ++ W)) (word-is g (all-solid g plain)))
     (names-parts g 58 [] (S ++ W) (inl refl) (begins-left S W (separator-begins s)) (has-left (58 ∷ []) S W (separator-has s))) plain
 
 pub rule-stated : (p : Place) (g : List ℕ) (s : RuleSeparator) (ws t : List ℕ) (rs : List Replacement) → spans t (AddLine p (NewRule g s ws)) ≡ Ok rs

@@ -111,7 +111,7 @@ lines-become Old New t e rs s p h o n =
     let T = run-in_text (text_after t e) A (edited_lines t e s rs) s.below E.after in
     let after : logical_lines (text_after t e) ≡ bytes_of A ++ (edited_bytes t e s rs ++ bytes_of s.below) =
     T.lines ∙ ap (λ z. bytes_of A ++ (z ++ bytes_of s.below)) (bytes_of-classed (context_of s.above) (edited_bytes t e s rs)) in
-    (bytes_of s.above, bytes_of s.lines, edited_bytes t e s rs, bytes_of s.below, bytes_of A, R.lines, o, after, n, above-ended t e rs s p h)
+    (bytes_of s.above, bytes_of s.lines, edited_bytes t e s rs, bytes_of s.below, bytes_of A, R.lines, o, n, after, above-ended t e rs s p h)
 
 -- lines that are taken out, told by the lines before and after
 pub lines-go : (Old New : Lines → Lines → Type 0) (t u : List ℕ) (above lines below : List ClassedLine) → classed_lines t ≡ above ++ (lines ++ below) → classed_lines u ≡ above ++ below
@@ -119,4 +119,4 @@ pub lines-go : (Old New : Lines → Lines → Type 0) (t u : List ℕ) (above li
 lines-go Old New t u above lines below h k o n =
     let R = run-in_text t above lines below h in
     let T = run-in_text u above [] below k in
-    (bytes_of above, bytes_of lines, [], bytes_of below, bytes_of above, R.lines, o, T.lines, n, same-lines (bytes_of above))
+    (bytes_of above, bytes_of lines, [], bytes_of below, bytes_of above, R.lines, o, n, T.lines, same-lines (bytes_of above))

@@ -29,8 +29,8 @@ use Rattle.mk_edit_language.proofs.on_lines.SpotLemmas.{picked-is}
 use Rattle.mk_edit_language.proofs.on_recipes.RecipeClassLemmas.{recipe-stands}
 use Rattle.mk_edit_language.proofs.on_values.FoundAssignments.{no_prefix-set, prefix-of_class}
 use Rattle.mk_session.specs.Statement.{Has, Names, IsRecipe, Lines}
-use Rattle.mk_session.proofs.on_statement.CellTexts.{has-nothing, has-in, has-left}
-use Rattle.mk_session.proofs.on_statement.LineWords.{assign-line, rule-names}
+use Rattle.mk_session.proofs.on_statement.CellTexts.{has-nothing, has-in, has-left, solid-all}
+use Rattle.mk_session.proofs.on_statement.LineWords.{names-has, assign-line, rule-names}
 
 -- ---- some of the lines
 
@@ -55,8 +55,7 @@ assign-sets c l a b k = go (is_prefix_name (unit_text joined_byte a.name)) refl
         let n = codes ".RECIPEPREFIX" in
         let L = assign-line c n l (Assign a (Some b)) k e in
         let F = raw_text (concat (before_value L.assigned)) in
-        let N = L.front refl in
-        has-in n l (F ++ L.rest) L.whole (has-left n F L.rest (N.0, N.1 ∷ N.2, N.3))
+        has-in n l (F ++ L.rest) L.whole (has-left n F L.rest (names-has n 61 F (solid-all n refl) L.front))
     go false e = absurd (let no : Some b ≡ None = prefix-of_class c l a (Some b) k ∙ no_prefix-set (nat_lt 0 c.conditionals) a e in cc)
 
 -- a line leaves the prefix as it is, or has its name
@@ -96,14 +95,21 @@ prefix-above above h = lines-prefix start above h
 -- a line that begins with the prefix
 pub led-is_recipe : (above : List ClassedLine) (l : List ℕ) (p : ℕ) → AreClassed start above → (context_of above).prefix ≡ p → is_prefix_led p l ≡ true → IsRecipe (bytes_of above) l
 led-is_recipe above [] p h i e = absurd (cc)
-led-is_recipe above (b ∷ r) p h i e = (b, r, refl, go (prefix-above above h))
+led-is_recipe above (b ∷ r) p h i e = go (prefix-above above h)
   where
     same : b ≡ p
     same = eqb-true b p e
 
-    go : ((context_of above).prefix ≡ 9) ⊎ Any (Has (codes ".RECIPEPREFIX")) (bytes_of above) → (b ≡ 9) ⊎ Any (Has (codes ".RECIPEPREFIX")) (bytes_of above)
-    go (inl a) = inl (same ∙ (sym i ∙ a))
-    go (inr a) = inr a
+    go : ((context_of above).prefix ≡ 9) ⊎ Any (Has (codes ".RECIPEPREFIX")) (bytes_of above) → IsRecipe (bytes_of above) (b ∷ r)
+    go (inl a) = inl (ap (λ z. z ∷ []) (same ∙ (sym i ∙ a)))
+    go (inr a) = inr (omega arith, a)
+
+-- the byte that begins a recipe line: with any other bytes behind it, it is one too
+pub recipe-led : (up : Lines) (l : List ℕ) → IsRecipe up l → (p : ℕ) × (c : List ℕ) × (l ≡ p ∷ c) × ((r : List ℕ) → IsRecipe up (p ∷ r))
+recipe-led up [] (inl e) = absurd (cc)
+recipe-led up [] (inr h) = absurd (omega (arith, h.0))
+recipe-led up (b ∷ c) (inl e) = (b, c, refl, λ r. inl e)
+recipe-led up (b ∷ c) (inr h) = (b, c, refl, λ r. inr (omega arith, h.1))
 
 -- a recipe line of a text
 pub recipe-line : (t : List ℕ) (above : List ClassedLine) (l : ClassedLine) (below : List ClassedLine) → classed_lines t ≡ above ++ l ∷ below → is_recipe l.class ≡ true → IsRecipe (bytes_of above) l.bytes

@@ -1,7 +1,8 @@
 -- What a rename does to the lines of a makefile, in bytes.
 use Rattle.std.proofs.Common.{◌≡◌, refl, sym, ap, ◌∙◌, subst, ℕ, List, [], ◌∷◌, ◌++◌, map, Bool, true, false, append_assoc}
 use Rattle.std.specs.Prelude.{Ok, nat_lt, if◌then◌else◌}
-use Rattle.std.specs.List.{AllZip, list_any}
+use Rattle.std.specs.List.{AllZip, list_any, flat_map, join_by}
+use Rattle.std.proofs.lemmas.List.{append-nil}
 use Rattle.std.proofs.lemmas.Slice.Eq.{bytes_eq-Decides}
 use Rattle.mk_lines.specs.Lists.{concat}
 use Rattle.mk_lines.specs.LogicalLines.{logical_lines}
@@ -20,8 +21,24 @@ use Rattle.mk_edit_language.specs.WordPieces.{kept, is_word_of, renamed_tokens, 
 use Rattle.mk_edit_language.specs.LinesInPlace.{AreInPlace, IsLineRenamed}
 use Rattle.mk_edit_language.specs.Refusals.{spans, text_after}
 use Rattle.mk_edit_language.proofs.on_edits.KeptByRenameTargetLemmas.{rename_target-keeps}
-use Rattle.mk_session.specs.Statement.{joined, Renames}
-use Rattle.mk_session.proofs.on_statement.CellTexts.{solid-word}
+use Rattle.mk_session.specs.Statement.{Renames}
+use Rattle.mk_session.proofs.on_statement.CellTexts.{all-solid, solid-word}
+
+-- ---- parts of a line
+
+-- parts of a line, each with a word behind it
+abbrev joined : (word : List ℕ) → (parts : List (List ℕ)) → List ℕ
+joined w [] = []
+joined w (p ∷ ps) = p ++ (w ++ joined w ps)
+
+-- the same parts, and the rest of the line as the last of them
+later-parts : (w : List ℕ) (ps : List (List ℕ)) (rest : List ℕ) → flat_map (λ y. w ++ y) (ps ++ rest ∷ []) ≡ w ++ (joined w ps ++ rest)
+later-parts w [] rest = append-nil (w ++ rest)
+later-parts w (p ∷ ps) rest = ap (λ z. (w ++ p) ++ z) (later-parts w ps rest) ∙ simp append_assoc
+
+all-parts : (w : List ℕ) (ps : List (List ℕ)) (rest : List ℕ) → joined w ps ++ rest ≡ join_by (λ p. p) w (ps ++ rest ∷ [])
+all-parts w [] rest = sym (append-nil rest)
+all-parts w (p ∷ ps) rest = append_assoc p (w ++ joined w ps) rest ∙ ap (λ z. p ++ z) (append_assoc w (joined w ps) rest ∙ sym (later-parts w ps rest))
 
 -- ---- pieces
 
@@ -108,11 +125,11 @@ module _ (o n : List ℕ) where
   line-renames : (c : Context) (l m : ClassedLine) → IsLineRenamed o n c l m → Renames o n l.bytes m.bytes
   line-renames c l m r plain =
       let ps = renamed_pieces o n l.class in
-      let C = pieces-cut plain ps (class-renames l.class) in (
-        C.parts,
-        C.rest ++ r.rest,
-        r.old_line ∙ (ap (λ z. z ++ r.rest) C.old_is ∙ append_assoc (joined o C.parts) C.rest r.rest),
-        r.new_line ∙ (ap (λ z. z ++ r.rest) C.new_is ∙ append_assoc (joined n C.parts) C.rest r.rest),
+      let C = pieces-cut (all-solid o plain) ps (class-renames l.class) in
+      let rest = C.rest ++ r.rest in (
+        C.parts ++ rest ∷ [],
+        r.old_line ∙ (ap (λ z. z ++ r.rest) C.old_is ∙ (append_assoc (joined o C.parts) C.rest r.rest ∙ all-parts o C.parts rest)),
+        r.new_line ∙ (ap (λ z. z ++ r.rest) C.new_is ∙ (append_assoc (joined n C.parts) C.rest r.rest ∙ all-parts n C.parts rest)),
       )
 
   lines-rename : (c : Context) (ls ms : List ClassedLine) → AreInPlace (IsLineRenamed o n) c ls ms → AllZip (Renames o n) (bytes_of ls) (bytes_of ms)

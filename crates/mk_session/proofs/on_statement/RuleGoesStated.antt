@@ -1,8 +1,9 @@
 -- What the removal of a rule does to the lines of a makefile, in bytes.
-use Rattle.std.proofs.Common.{◌≡◌, refl, sym, ap, ◌∙◌, subst, ℕ, zero, suc, List, [], ◌∷◌, ◌++◌, Bool, true, false, not, ◌&&◌, ◌||◌, ◌==◌, Option, Some, None, inl, inr}
-use Rattle.std.specs.Prelude.{Ok, nat_lt, All, if◌then◌else◌}
+use Rattle.std.proofs.Common.{◌≡◌, refl, sym, ap, ◌∙◌, subst, arith, ℕ, zero, suc, ◌<◌, ◌≤◌, List, [], ◌∷◌, ◌++◌, Bool, true, false, not, ◌&&◌, ◌||◌, ◌==◌, Option, Some, None, inl, inr}
+use Rattle.std.specs.Prelude.{◌⊎◌, Ok, nat_lt, All, if◌then◌else◌}
 use Rattle.std.specs.List.{list_any}
 use Rattle.std.specs.Str.{bytes_eq}
+use Rattle.std.proofs.lemmas.Bool.{eqb-true, ltb-false}
 use Rattle.std.proofs.lemmas.List.Elements.{All-nil, All-cons}
 use Rattle.std.proofs.lemmas.Slice.Eq.{bytes_eq-Decides}
 use Rattle.mk_lines.specs.Lists.{concat, leading, after_leading, Each as Every}
@@ -44,7 +45,7 @@ use Rattle.mk_edit_language.specs.Refusals.{spans, text_after}
 use Rattle.mk_edit_language.proofs.on_recipes.RecipeClassLemmas.{recipe-stands}
 use Rattle.mk_edit_language.proofs.on_removals.RuleTakenLemmas.{remove_rule-takes}
 use Rattle.mk_edit_language.proofs.on_lines.HeaderParts.{one_byte}
-use Rattle.mk_session.specs.Statement.{Has, IsOfRecipe, Rule, Become}
+use Rattle.mk_session.specs.Statement.{Has, Lines, IsRecipe, Rule, Become}
 use Rattle.mk_session.proofs.on_statement.CellTexts.{has-in, has-left, has-right, has-front, line-bytes}
 use Rattle.mk_session.proofs.on_statement.WordEdges.{IsOfKind, kind-is}
 use Rattle.mk_session.proofs.on_statement.LineWords.{rule-names}
@@ -290,13 +291,31 @@ blank-line c l e =
     let end = line_end_bytes (line_end l) in
     subst HasNoInk (sym (line-bytes l)) (no_ink-append (raw_text (line_cells l)) end (subst (λ z. HasNoInk (raw_text z)) whole text) (end-no_ink (line_end l)))
 
+-- each byte of a text without ink is a blank, of a line end or a backslash
+no_ink-byte : (b : ℕ) → is_ink b ≡ false → (b < 33) ⊎ (b ≡ 92)
+no_ink-byte b h = go (nat_lt 32 b) refl (b == 92) refl h
+  where
+    go : (x : Bool) → nat_lt 32 b ≡ x → (y : Bool) → (b == 92) ≡ y → (x && not y) ≡ false → (b < 33) ⊎ (b ≡ 92)
+    go false e y f k = inl (let low : b ≤ 32 = ltb-false 32 b e in omega (arith, low))
+    go true e true f k = inr (eqb-true b 92 f)
+    go true e false f k = absurd (cc)
+
+no_ink-all : (l : List ℕ) → HasNoInk l → All (λ b. (b < 33) ⊎ (b ≡ 92)) l
+no_ink-all [] h = All-nil (λ b. (b < 33) ⊎ (b ≡ 92))
+no_ink-all (b ∷ l) h =
+    All-cons (λ b. (b < 33) ⊎ (b ≡ 92)) b l (no_ink-byte b (or-left_false (is_ink b) (list_any is_ink l) h)) (no_ink-all l (or-right_false (is_ink b) (list_any is_ink l) h))
+
 -- ---- the lines of a recipe
+
+-- a recipe line, a line with a comment, or a blank line
+abbrev IsOfRecipe : (above : Lines) → (line : List ℕ) → Type 0
+IsOfRecipe up l = IsRecipe up l ⊎ (Has (35 ∷ []) l ⊎ All (λ b. (b < 33) ⊎ (b ≡ 92)) l)
 
 line-of_recipe : (above : List ClassedLine) (c : Context) (l : List ℕ) (k : Class Cell) → AreClassed start above → (context_of above).prefix ≡ c.prefix → class_of c l ≡ k → is_of_recipe k ≡ true
     → IsOfRecipe (bytes_of above) l × ((context_after c k).prefix ≡ c.prefix)
 line-of_recipe above c l Class.Recipe a p e h = (inl (led-is_recipe above l c.prefix a p (recipe-stands c l (ap is_recipe e)).is_led), refl)
 line-of_recipe above c l Class.Comment a p e h = (inr (inl (comment-has c l e)), refl)
-line-of_recipe above c l Class.Blank a p e h = (inr (inr (blank-line c l e)), refl)
+line-of_recipe above c l Class.Blank a p e h = (inr (inr (no_ink-all l (blank-line c l e))), refl)
 line-of_recipe above c l Class.Endef a p e h = absurd (cc)
 line-of_recipe above c l (Class.Body d) a p e h = absurd (cc)
 line-of_recipe above c l Class.Opaque a p e h = absurd (cc)

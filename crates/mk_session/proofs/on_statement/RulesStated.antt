@@ -39,7 +39,7 @@ use Rattle.mk_session.specs.Statement.{Has, Names, Line, Recipe, Become}
 use Rattle.mk_session.proofs.on_statement.CellTexts.{has-nothing, has-left, has-right, has-front}
 use Rattle.mk_session.proofs.on_statement.LineWords.{header-front, rule-for, rule-names}
 use Rattle.mk_session.proofs.on_statement.PlacedLines.{Nothing, lines-become}
-use Rattle.mk_session.proofs.on_statement.RecipePlaces.{led-is_recipe, recipe-line, recipe_found-below, recipe_place-below, text_meant, recipe_found-has}
+use Rattle.mk_session.proofs.on_statement.RecipePlaces.{led-is_recipe, recipe-led, recipe-line, recipe_found-below, recipe_place-below, text_meant, recipe_found-has}
 use Rattle.mk_session.proofs.on_statement.ValuesStated.{some-mapped, no-lines}
 
 -- ---- prerequisites
@@ -151,18 +151,19 @@ set_recipe-stated nth g w c t rs h =
     let s = M.0 in
     let S = recipe_found-is (classed_lines t) nth g w s M.1 in
     let I = recipe-line t s.above s.line s.below S.whole S.passes in
+    let B = recipe-led (bytes_of s.above) s.line.bytes I in
     let below = recipe_found-below t g nth w s M.1 in
     let at = length (text_of s.above) in
     let b = length (without_line_end s.line.bytes) in
     let rest = drop b (s.line.bytes ++ []) in
     let spans_are : rs ≡ recipe_span c s = sym (accepted t e rs h).spans_are ∙ ap (where_found (recipe_span c)) M.1 in
-    let m = I.0 ∷ (c ++ rest) in
-    let first : take 1 (s.line.bytes ++ []) ≡ I.0 ∷ [] = ap (λ z. take 1 (z ++ [])) I.2 in
+    let m = B.0 ∷ (c ++ rest) in
+    let first : take 1 (s.line.bytes ++ []) ≡ B.0 ∷ [] = ap (λ z. take 1 (z ++ [])) B.2 in
     let new : respanned_bytes (this_line s) rs ≡ m =
     ap (respanned_bytes (this_line s)) spans_are ∙ (respanned-one (this_line s) (at + 1) (at + b) 1 b c refl refl ∙ ap (λ z. z ++ (c ++ rest)) first) in
     lines-become (Recipe g (text_meant w)) (Recipe g c) t e rs (this_line s) (ap (option_map this_line) M.1) h
     (s.line.bytes, refl, I, recipe_found-has t g nth w s M.1, below)
-    (m, ap (λ z. z ∷ []) new, (I.0, c ++ rest, refl, I.3), (I.0 ∷ [], rest, refl), below)
+    (m, ap (λ z. z ∷ []) new, B.3 (c ++ rest), (B.0 ∷ [], rest, refl), below)
 
 -- a recipe line that goes
 pub no_recipe-stated : (nth : Option ℕ) (g : List ℕ) (w : RecipeLine) (t : List ℕ) (rs : List Replacement) → spans t (RemoveLines (OfRecipe nth g w)) ≡ Ok rs

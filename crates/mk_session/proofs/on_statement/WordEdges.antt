@@ -23,7 +23,6 @@ use Rattle.mk_class.specs.declared.assignment.Flavor.TheVariants as flavor
 use Rattle.mk_class.specs.declared.assignment.Modifier.{Modifier}
 use Rattle.mk_class.specs.Assignments.{Assignment, operator_at, operator_length, defined_by, definition, ends_name, after_blanks, blanks, modifier_of, after_units, after_modifier, assignment_of, assignment}
 use Rattle.mk_edit_language.proofs.on_lines.HeaderParts.{one_byte}
-use Rattle.mk_session.specs.Statement.{EndsBlank}
 use Rattle.mk_session.proofs.on_statement.CellTexts.{raw-units, solid-word}
 
 -- ---- bytes by their kinds
@@ -59,6 +58,10 @@ BeginsBehind t = (x : ℕ) × (r : List ℕ) × (t ≡ x ∷ r) × IsBehind x
 
 abbrev EndsLow : List ℕ → Type 0
 EndsLow t = (f : List ℕ) × (y : ℕ) × (t ≡ f ++ y ∷ []) × (y < 33)
+
+-- a text is empty, or ends in a blank or a line end
+abbrev pub EndsBlank : List ℕ → Type 0
+EndsBlank t = (t ≡ []) ⊎ EndsLow t
 
 blank-behind : (b : ℕ) → (b ≡ 32) ⊎ (b ≡ 9) → IsBehind b
 blank-behind b (inl e) = subst IsBehind (sym e) (2, omega arith, refl)

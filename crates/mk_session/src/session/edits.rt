@@ -2,6 +2,7 @@
 ghost use Rattle.std.specs.Prelude.{◌≡◌, IfOk, None, false, true};
 ghost use Rattle.mk_edit_language.specs.EditViews.{edit_of, place_of};
 ghost use Rattle.mk_edit_language.specs.Edits as edits;
+ghost use Rattle.mk_edit_language.specs.declared.edit.Side.TheVariants.{Before, After};
 ghost use Rattle.mk_session.specs.Applied.{IsApplied};
 
 use super::Session;
@@ -62,6 +63,24 @@ impl<A: Allocator + Copy> Session<A> {
             result self.old self.new }
     {
         self.apply_made(Edit::replace_word(self.alloc, name, word, value))
+    }
+
+    /// `add-before NAME WORD NEW`: makes the edit of [`Edit::add_before`].
+    pub fn add_before(&mut self, name: &[u8], word: &[u8], new: &[u8]) -> Result<(), Refusal>
+        ensures { IsApplied
+            (edits.ChangeLine None name.now (edits.InsertWord Before word.now new.now))
+            result self.old self.new }
+    {
+        self.apply_made(Edit::add_before(self.alloc, name, word, new))
+    }
+
+    /// `add-after NAME WORD NEW`: makes the edit of [`Edit::add_after`].
+    pub fn add_after(&mut self, name: &[u8], word: &[u8], new: &[u8]) -> Result<(), Refusal>
+        ensures { IsApplied
+            (edits.ChangeLine None name.now (edits.InsertWord After word.now new.now))
+            result self.old self.new }
+    {
+        self.apply_made(Edit::add_after(self.alloc, name, word, new))
     }
 
     /// `subst NAME FROM TO`: makes the edit of [`Edit::substitute`].

@@ -15,4 +15,4 @@ words-init g c =
     let v = c.args.value in
     let e : c.into_iter-word-iterator.result ≡ word_ranges (text_at t v) =
     c.into_iter-word-iterator.ensures.into_iter_gives ∙ (c.words-word-items.ensures.words ∙ ap word_ranges (c.part.ensures ∙ ap (λ z. text_at z v) c.text_of_line-text.ensures)) in
-    (tt, tt, part-words cs v _ c.requires.within e, subst (λ ws. AreNoted cs (word_places t v.start c.args.wanted.now (word_ranges (text_at t v))) (word_places t v.start c.args.wanted.now ws) c.args.places) (sym e) (noted-none cs _ _ c.requires.none))
+    (tt, tt, part-words cs v _ c.requires.within e, subst (λ ws. AreNoted cs (word_places t v.start c.args.side c.args.wanted.now (word_ranges (text_at t v))) (word_places t v.start c.args.side c.args.wanted.now ws) c.args.places) (sym e) (noted-none cs _ _ c.requires.none))

@@ -13,4 +13,4 @@ invariant-words g l =
     let t = text_of_line (line_view l.line) in
     (goal.iterator-words g).can_next l.word-iterator × (goal.iterator-words g).is_finite l.word-iterator
     × AreWithin (l.value.end - l.value.start) l.word-iterator
-    × AreNoted (line_cells (line_view l.line).bytes) (word_places t l.value.start l.wanted (word_ranges (text_at t l.value))) (word_places t l.value.start l.wanted l.word-iterator) l.places
+    × AreNoted (line_cells (line_view l.line).bytes) (word_places t l.value.start l.side l.wanted (word_ranges (text_at t l.value))) (word_places t l.value.start l.side l.wanted l.word-iterator) l.places

@@ -1,0 +1,123 @@
+-- What a site means is a stretch of the text's lines.
+use Rattle.std.proofs.Common.{◌≡◌, refl, sym, ap, ◌∙◌, subst, ℕ, zero, suc, List, [], ◌∷◌, ◌++◌, map, append_assoc, Option, Some, None, option_map}
+use Rattle.std.specs.Prelude.{option_and_then}
+use Rattle.std.proofs.lemmas.List.{append-nil}
+use Rattle.mk_class.specs.ClassedLines.{ClassedLine}
+use Rattle.mk_tree.specs.LineTexts.{StandingLine}
+use Rattle.mk_edit_language.specs.Edits.{Place, Bottom, BeforeVar, AfterVar, BeforeRule}
+use Rattle.mk_edit_language.specs.Spots.{nth_of, picked}
+use Rattle.mk_edit_language.specs.Addresses.{Address, Variable, Rule, found, candidates, nth_meant}
+use Rattle.mk_edit_language.specs.Stretches.{Stretch, IsStretchOf, before_line, after_line}
+use Rattle.mk_edit_language.specs.LineRuns.{Site, Top, AtPlace, BeforeRun, AfterRun, OfRun, texts_of, after_texts, led_by, lower, run_in_front, before_runs, runs, before_run, after_run, place_stretches, site_number, site_stretches, site_found}
+use Rattle.mk_edit_language.proofs.on_edits.EditPlaces.{IsSpotOf, found-spot}
+
+-- ---- what is picked of a list that is mapped
+
+-- what is picked is the image of what would be picked of the list
+record IsImage {A B : Type 0} (f : A → B) (o : Option A) (y : B) : Type 0 where
+  from : A
+  picked_is : o ≡ Some from
+  image : f from ≡ y
+
+nth-of_map : {A B : Type 0} (f : A → B) (n : ℕ) (xs : List A) (y : B) → nth_of n (map f xs) ≡ Some y → IsImage f (nth_of n xs) y
+nth-of_map f n [] y h = absurd (cc)
+nth-of_map f zero (x ∷ xs) y h = absurd (cc)
+nth-of_map f (suc zero) (x ∷ xs) y h = let e : f x ≡ y = cc in record { from = x; picked_is = refl; image = e }
+nth-of_map f (suc (suc n)) (x ∷ xs) y h = nth-of_map f (suc n) xs y h
+
+picked-of_map : {A B : Type 0} (f : A → B) (nth : Option ℕ) (xs : List A) (y : B) → picked nth (map f xs) ≡ Some y → IsImage f (picked nth xs) y
+picked-of_map f None [] y h = absurd (cc)
+picked-of_map f None (x ∷ []) y h = let e : f x ≡ y = cc in record { from = x; picked_is = refl; image = e }
+picked-of_map f None (x ∷ z ∷ xs) y h = absurd (cc)
+picked-of_map f (Some n) xs y h = nth-of_map f n xs y h
+
+-- ---- stretches of the text's lines
+
+abbrev AreStretchesOf : List ClassedLine → List Stretch → Type 0
+AreStretchesOf ls [] = Unit {0}
+AreStretchesOf ls (s ∷ ss) = IsStretchOf ls s × AreStretchesOf ls ss
+
+pub nth-stretch : (ls : List ClassedLine) (n : ℕ) (ss : List Stretch) (s : Stretch) → AreStretchesOf ls ss → nth_of n ss ≡ Some s → IsStretchOf ls s
+nth-stretch ls n [] s h e = absurd (cc)
+nth-stretch ls zero (q ∷ ss) s h e = absurd (cc)
+nth-stretch ls (suc zero) (q ∷ ss) s h e = let k : q ≡ s = cc in subst (IsStretchOf ls) k h.0
+nth-stretch ls (suc (suc n)) (q ∷ ss) s h e = nth-stretch ls (suc n) ss s h.1 e
+
+picked-stretch : (ls : List ClassedLine) (nth : Option ℕ) (ss : List Stretch) (s : Stretch) → AreStretchesOf ls ss → picked nth ss ≡ Some s → IsStretchOf ls s
+picked-stretch ls None [] s h e = absurd (cc)
+picked-stretch ls None (q ∷ []) s h e = let k : q ≡ s = cc in subst (IsStretchOf ls) k h.0
+picked-stretch ls None (q ∷ r ∷ ss) s h e = absurd (cc)
+picked-stretch ls (Some n) ss s h e = nth-stretch ls n ss s h e
+
+-- ---- runs
+
+-- a run that begins with the first of some lines
+record IsInFront (ls : List ClassedLine) (s : Stretch) : Type 0 where
+  above : s.above ≡ []
+  whole : ls ≡ s.lines ++ s.below
+
+run-front : (b : List (List ℕ)) (ls : List ClassedLine) (s : Stretch) → run_in_front b ls ≡ Some s → IsInFront ls s
+run-front [] ls s h = let k : record { above = []; lines = []; below = ls } ≡ s = cc in subst (IsInFront ls) k (record { above = refl; whole = refl })
+run-front (x ∷ b) [] s h = absurd (cc)
+run-front (x ∷ b) (l ∷ ls) s h = go (λ rest r. run-front rest ls r) (after_texts (texts_of l.bytes) (x ∷ b)) h
+  where
+    longer : (rest : List (List ℕ)) (o : Option Stretch) → run_in_front rest ls ≡ o → ((r : Stretch) → run_in_front rest ls ≡ Some r → IsInFront ls r) → option_map (led_by l) o ≡ Some s → IsInFront (l ∷ ls) s
+    longer rest None i f e = absurd (cc)
+    longer rest (Some r) i f e =
+        let g : IsInFront ls r = f r i in
+        let k : led_by l r ≡ s = cc in
+        subst (IsInFront (l ∷ ls)) k (record { above = g.above; whole = ap (λ z. l ∷ z) g.whole })
+
+    go : ((rest : List (List ℕ)) (r : Stretch) → run_in_front rest ls ≡ Some r → IsInFront ls r) → (o : Option (List (List ℕ)))
+        → option_and_then (λ rest. option_map (led_by l) (run_in_front rest ls)) o ≡ Some s → IsInFront (l ∷ ls) s
+    go f None e = absurd (cc)
+    go f (Some rest) e = longer rest (run_in_front rest ls) refl (f rest) e
+
+front-stretch : (ls : List ClassedLine) (s : Stretch) → IsInFront ls s → IsStretchOf ls s
+front-stretch ls s h = h.whole ∙ ap (λ z. z ++ (s.lines ++ s.below)) (sym h.above)
+
+lower-stretches : (l : ClassedLine) (ls : List ClassedLine) (ss : List Stretch) → AreStretchesOf ls ss → AreStretchesOf (l ∷ ls) (map (lower l) ss)
+lower-stretches l ls [] h = tt
+lower-stretches l ls (s ∷ ss) h = (ap (λ z. l ∷ z) h.0, lower-stretches l ls ss h.1)
+
+pub runs-stretches : (b : List (List ℕ)) (ls : List ClassedLine) → AreStretchesOf ls (runs b ls)
+runs-stretches b [] = tt
+runs-stretches b (l ∷ ls) = go (run_in_front b (l ∷ ls)) refl (lower-stretches l ls (runs b ls) (runs-stretches b ls))
+  where
+    go : (o : Option Stretch) → run_in_front b (l ∷ ls) ≡ o → AreStretchesOf (l ∷ ls) (map (lower l) (runs b ls)) → AreStretchesOf (l ∷ ls) (before_runs o (map (lower l) (runs b ls)))
+    go None e h = h
+    go (Some r) e h = (front-stretch (l ∷ ls) r (run-front b (l ∷ ls) r e), h)
+
+before-stretches : (ls : List ClassedLine) (ss : List Stretch) → AreStretchesOf ls ss → AreStretchesOf ls (map before_run ss)
+before-stretches ls [] h = tt
+before-stretches ls (s ∷ ss) h = (h.0, before-stretches ls ss h.1)
+
+after-stretches : (ls : List ClassedLine) (ss : List Stretch) → AreStretchesOf ls ss → AreStretchesOf ls (map after_run ss)
+after-stretches ls [] h = tt
+after-stretches ls (s ∷ ss) h = (h.0 ∙ sym (append_assoc s.above s.lines s.below), after-stretches ls ss h.1)
+
+-- ---- places
+
+-- a place at a line that an address means
+at-line : (ls : List ClassedLine) (a : Address) (f : StandingLine → Stretch) (s : Stretch) → ((x : StandingLine) → IsSpotOf ls x → IsStretchOf ls (f x))
+    → picked (nth_meant a) (map f (candidates ls a)) ≡ Some s → IsStretchOf ls s
+at-line ls a f s at e =
+    let I : IsImage f (found ls a) s = picked-of_map f (nth_meant a) (candidates ls a) s e in
+    subst (IsStretchOf ls) I.image (at I.from (found-spot ls a I.from I.picked_is))
+
+after-spot : (ls : List ClassedLine) (x : StandingLine) → IsSpotOf ls x → IsStretchOf ls (after_line x)
+after-spot ls x h = h ∙ sym (append_assoc x.above (x.line ∷ []) x.below)
+
+place-stretch : (ls : List ClassedLine) (p : Place) (s : Stretch) → picked (site_number (AtPlace p)) (place_stretches ls p) ≡ Some s → IsStretchOf ls s
+place-stretch ls Bottom s e = picked-stretch ls None (place_stretches ls Bottom) s (sym (append-nil ls), tt) e
+place-stretch ls (BeforeVar nth n) s e = at-line ls (Variable nth n) before_line s (λ x h. h) e
+place-stretch ls (AfterVar nth n) s e = at-line ls (Variable nth n) after_line s (after-spot ls) e
+place-stretch ls (BeforeRule nth g) s e = at-line ls (Rule nth g) before_line s (λ x h. h) e
+
+-- what a site means
+pub site-stretch : (ls : List ClassedLine) (site : Site) (s : Stretch) → site_found ls site ≡ Some s → IsStretchOf ls s
+site-stretch ls Top s e = picked-stretch ls None (site_stretches ls Top) s (refl, tt) e
+site-stretch ls (AtPlace p) s e = place-stretch ls p s e
+site-stretch ls (BeforeRun nth o) s e = picked-stretch ls nth (site_stretches ls (BeforeRun nth o)) s (before-stretches ls (runs o ls) (runs-stretches o ls)) e
+site-stretch ls (AfterRun nth o) s e = picked-stretch ls nth (site_stretches ls (AfterRun nth o)) s (after-stretches ls (runs o ls) (runs-stretches o ls)) e
+site-stretch ls (OfRun nth o) s e = picked-stretch ls nth (runs o ls) s (runs-stretches o ls) e
