@@ -163,7 +163,8 @@ _mkedit_help() {
     words=(
         set append add drop prepend replace add-before add-after subst operator unset assign rule
         unrule depend depend-order undepend recipe recipe-insert recipe-set recipe-del
-        recipe-replace recipe-remove rename nth all undo redo begin end cancel try or
+        recipe-replace recipe-remove insert line-replace line-remove rename nth all undo redo begin
+        end cancel try or
     )
     # made until here
     _alternative \

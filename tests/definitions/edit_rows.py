@@ -37,6 +37,7 @@ FIELDS = {
     "new": "New",
     "from": "From",
     "to": "To",
+    "block": "Block",
 }
 # The refusals that an edit may have, by number.
 REFUSALS = dict(

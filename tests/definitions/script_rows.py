@@ -53,10 +53,17 @@ EDITS = {
     b"recipe": ("AddRecipe", [], 2),
     b"recipe-replace": ("SetRecipeByText", [], 3),
     b"recipe-remove": ("RemoveRecipeByText", [], 2),
+    b"line-replace": ("ReplaceLines", [], 2),
+    b"line-remove": ("RemoveLines", [], 1),
 }
 # The changes of every value of a name, by their word.
 CHANGES = {b"set": "Set", b"append": "Append", b"add": "Add", b"drop": "Remove"}
+# The places of a new line, by their word: those without an address, and those with one; and the same for whole lines.
+ENDS = {b"bottom": "Bottom"}
 PLACES = {b"before-var": "BeforeVar", b"after-var": "AfterVar", b"before-rule": "BeforeRule"}
+TEXT_PLACES = {b"before-line": "BeforeRun", b"after-line": "AfterRun"}
+SITE_ENDS = {**ENDS, b"top": "Top"}
+SITES = {**PLACES, **TEXT_PLACES}
 CALLS = {b"undo": "Undo", b"redo": "Redo", b"begin": "Begin", b"end": "End", b"cancel": "Cancel"}
 
 
@@ -106,12 +113,12 @@ def taken(fields, count):
     return fields
 
 
-def place_of(nth, fields):
-    """The place at the front of fields, and the fields after it."""
-    if fields[:1] == [b"bottom"] and nth is None:
-        return ("Bottom",), fields[1:]
-    if len(fields) > 1 and fields[0] in PLACES:
-        return (PLACES[fields[0]], nth, fields[1]), fields[2:]
+def place_of(nth, fields, ends=ENDS, places=PLACES):
+    """The place at the front of fields, by the words that places have, and the fields after it."""
+    if nth is None and fields and fields[0] in ends:
+        return (ends[fields[0]],), fields[1:]
+    if len(fields) > 1 and fields[0] in places:
+        return (places[fields[0]], nth, fields[1]), fields[2:]
     raise NoCommand
 
 
@@ -133,6 +140,9 @@ def edit_of(nth, word, fields):
         if word == b"assign":
             return ("AddAssign", place, first, known(FLAVORS, sign), last)
         return ("AddRule", place, first, known(SEPARATORS, sign), last)
+    if word == b"insert":
+        site, fields = place_of(nth, fields, SITE_ENDS, SITES)
+        return ("InsertLines", site, *taken(fields, 1))
     if word == b"operator":
         name, sign = taken(fields, 2)
         return ("SetOperator", nth, name, known(FLAVORS, sign))
@@ -240,12 +250,31 @@ def antt_change(kind, text):
     return f"(edits.{kind} {text})"
 
 
+def antt_block(text):
+    """The lines of a block as a term."""
+    return f"(block_lines {antt_text(text)})"
+
+
+def antt_place(place):
+    """A place as a term."""
+    if len(place) == 1:
+        return place[0]
+    kind, nth, field = place
+    return f"({kind} {antt_nth(nth)} {antt_block(field) if kind in TEXT_PLACES.values() else antt_text(field)})"
+
+
+def antt_site(place):
+    """A place of whole lines as a term."""
+    is_of_line = place[0] in (*ENDS.values(), *PLACES.values())
+    return f"(AtPlace {antt_place(place)})" if is_of_line else antt_place(place)
+
+
 def antt_argument(name, part):
     """An argument of an edit as a term."""
     if name == "ChangeValues" and isinstance(part, tuple):
         return antt_change(part[0], antt_text(part[1]))
     if isinstance(part, tuple):
-        return part[0] if len(part) == 1 else f"({part[0]} {antt_nth(part[1])} {antt_text(part[2])})"
+        return antt_site(part) if name == "InsertLines" else antt_place(part)
     if isinstance(part, bool):
         return antt_bool(part)
     return antt_text(part) if isinstance(part, bytes) else str(part)
@@ -277,11 +306,14 @@ FORMS = {
     "SetRecipeByText": "SetRecipe {0} {1} (ByText {2}) {3}",
     "RemoveRecipeByText": "RemoveLines (OfRecipe {0} {1} (ByText {2}))",
     "RenameTarget": "RenameTarget {0} {1}",
+    "InsertLines": "ExchangeLines {0} (block_lines {1})",
+    "ReplaceLines": "ExchangeLines (OfRun {0} (block_lines {1})) (block_lines {2})",
+    "RemoveLines": "ExchangeLines (OfRun {0} (block_lines {1})) []",
 }
 # The words of the forms.
 FORM_WORDS = (
-    "One Every NewAssign NewRule AddPrereq RemovePrereq ByNumber ByText Last At OfAssign OfRule OfRecipe"
-    " ChangeValue ChangeLine ChangePrereqs AddLine AddRecipe SetRecipe RemoveLines RenameTarget"
+    "One Every NewAssign NewRule AddPrereq RemovePrereq ByNumber ByText Last At OfAssign OfRule OfRecipe AtPlace OfRun"
+    " ChangeValue ChangeLine ChangePrereqs AddLine AddRecipe SetRecipe RemoveLines RenameTarget ExchangeLines"
 ).split()
 
 
@@ -322,9 +354,10 @@ EDIT_IMPORTS = [
     ("Rattle.mk_class.specs.declared.assignment.Flavor.TheVariants", list(FLAVORS.values())),
     ("Rattle.mk_edit_language.specs.declared.edit.RuleSeparator.TheVariants", list(SEPARATORS.values())),
     ("Rattle.mk_edit_language.specs.declared.edit.Side.TheVariants", ["Before", "After"]),
-    ("Rattle.mk_edit_language.specs.Edits", ["Edit", "Bottom", *PLACES.values()]),
+    ("Rattle.mk_edit_language.specs.Edits", ["Edit", *SITE_ENDS.values(), *SITES.values()]),
     ("Rattle.mk_edit_language.specs.Edits", FORM_WORDS),
     ("Rattle.mk_edit_language.specs.Edits", "edits"),
+    ("Rattle.mk_edit_language.specs.LineRuns", ["block_lines"]),
 ]
 SCRIPT_IMPORTS = [
     *EDIT_IMPORTS,

@@ -3,7 +3,7 @@
 import re
 
 import tests.soak  # noqa: F401  (it says where script_rows is)
-from script_rows import CALLS, EDITS, PLACES
+from script_rows import CALLS, EDITS, SITE_ENDS, SITES
 from tests.lib.reading import CONDITIONALS as CONDITIONAL_WORDS
 from tests.lib.reading import PREFIX_NAME
 from tests.lib.tables import rows, unescape
@@ -19,9 +19,9 @@ MAKEFILES = ("queries", "corner-queries", "readings/worked")
 TEXT = b"X = 1\na: b\n\tc\n"
 LONGEST = 60
 OTHER_COMMANDS = (
-    b"operator assign rule recipe-set recipe-del recipe-insert recipe-replace recipe-remove rename nth all bottom".split()
+    b"operator assign rule recipe-set recipe-del recipe-insert recipe-replace recipe-remove rename insert nth all".split()
 )
-COMMANDS = [*EDITS, *PLACES, *CALLS, *OTHER_COMMANDS]
+COMMANDS = [*EDITS, *SITE_ENDS, *SITES, *CALLS, *OTHER_COMMANDS]
 WORDS = [
     *(it + b" " for it in COMMANDS if it not in CALLS),
     *(it + b"\n" for it in CALLS),

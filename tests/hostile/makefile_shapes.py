@@ -164,6 +164,8 @@ def one_name(size):
     edits = (
         ("set the last", b"nth %d set A 2" % count, [(b"A = 1\n", count - 1), (b"A = 2\n", 1)]),
         ("set all", b"all set A 2", [(b"A = 2\n", count)]),
+        ("replace the last", b'nth %d line-replace "A = 1" B' % count, [(b"A = 1\n", count - 1), (b"B\n", 1)]),
+        ("insert before the last", b'nth %d insert before-line "A = 1" B' % count, [(b"A = 1\n", count - 1), (b"B\nA = 1\n", 1)]),
     )
     return Shape("one name in every line", [(b"A = 1\n", count)], {"vars": [(assignment, count)]}, edits)
 
@@ -232,6 +234,7 @@ def recipe_lines(size):
         ("recipe-insert", b"recipe-insert many 1 new", [(b"many:\n\tnew\n", 1), (line, count)]),
         ("unrule", b"unrule many", []),
         ("rename", b"rename many new", [(b"new:\n", 1), (line, count)]),
+        ("line-remove", b'nth %d line-remove "%s"' % (count, line[:-1]), without),
     )
     said = {"rules": [(b"1:0: many: [%d]\n" % count, 1)], "recipes": [(b"1:0: many:\n", 1), (recipe, count)]}
     return Shape("recipe lines", part, said, edits)
@@ -269,8 +272,14 @@ def alternatives(size):
 
 def define(size):
     """A define of many lines."""
-    part = [(b"define D\n", 1), (b"X = $(\n", size // 7), (b"endef\n", 1)]
-    return Shape("lines of a define", part)
+    count = size // 7
+    part = [(b"define D\n", 1), (b"X = $(\n", count), (b"endef\n", 1)]
+    other = [(b"define D\n", 1), (b"X = $(\n", count - 1), (b"x\nendef\n", 1)]
+    edits = (
+        ("replace the last", b'nth %d line-replace "X = $(" x' % count, other),
+        ("insert after them", b"insert before-line endef x", [*part[:2], (b"x\nendef\n", 1)]),
+    )
+    return Shape("lines of a define", part, edits=edits)
 
 
 def open_defines(size):

@@ -50,10 +50,14 @@ EDITS = {
     "recipe-replace": (b"recipe-replace last second third", b"second", b"third"),
     "recipe-remove": (b"recipe-remove last first", b"\tfirst\n", b""),
     "rename": (b"rename last final", b"last:", b"final:"),
+    "insert": (b'insert after-line "LAST = one # c" "# new"', b"last:", b"# new@last:"),
+    "line-replace": (b'line-replace "END = 1" "END = 2"', b"END = 1", b"END = 2"),
+    "line-remove": (b'line-remove "\tfirst"', b"\tfirst\n", b""),
 }
 BOTTOM = {
     "assign bottom": (b"assign bottom NEW = 1", b"NEW = 1"),
     "rule bottom": (b'rule bottom new : "a b"', b"new: a b"),
+    "insert bottom": (b'insert bottom "# new"', b"# new"),
 }
 # One list of every kind, each fit for what those before it leave, and then as many undos.
 ALL = (
@@ -65,6 +69,7 @@ ALL = (
     b"recipe last third\nrecipe-set last 2 fourth\nrecipe-del last 1\n"
     b"recipe-insert last 2 fifth\nrecipe-replace last fourth sixth\nrecipe-remove last third\n"
     b"rename last final\n"
+    b'insert before-line "END = 1" "# new"\nline-replace "# new" "# newer"\nline-remove "# newer"\n'
     b"unrule final\nunset LAST\n"
 )
 
@@ -140,6 +145,7 @@ def jobs_of(shape):
         gap = b"" if shape.is_closed else shape.end
         more = gap + line + shape.end
         yield edit(name, command, around(shape, shape.part, BLOCK, more))
+    yield edit("insert top", b'insert top "# new"', [(b"# new" + shape.end, 1), *whole])
     for name, command, part in shape.edits:
         yield edit(name, command, around(shape, part, BLOCK))
     yield edit("all and back", ALL + b"undo\n" * ALL.count(b"\n"), whole)

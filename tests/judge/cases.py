@@ -137,6 +137,11 @@ PLANTED = (
     (b"t: a\n\tx\nu: b\n", ("recipe", None, b"t", b"y"), b"t: a\n\ty\n\tx\nu: b\n"),
     (b"t: a\n\tx\n\ty\n", ("recipe-del", None, b"t", b"1"), b"t: a\n\tx\n"),
     (b"t: a\nu: t\n", ("rename", None, b"t", b"v"), b"v: a\nu: t\n"),
+    (b"A = 1\nA += 2\n", ("insert", None, b"after-line A = 1", b"A = 3"), b"A = 3\nA = 1\nA += 2\n"),
+    (b"t: a\n\tx\nu: b\n", ("insert", None, b"before-rule u", b"\ty"), b"t: a\n\ty\n\tx\nu: b\n"),
+    (b"ifdef A\nB = 1\nendif\n", ("line-replace", None, b"ifdef A", b"ifndef A"), b"ifdef A\nB = 1\nendif\n"),
+    (b"define A\nx\ny\nendef\n", ("line-replace", None, b"y", b"z"), b"define A\nz\ny\nendef\n"),
+    (b"t: a\n\tx\n\ty\n\tx\n", ("line-remove", 2, b"\tx"), b"t: a\n\ty\n\tx\n"),
 )
 # Edits of special targets, in which the judge has to find nothing: a makefile and an edit of it.
 # `.SUFFIXES:` clears the suffixes above it, `.DEFAULT:` the recipe; the words of .PHONY are targets.

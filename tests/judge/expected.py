@@ -22,18 +22,19 @@ CONDITION = re.compile(
 
 
 class Item(NamedTuple):
-    """A line: its class and parts, as reading.py says, and the blanks after its value."""
+    """A line: its class and parts, as reading.py says, the blanks after its value, and the bytes of a line that was read."""
 
     kind: str
     parts: tuple
     tail: bytes = b""
+    raw: bytes = b""
 
 
-def items(text):
-    """The items of a makefile."""
-    lines, _ = reading.read(text)
+def items(text, context=reading.Context()):
+    """The items of a makefile, or of lines that stand in a context."""
+    lines, _ = reading.read(text, context)
     raws = [raw for _, raw in reading.logical_lines(text)]
-    return [Item(line.kind, line.parts, tail(line, raw)) for line, raw in zip(lines, raws)]
+    return [Item(line.kind, line.parts, tail(line, raw), raw) for line, raw in zip(lines, raws)]
 
 
 def tail(line, raw):

@@ -8,7 +8,7 @@ most are accepted.
 
 from tests.lib import reading
 
-from .stated import OF_EVERY_LINE
+from .stated import OF_EVERY_LINE, OF_LINES
 
 # A value refers only to names after its own, so that no variable refers to itself.
 VARIABLES = b"A B CC CFLAGS X.y n-1 _d R Z".split()
@@ -29,10 +29,9 @@ COMMANDS = [
 COMMENTS = [b"# c", b"#", b"# a \\\n  b", b"  # x = 1", b"# t:", b"#\tz"]
 PLAIN_BLANKS = [b"", b" ", b"  "]
 FOLDED_BLANKS = [b" \\\n ", b"\\\n\t", b"  \\\n"]
-DEFINED = [
-    *(b"line", b"A = 1", b"\ttab", b"t: u", b"# c", b"", b"a \\\n  b", b"ifdef X", b"$$(x)", b"\tendef"),
-    b"define K\nendef",
-]
+# Lines of a define: single ones, and others.
+BODIES = [b"line", b"A = 1", b"\ttab", b"t: u", b"# c", b"", b"ifdef X", b"$$(x)", b"\tendef"]
+DEFINED = [*BODIES, b"a \\\n  b", b"define K\nendef"]
 # In how many makefiles a byte or two are put in or taken out anywhere, and which.
 NOISY = 0.2
 SIGNS = b"\\ # : = ; $ ( ) { | & ? \\# a % $$ ,".split()
@@ -273,6 +272,16 @@ def recipes_by_target(text, lines):
     return found
 
 
+def text_of(line):
+    """What a line says."""
+    return reading.without_line_end(line.raw)
+
+
+def is_field(text):
+    """Whether a text may be a line that a command has in a field."""
+    return not set(text) & set(b"\n\r\0") and text[-1:] != b"\\"
+
+
 class Editor:
     """Draws edits for a makefile."""
 
@@ -285,6 +294,7 @@ class Editor:
         self.names = [name for name, _ in self.values]
         self.rules = [it.parts for it in lines if it.kind == "Header"]
         self.recipes = recipes_by_target(text, lines)
+        self.lines = [it for it in lines if is_field(text_of(it))]
 
     def edits(self):
         """One edit of each kind, in a random order."""
@@ -297,14 +307,19 @@ class Editor:
         fields = FIELDS[command](self)
         if fields is None:
             return None
-        is_counted = command not in ("rename", *OF_EVERY_LINE) and fields[0] != b"bottom"
-        return (command, self.nth(fields[0]) if is_counted else None, *fields)
+        is_counted = command not in ("rename", *OF_EVERY_LINE) and fields[0] not in (b"top", b"bottom")
+        return (command, self.nth(command, fields[0]) if is_counted else None, *fields)
 
-    def nth(self, address):
+    def nth(self, command, address):
         """A number among the lines that an address means, where there are several."""
-        name = address.split(b" ")[-1]
-        count = self.names.count(name) + sum(name in it[0] for it in self.rules)
+        count = self.count(address.removeprefix(b"before-line ").removeprefix(b"after-line "), command in OF_LINES)
         return self.source.randint(1, count) if count > 1 and self.source.random() < 0.9 else None
+
+    def count(self, address, is_text):
+        """How many lines have a name or a target, or perhaps a text."""
+        name = address.split(b" ")[-1]
+        of_text = [text_of(it) for it in self.lines].count(address) if is_text else 0
+        return of_text or self.names.count(name) + sum(name in it[0] for it in self.rules)
 
     def name(self):
         return self.one(self.names) if self.names else None
@@ -389,6 +404,55 @@ class Editor:
         needs = b" ".join(self.word() for _ in range(self.source.randint(0, 2)))
         return self.place(), targets, b"::" if is_double else b":", needs
 
+    def one_line(self):
+        """A line that stands in the makefile, one of each class as often, where there is one."""
+        kinds = sorted({it.kind for it in self.lines})
+        kind = kinds and self.one(kinds)
+        return self.one([it for it in self.lines if it.kind == kind]) if kinds else None
+
+    def insert(self):
+        line = self.one_line()
+        if line is None or self.source.random() < 0.3:
+            return self.one([b"top", self.place()]), self.new_line()
+        side = self.one([b"before-line ", b"after-line "])
+        if line.kind == "Header" and side == b"after-line " or line.kind == "Recipe":
+            new = line.context.prefix + self.command()
+        elif line.kind in ("Body", "DefineHead" if side == b"after-line " else "Endef"):
+            new = self.one(BODIES)
+        else:
+            new = self.new_line()
+        return side + text_of(line), new
+
+    def line_replace(self):
+        line = self.one_line()
+        return line and (text_of(line), self.instead_of(line))
+
+    def line_remove(self):
+        line = self.one_line()
+        return line and (text_of(line),)
+
+    def instead_of(self, line):
+        """A line that may stand in the place of one."""
+        if line.kind == "If":
+            return self.writer.condition()
+        if line.kind == "Else":
+            has_condition = len(text_of(line).split()) > 1
+            return b"else " + self.writer.condition() if has_condition else self.one([b"else # d", b"  else"])
+        if line.kind in ("Endif", "Endef"):
+            return line.kind.lower().encode() + self.one([b" # d", b"  "])
+        if line.kind == "DefineHead":
+            return self.one([b"define M", b"define A =", b"override define B"])
+        if line.kind == "Recipe":
+            return line.context.prefix + self.command()
+        return self.one(BODIES) if line.kind == "Body" else self.new_line()
+
+    def new_line(self):
+        """A line that may stand anywhere."""
+        name = self.one(VARIABLES)
+        assignment = name + b" " + self.one(OPERATORS) + b" " + self.value(name)
+        lines = [assignment, assignment, b"t: " + assignment, b"n: " + self.word(), b"d:: " + self.word()]
+        return self.one([*lines, b"# new", b"", self.writer.directive()[:-1]])
+
     def number(self, _):
         return b"%d" % self.one([1, 1, 1, 2, 2, 3])
 
@@ -425,4 +489,7 @@ FIELDS = {
     "recipe-replace": lambda it: it.for_recipe_line(lambda _: it.command()),
     "recipe-remove": lambda it: it.for_recipe_line(),
     "rename": Editor.rename,
+    "insert": Editor.insert,
+    "line-replace": Editor.line_replace,
+    "line-remove": Editor.line_remove,
 }

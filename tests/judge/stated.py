@@ -10,9 +10,11 @@ import re
 
 from tests.lib import reading
 
-from .expected import Item
+from .database import SECTIONS
+from .expected import Expected, Item, items
 from .values import shown
 
+OF_LINES = ("insert", "line-replace", "line-remove")
 OF_EVERY_LINE = ("all set", "all append", "all add", "all drop")
 CHECKED_BY_READING = ("prepend", "replace", "add-before", "add-after", "subst", "operator")
 OF_VARIABLES = ("set", "append", "add", "drop", *CHECKED_BY_READING, "unset", "assign", *OF_EVERY_LINE)
@@ -30,7 +32,7 @@ def line_of(edit):
     command, nth, *fields = edit
     words = [b"nth %d" % nth] if nth else []
     words.append(command.encode())
-    if command in ("assign", "rule"):
+    if command in ("assign", "rule", "insert"):
         words += map(field, fields.pop(0).split(b" ", 1))
     return b" ".join(words + list(map(field, fields)))
 
@@ -48,13 +50,25 @@ def has_target(target):
     return lambda item: item.kind == "Header" and target in item.parts[0]
 
 
+def says(text):
+    return lambda item: reading.without_line_end(item.raw) == text
+
+
+ADDRESSES = {
+    b"before-var": assigns,
+    b"after-var": assigns,
+    b"before-rule": has_target,
+    b"before-line": says,
+    b"after-line": says,
+}
+
+
 def place_of(of, nth, place):
-    """Where a new line goes."""
-    word, _, name = place.partition(b" ")
-    if word == b"bottom":
-        return len(of)
-    is_it = has_target(name) if word == b"before-rule" else assigns(name)
-    return addressed(of, nth, is_it) + (word == b"after-var")
+    """Where new lines go."""
+    word, _, field = place.partition(b" ")
+    if word in (b"top", b"bottom"):
+        return 0 if word == b"top" else len(of)
+    return addressed(of, nth, ADDRESSES[word](field)) + word.startswith(b"after")
 
 
 def recipe_places(of, at):
@@ -203,6 +217,28 @@ def unrule(of, nth, target):
     return of
 
 
+def with_line(of, first, end, line):
+    """The items with a line in the place of those from one to another, as it is read there."""
+    _, context = reading.read(b"".join(it.raw for it in of[:first]))
+    of[first:end] = items(line + b"\n", context)
+    return of
+
+
+def insert(of, nth, place, line):
+    at = place_of(of, nth, place)
+    return with_line(of, at, at, line)
+
+
+def line_replace(of, nth, old, line):
+    at = addressed(of, nth, says(old))
+    return with_line(of, at, at + 1, line)
+
+
+def line_remove(of, nth, old):
+    del of[addressed(of, nth, says(old))]
+    return of
+
+
 def with_header(of, nth, target, change):
     at = addressed(of, nth, has_target(target))
     targets, separator, pattern, normal, order, inline = of[at].parts
@@ -306,14 +342,17 @@ CHANGES = {
     "recipe-replace": recipe_replace,
     "recipe-remove": recipe_remove,
     "rename": rename,
+    "insert": insert,
+    "line-replace": line_replace,
+    "line-remove": line_remove,
     **{it: at_every_line(it.removeprefix("all ")) for it in OF_EVERY_LINE},
 }
 
 
 def edited_targets(of, edit):
-    """The targets of the rule that an edit is about: both names of a renaming, none for a variable."""
+    """The targets of the rule that an edit is about: both names of a renaming, none for a variable or for whole lines."""
     command, nth, *fields = edit
-    if command in OF_VARIABLES:
+    if command in (*OF_VARIABLES, *OF_LINES):
         return ()
     if command == "rename":
         return tuple(fields)
@@ -323,15 +362,24 @@ def edited_targets(of, edit):
 
 
 def touched(of, edit, expected, database):
-    """The keys of make's data base that an edit is about: a variable, the targets of a rule, or,
-    of a renaming, both names and whatever has the old one as a prerequisite."""
+    """The keys of make's data base that an edit is about: a variable, the targets of a rule, or, of a
+    renaming, both names and whatever has the old one as a prerequisite; of whole lines, all that these
+    lead to."""
     command, _, *fields = edit
+    if command in OF_LINES:
+        return changed_keys(Expected(of), expected)
     targets = expected.values.final_words(edited_targets(of, edit))
     if not targets:
         return {("variables", shown(fields[command == "assign"]))}
     if command == "rename":
         return renamed_keys(database, *targets) if len(targets) == 2 else set()
     return {("patterns", tuple(targets)), *(("targets", it) for it in targets)}
+
+
+def changed_keys(before, after):
+    """The keys that are expected to differ."""
+    keys = {(section, name) for section in SECTIONS for it in (before, after) for name in getattr(it, section)}
+    return {it for it in keys if before.content(it) != after.content(it)}
 
 
 def renamed_keys(database, old, new):

@@ -35,6 +35,8 @@ NOT_ASKED = (
     "references itself",
     "empty variable name",
 )
+# What it says of a line that is not read inside.
+UNREAD_LINES = ("missing separator", "recipe commences before first target")
 # What it says of a reference from which a text was taken, or in which another was put.
 CUT_REFERENCES = ("unterminated", "insufficient number of arguments")
 
@@ -92,9 +94,13 @@ class Judge:
     @staticmethod
     def stopped(text, edited, edit, fault):
         """The verdict on an edit after which make stops, or warns that it takes a rule for another."""
-        is_of_value = edit[0] in stated.OF_VARIABLES and depends(text, edit)
+        if edit[0] in stated.OF_LINES:
+            is_unread = any(it.kind == "Opaque" for it in stated.after(items(text), edit))
+        else:
+            is_unread = edit[0] in stated.OF_VARIABLES and depends(text, edit)
         is_cut = edit[0] == "subst" and any(it in fault for it in CUT_REFERENCES)
-        if any(it in fault for it in NOT_ASKED) or is_of_value and "missing separator" in fault or is_cut:
+        is_stop = any(it in fault for it in UNREAD_LINES)
+        if any(it in fault for it in NOT_ASKED) or is_unread and is_stop or is_cut:
             return Verdict(GROUP, "make_stops_at_what_mkedit_does_not_ask")
         return excused_or_found([text, edited], [f"make stops: {fault}"])
 
@@ -132,6 +138,8 @@ def why_changed(key, first, then, texts, edit, of):
     """Why a key may change that the edit is not about: FOLLOWS, NOT_FOLLOWED, or None if it may not."""
     if UNKNOWN not in (first.content(key), then.content(key)):
         return FOLLOWS if first.content(key) != then.content(key) else None
+    if edit[0] in stated.OF_LINES:
+        return NOT_FOLLOWED
     targets = stated.edited_targets(of, edit)
     if not targets:
         is_for_target = key[0] == "target_variables" and key[1][1] == edited_name(edit)

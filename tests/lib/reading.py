@@ -360,9 +360,9 @@ def context_after(context, raw, kind, parts):
 
 
 @lru_cache(maxsize=64)
-def read(text):
-    """The lines of a makefile, and the context after them."""
-    lines, context = [], Context()
+def read(text, context=Context()):
+    """The lines of a makefile, or of lines that stand in a context, and the context after them."""
+    lines = []
     for number, raw in logical_lines(text):
         kind, parts = class_of(raw, context)
         body = without_line_end(raw)

@@ -29,7 +29,8 @@ QUOTED = (
 LAST_CHAPTER = "## 8. Where make reads otherwise\n"
 COMMANDS = (
     "nth all set append add drop prepend replace add-before add-after subst operator unset assign rule unrule depend "
-    "depend-order undepend recipe recipe-set recipe-del recipe-insert recipe-replace recipe-remove rename"
+    "depend-order undepend recipe recipe-set recipe-del recipe-insert recipe-replace recipe-remove rename insert "
+    "line-replace line-remove"
 )
 EXAMPLE = re.compile(
     rf"^    (\S.*?⏎|X=1) {{2,}}((?:{COMMANDS.replace(' ', '|')}) .*?) {{2,}}(\S.*⏎)$", re.M
@@ -124,7 +125,7 @@ class Documents(RoomCase):
     def test_the_examples_of_the_page_on_edits(self):
         self.assert_examples(EDITS, check_edits, edits(), 26)
         self.assert_examples(EDITS, check_queries, edits(), 5)
-        self.assert_examples(EDITS, check_notes, edits(), 20)
+        self.assert_examples(EDITS, check_notes, edits(), 15)
 
     def test_each_command_of_a_script_has_an_entry_on_the_page_on_edits(self):
         forms = re.findall(r"`([^`]+)`", "".join(map("".join, ENTRY.findall(edits()))))

@@ -45,6 +45,9 @@ LONG_LINES = {
     "recipe-replace": (b"recipe-replace all cc @", b"all:\n\tcc\n", b"all:\n\t@\n"),
     "recipe-remove": (b"recipe-remove all @", b"all:\n\t@\n", b"all:\n"),
     "rename": (b"rename all @", b"all: a\n", b"@: a\n"),
+    "insert": (b"insert bottom #@", b"", b"#@\n"),
+    "line-replace": (b"line-replace CC=gcc CC=@", b"CC=gcc\n", b"CC=@\n"),
+    "line-remove": (b"line-remove CC=@", b"CC=@\n", b""),
 }
 # Commands for variables that have numbers, and what becomes of a line `V1 = a`.
 LISTS = {

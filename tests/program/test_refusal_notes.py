@@ -121,6 +121,23 @@ CASES = (
     )),
     # OpenValue
     ("append VAL x", "11 OpenValue", ("config.mk:17: note: VAL = $(",)),
+    # whole lines
+    ('line-remove "\trm"', "5 Ambiguous 2", (
+        "config.mk:19: note: rm   (in a recipe)",
+        "config.mk:20: note: rm   (in a recipe)",
+        "-e 1: note: `nth 1` or `nth 2` before the command says which",
+    )),
+    ("insert before-var CFLAGS x", "5 Ambiguous 2", (
+        "config.mk:1: note: CFLAGS = -O2",
+        "config.mk:2: note: CFLAGS += -g",
+        "-e 1: note: `nth 1` or `nth 2` before the command says which",
+    )),
+    ("insert after-line PREFIX x", "4 NoSuch", ()),
+    ('nth 3 line-remove "\trm"', "4 NoSuch", ()),
+    ('insert before-rule clean "VAL = $("', "7 Already", ("config.mk:17: note: VAL = $(",)),
+    ("line-replace endif endif", "7 Already", ("config.mk:15: note: endif   (in `else`, config.mk:13)",)),
+    ("line-replace endif X", "21 Misread", ("config.mk:15: note: endif   (in `else`, config.mk:13)",)),
+    ('insert top "ifdef X"', "21 Misread", ()),
     # others have no notes
     ("set .RECIPEPREFIX x", "2 Reserved", ()),
     ("undo", "16 NothingToUndo", ()),
@@ -233,6 +250,10 @@ class RefusalNotes(RoomCase):
             (b"A = a\n\n\tB = b\n", "rule after-var A x : y", "3: note: B = b"),
             (b"\tA = a\n\tB = b\n", "rule before-var A x : y", "1: note: A = a"),
             (b".RECIPEPREFIX = >\nA = a\n\t# c\n>b\n", "rule after-var A x : y", "4: note: >b   (opaque)"),
+            (b"all:\n\ta\n", 'insert after-line all: "A = a"', "2: note: a   (in a recipe)"),
+            (b"\tA = a\n", "insert top all:", "1: note: A = a"),
+            (b"all:\n# c\nA = a\n# c\n\tB = b\n", 'line-remove "A = a"', "5: note: B = b"),
+            (b"A = a\nA = a\n\tB = b\n", 'nth 2 line-replace "A = a" all:', "3: note: B = b"),
         ):  # fmt: skip
             with self.subTest(command, lines=lines):
                 self.assert_noted(lines, command, "14 Leans", (f"config.mk:{note}",))

@@ -19,6 +19,7 @@ SHORT = (
     ("nth 2 recipe-remove all ls", "nth 2 recipe-remove all: 2 recipe lines of all are `ls` [5 Ambiguous 2]"),
     ("add-after A 1 b", "add-after A 1 b: 2 assignments of A, or words of its value, fit [5 Ambiguous 2]"),
     ("nth 1 recipe-remove all ls", "nth 1 recipe-remove all: no recipe line of all is `ls` [6 Absent]"),
+    ("nth 3 line-remove Xls", "nth 3 line-remove Xls: large has the line `Xls` fewer than 3 times [4 NoSuch]"),
     ("nth 1 recipe-del all 2", "nth 1 recipe-del all 2: the rule for all has fewer than 2 recipe lines [6 Absent]"),
     (
         "nth 2 append A x",

@@ -186,9 +186,37 @@ class Session(RoomCase):
         wanted = b"S = a.c \\\n    x.c \\\n    b.c \\\n    y.c # c\nT = a a\n"
         self.assertEqual(talk.answer("print"), wanted)
 
+    def test_whole_lines_come_and_go(self):
+        self.room.write("lines", b"include a.mk\nifdef A\nX = 1\nendif\n# c\n# c\n")
+        talk = self.talk("lines")
+        self.assert_replies(
+            talk,
+            ('insert top "# ours"', "ok"),
+            ('insert top "# ours"', "refused 7 Already"),
+            ('try insert top "# ours"', "ok"),
+            ('insert after-line "include a.mk" "-include b.mk"', "ok"),
+            ('line-replace "ifdef A" "ifndef A"', "ok"),
+            ("line-remove endif", "refused 21 Misread"),
+            ('line-remove "# c"', "refused 5 Ambiguous 2"),
+            ('nth 2 line-remove "# c"', "ok"),
+            ('nth 2 line-remove "# c"', "refused 4 NoSuch"),
+            ("insert bottom a\\", "refused 1 BadArgument block"),
+            ("insert before-line a\\ b", "refused 1 BadArgument place"),
+            ("line-replace a\\ b", "refused 1 BadArgument old"),
+            ("nth 1 insert top x", "fault not a command"),
+            ("all line-remove X", "fault not a command"),
+            ("undo", "ok"),
+            ("insert bottom <<E", "ok"),
+        )
+        wanted = b"# ours\ninclude a.mk\n-include b.mk\nifndef A\nX = 1\nendif\n# c\n# c\n<<E\n"
+        self.assertEqual(talk.answer("print"), wanted)
+        wanted = b'undo insert bottom <<E\nundo line-replace "ifdef A" "ifndef A"\n'
+        wanted += b'undo insert after-line "include a.mk" "-include b.mk"\nundo insert top "# ours"\n'
+        self.assertEqual(talk.answer("history"), wanted)
+
     def test_help_says_what_the_program_says(self):
         talk = self.talk("Makefile")
-        for word in ("set", "recipe-insert", "add-after", "or"):
+        for word in ("set", "recipe-insert", "add-after", "line-replace", "or"):
             self.assertEqual(talk.answer(f"help {word}"), self.room.run("help", word).stdout)
         for word in ("vars", "Set", "\udcff"):
             line = f"help {word}".encode("utf-8", "surrogateescape")

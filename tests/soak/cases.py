@@ -83,7 +83,7 @@ def drawn_long(drawing):
     lines = drawing.one([FEWEST_LINES, FEWEST_LINES, 2000, 10000])
     filling = Filling(lines, drawing.source.randrange(1 << 32))
     depth = drawing.one(DEPTHS)
-    script = Scripts(drawing.source, makefile, depth, is_long=True).script()
+    script = Scripts(drawing.source, makefile, depth, is_long=True, is_part=True).script()
     if drawing.chance(JUDGED_SHARE):
         makefile, filling = Filling(FEWEST_LINES, filling.seed).filled(makefile), None
     return Case(makefile, script, depth, drawing.chance(0.95), "vars", filling=filling)
@@ -98,7 +98,7 @@ def drawn_short(drawing):
         makefile = b"#\n" + makefile
         padding = LIMIT - len(makefile) - drawing.one([-1, 0, 1, 5, 10, 20])
     depth = drawing.one(DEPTHS)
-    script = Scripts(drawing.source, makefile, depth).script()
+    script = Scripts(drawing.source, makefile, depth, is_part=padding > 0).script()
     goes_on, query = drawing.chance(0.75), drawing.one(list(reading.QUERIES))
     return Case(makefile, script, depth, goes_on, query, padding)
 

@@ -6,6 +6,7 @@ from typing import NamedTuple
 from tests.lib import reading
 
 CONDITIONAL_LINES = ("If", "Else", "Endif")
+MOST_CONDITIONALS = 256
 PASSED_OVER = ("Blank", "Comment", *CONDITIONAL_LINES)
 PREFIX_OPERATORS = (b"=", b":=", b"::=")
 
@@ -27,6 +28,11 @@ class Line(NamedTuple):
     def text_end(self):
         """Where its line end begins."""
         return self.start + len(reading.without_line_end(self.raw))
+
+    @property
+    def said(self):
+        """What it says: its physical lines without their line ends."""
+        return [reading.without_line_end(it) for it in reading.PHYSICAL_LINE.findall(self.raw)]
 
     @property
     def is_led(self):
@@ -54,11 +60,11 @@ class Word(NamedTuple):
 
 
 class Document:
-    """The lines of a text, and the context after them."""
+    """The lines of a text, or of one that stands in a context, and the context after them."""
 
-    def __init__(self, text):
+    def __init__(self, text, context):
         self.text = text
-        lines, self.end_context = reading.read(text)
+        lines, self.end_context = reading.read(text, context)
         raws = [raw for _, raw in reading.logical_lines(text)]
         self.lines, at = [], 0
         for raw, line in zip(raws, lines):
@@ -96,6 +102,18 @@ class Document:
                 found.append(at)
         return found
 
+    def runs(self, texts):
+        """The runs of lines that say these texts together: where each begins and ends, by the indices of lines."""
+        found = []
+        for first in range(len(self.lines)):
+            end, said = first, []
+            while len(said) < len(texts) and end < len(self.lines):
+                said += self.lines[end].said
+                end += 1
+            if said == texts:
+                found.append((first, end))
+        return found
+
     def line_end(self):
         """The line end of new lines: that of the first physical line."""
         first = reading.PHYSICAL_LINE.match(self.text)
@@ -107,19 +125,24 @@ class Document:
 
 
 @lru_cache(maxsize=256)
-def read(text):
-    """The document of a text."""
-    return Document(text)
+def read(text, context=reading.Context()):
+    """The document of a text, or of lines that stand in a context."""
+    return Document(text, context)
 
 
-def sets_prefix_unread(line):
-    """Whether a line sets the recipe prefix in a way that is not read."""
+def is_of_prefix(line):
+    """Whether a line assigns the recipe prefix, or opens a define for it."""
     if line.kind == "DefineHead":
         words = reading.texts(reading.before(reading.units(reading.joined(line.raw)[0]), b"#"))
         defined = words[words.index(b"define") + 1 :]
         return defined[:1] == (reading.PREFIX_NAME,)
-    if line.kind != "Assign" or line.parts[1] != reading.PREFIX_NAME:
-        return False
+    return line.kind == "Assign" and line.parts[1] == reading.PREFIX_NAME
+
+
+def sets_prefix_unread(line):
+    """Whether a line sets the recipe prefix in a way that is not read."""
+    if line.kind != "Assign" or not is_of_prefix(line):
+        return is_of_prefix(line)
     modifiers, _, operator, value = line.parts
     is_plain = not modifiers and not line.context.conditionals and operator in PREFIX_OPERATORS
     is_read = not value or (0x21 <= value[0] <= 0x7E and value[:1] not in (b"$", b"\\"))

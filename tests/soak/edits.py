@@ -427,7 +427,7 @@ def refuse_open_line(doc, at):
 
 
 def new_line(doc, at, line):
-    """The span of a new line before the line with this index."""
+    """The span of a new line, or of several as one text, before the line with this index."""
     place, end = doc.place(at), doc.line_end()
     follows_open_end = at == len(doc.lines) and doc.lines and not reading.line_end(doc.lines[-1].raw)
     return Span(place, place, (end if follows_open_end else b"") + line + end)
@@ -455,12 +455,16 @@ class AtPlace(Edit):
         found = doc.rules(field) if kind == "BeforeRule" else doc.assignments(field)
         return picked(found, nth) + (kind == "AfterVar")
 
+    def refuse_end(self, doc, at):
+        """Refuses a new line at the end of the text where that is open."""
+        refuse_open_line(doc, at)
+        refuse(13, self.place[0] == "Bottom" and doc.end_context.defines)
+
     def insert(self, doc, line, flag, item):
         """The plan of the new line, after which the flag is this."""
         at = self.find(doc)
         refuse_prefix(line, doc.context(at).prefix)
-        refuse_open_line(doc, at)
-        refuse(13, self.place[0] == "Bottom" and doc.end_context.defines)
+        self.refuse_end(doc, at)
         refuse_leaning(doc, at, flag, doc.context(at).flag)
         items = items_of(doc.lines)
         items.insert(at, item)
@@ -749,4 +753,3 @@ KINDS = (
     RemoveRecipeByText,
     RenameTarget,
 )
-EDITS = {it.__name__: it for it in KINDS}

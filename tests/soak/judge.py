@@ -7,10 +7,13 @@ from tests.lib import reading
 from tests.lib.checks import Outcome
 from tests.lib.rooms import TOO_DEEP, TOO_LONG
 
-from .edits import EDITS, LIMIT, Plan, Refused, replaced
+from . import edits, whole_lines
+from .document import MOST_CONDITIONALS
+from .edits import LIMIT, Plan, Refused, replaced
 from .session import Session
 
-MOST_CONDITIONALS = 256
+# The edits by the names that script_rows.py gives them, and the calls.
+EDITS = {it.__name__: it for it in (*edits.KINDS, *whole_lines.KINDS)}
 CALLS = {
     "Undo": Session.undo,
     "Redo": Session.redo,

@@ -9,8 +9,8 @@ from tests.lib.reading import PREFIX_NAME, texts, units
 
 from . import document
 from .drawing import Drawing
-from .edits import EDITS, is_value_word
-from .judge import MISSING, meaning_of_line, obey
+from .edits import is_value_word
+from .judge import EDITS, MISSING, meaning_of_line, obey
 from .session import Session
 from .vocabulary import (
     BAD_FIELDS,
@@ -20,10 +20,13 @@ from .vocabulary import (
     NO_COMMANDS,
     OPERATORS,
     RESERVED,
+    SAME_CLASS,
     TARGETS,
     VALUES,
+    WHOLE_LINES,
     WORDS,
 )
+from .whole_lines import is_block
 
 # The edits with their weights, by what they need in the makefile.
 OF_NAMES = {
@@ -48,16 +51,21 @@ OF_RULES = {
     b"rename": 9,
 }
 OF_RECIPES = {b"recipe-set": 8, b"recipe-del": 8, b"recipe-insert": 8, b"recipe-replace": 7, b"recipe-remove": 7}
-NEW_LINES = {b"assign": 10, b"rule": 9}
+NEW_LINES = {b"assign": 10, b"rule": 9, b"insert": 12}
+OF_LINES = {b"line-replace": 12, b"line-remove": 9}
 GREATEST = 4294967295
 
 
 class Scripts(Drawing):
-    """Draws one script, and keeps the session that it leads to."""
+    """Draws one script, and keeps the session that it leads to.
 
-    def __init__(self, source, text, depth, is_long=False):
+    is_long: whether it has many commands. is_part: whether the program gets a makefile with more lines among these
+    or with more bytes in the first one, which no command may speak of then, and which stays the first.
+    """
+
+    def __init__(self, source, text, depth, is_long=False, is_part=False):
         super().__init__(source)
-        self.is_long = is_long
+        self.is_long, self.is_part = is_long, is_part
         self.session = Session(text, depth)
         self.document = document.read(text)
         self.end = b"\r\n" if self.chance(0.1) else b"\n"
@@ -152,7 +160,7 @@ class Scripts(Drawing):
         for edits, kind in ((OF_NAMES, "Assign"), (OF_RULES, "Header"), (OF_RECIPES, "Recipe")):
             share = 1 if self.has(kind) else 0.08
             weights.update((it, weight * share) for it, weight in edits.items())
-        return weights
+        return weights | (OF_LINES if self.old_lines() else {})
 
     # ---- fields
 
@@ -225,6 +233,32 @@ class Scripts(Drawing):
             return self.number(len(self.document.rules(target))), [kind, target]
         name = self.name()
         return self.number(len(self.document.assignments(name))), [kind, name]
+
+    def old_lines(self):
+        """The lines that a command can name by what they say: those of one physical line that a field can have."""
+        lines = [it for it in self.document.lines if len(it.said) == 1 and is_block(it.said[0])]
+        return [it for it in lines if it.said != self.document.lines[0].said] if self.is_part else lines
+
+    def old_line(self):
+        """The words `nth N`, or nothing, a line that stands in the makefile, where there is one, and what the field says."""
+        lines = self.old_lines()
+        line = self.one(lines) if lines and self.chance(0.95) else None
+        said = line.said[0] if line else self.fresh(self.new_line())
+        return self.number(len(self.document.runs([said]))), line, said
+
+    def new_line(self):
+        """A line to put in, which seldom stands there already."""
+        lines = self.old_lines()
+        if lines and self.chance(0.08):
+            return self.one(lines).said[0]
+        usual = [b"# %d" % self.source.randrange(100), b"N := a", b"include a.mk", b"\ty"]
+        return self.bad_or(self.one([*usual, self.one(WHOLE_LINES)]))
+
+    def fresh(self, line):
+        """The line, or a longer one that stands nowhere, where the program gets more lines: these may stand between neighbours."""
+        while self.is_part and self.document.runs([line]):
+            line += b"#"
+        return line
 
     # ---- commands
 
@@ -373,6 +407,24 @@ class Scripts(Drawing):
         target = self.recipe_target()
         number = self.recipe_number(target, more=1)
         return self.of_target(b"recipe-insert", target, number, self.line_text())
+
+    def insert(self):
+        number, place = self.place()
+        if self.chance(0.55):
+            number, _, old = self.old_line()
+            place = [self.one([b"before-line", b"after-line"]), old]
+        elif self.chance(0.2) and not self.is_part:
+            number, place = [], [b"top"]
+        return [*number, b"insert", *place, self.fresh(self.new_line())]
+
+    def line_replace(self):
+        number, line, old = self.old_line()
+        same = SAME_CLASS.get(line and line.kind)
+        return [*number, b"line-replace", old, self.one(same) if same and self.chance(0.7) else self.new_line()]
+
+    def line_remove(self):
+        number, _, old = self.old_line()
+        return [*number, b"line-remove", old]
 
     def rename(self):
         standing = self.targets_of(self.document.lines)

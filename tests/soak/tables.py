@@ -5,11 +5,23 @@
 
 import sys
 
+from line_run_rows import edit_of
 from tests.lib.checks import Outcome, Tally, differences
 from tests.lib.tables import RUNS, rows, unescape
 
 from .cases import USUAL_DEPTH
-from .judge import judged
+from .judge import Verdict, judged, obey_step
+from .session import Session
+
+# The tables of single edits that no script can say: their blocks have several lines.
+BLOCKS = ("line-runs",)
+
+
+def verdict_on_block(row):
+    """The judge's verdict on the edit of a row of such a table."""
+    session = Session(unescape(row["makefile"]), USUAL_DEPTH)
+    replies, told = obey_step(session, (1, *edit_of(unescape(row["script"]))))
+    return Verdict(Outcome(b"" if told else session.text, told.encode(), 1 if told else 0), replies)
 
 
 def verdict_on(row):
@@ -25,9 +37,8 @@ def spans_of(verdict):
     return " ".join(f"{it.start}:{it.end}:{it.new.hex()}" for it in plan.spans) if plan else ""
 
 
-def problems_of(row):
-    """What the judge says otherwise than a row."""
-    verdict = verdict_on(row)
+def problems_of(row, verdict):
+    """What a verdict of the judge says otherwise than its row."""
     wanted = Outcome(unescape(row["stdout"]), unescape(row["stderr"]), int(row["status"]))
     yield from differences(verdict.outcome, wanted)
     if "spans" in row and spans_of(verdict) != row["spans"]:
@@ -36,9 +47,10 @@ def problems_of(row):
 
 def judged_rows():
     """The name of each row, and what the judge says otherwise."""
-    for table in RUNS:
+    for table in (*RUNS, *BLOCKS):
         for _, row in rows(table):
-            yield f"the judge on {table}: {row['name']}", list(problems_of(row))
+            verdict = verdict_on_block(row) if table in BLOCKS else verdict_on(row)
+            yield f"the judge on {table}: {row['name']}", list(problems_of(row, verdict))
 
 
 def main():

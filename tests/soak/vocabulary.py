@@ -54,6 +54,21 @@ BAD_FIELDS = [
     *(b"", b" ", b"a b", b"a\\", b"$", b"$(a", b"#", b"a #b", b"a:", b"b|", b"=", b"a\rb", b"a\0"),
     *(b" a", b"a\t", b"a&", b"\\#", b"X Y", b"$ a", b"$\\", b"a;", b"\xe9", b"a\\ ", b"$(a b", b"\\"),
 ]
+# Lines that a command may put in or take out, of each class.
+WHOLE_LINES = [
+    *(b"", b" ", b"# c", b"#", b"X = 1", b"export Y := a # c", b"a: b", b"a:: ; x", b"t: X = 1", b".RECIPEPREFIX = >"),
+    *(b"\tx", b"\t# c", b"\tX = 1", b"\t", b">x", b"else", b"endif", b"define D", b"endef", b"X = a \\\\", b"$(a"),
+    *(b"define .RECIPEPREFIX", b"ifdef", b"endif # c", b"<<E", b"\xff"),
+    *(CONDITIONALS + DIRECTIVES + BODIES + OPAQUE + ROUGH),
+]
+# What may stand in the place of a line of a class, so that the lines below read as before.
+SAME_CLASS = {
+    "If": CONDITIONALS,
+    "Else": [b"else", b" else # c", b"else ifdef B"],
+    "Endif": [b"endif", b" endif", b"endif # c"],
+    "DefineHead": [b"define E", b"override define D", b"export define D =  # c"],
+    "Endef": [b"endef", b" endef", b"endef # c"],
+}
 RESERVED = b"include endif -load override vpath else sinclude ifeq undefine private".split()
 NO_COMMANDS = [
     *(b"frobnicate", b"set X", b"nth 1 undo", b'set X "a', b'"a"b', b"nth 1 assign bottom X = 1"),
@@ -66,4 +81,7 @@ NO_COMMANDS = [
     *(b"operator X ==", b"operator X", b"subst X a", b"replace X a", b"prepend X"),
     *(b"add-before X a", b"add-after X a", b"all add-before X a b", b"all add-after X a b"),
     *(b"all nth 1 set X 1", b"nth 1 all set X 1", b"all try set X 1", b"all assign bottom X = 1"),
+    *(b"insert X", b"insert top", b"insert after-line x", b"nth 1 insert top x", b"nth 1 insert bottom x"),
+    *(b"all insert top x", b"all line-replace a b", b"all line-remove a", b"line-replace a", b"line-remove a b"),
+    *(b"assign after-line x Y = 1", b"rule before-line x a : b"),
 ]

@@ -4,8 +4,8 @@ import itertools
 from collections import Counter
 
 from .cases import drawn, problems_of
-from .edits import EDITS, NAMES
-from .judge import CALLS
+from .edits import NAMES
+from .judge import CALLS, EDITS
 from .rows import rows_of
 from .shrinking import shrunk
 

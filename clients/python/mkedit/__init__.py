@@ -11,15 +11,16 @@ were.
 
 from .errors import BadReply, Ended, Error, Fault, Refused, TimedOut
 from .found import Assignment, Condition, Found, Line, RecipeLine, Rule, Step
-from .places import BOTTOM, Place, after_var, before_rule, before_var
+from .places import BOTTOM, TOP, Place, Site, after_line, after_var, before_line, before_rule, before_var
 from .session import Session, open
 from .texts import assignments, edit
-from .words import NewSeparator, Operator, PlaceWord, Separator
+from .words import NewSeparator, Operator, PlaceWord, Separator, SiteWord
 
 __version__ = "0.1.0"
 
 __all__ = [
     "BOTTOM",
+    "TOP",
     "Assignment",
     "BadReply",
     "Condition",
@@ -37,10 +38,14 @@ __all__ = [
     "Rule",
     "Separator",
     "Session",
+    "Site",
+    "SiteWord",
     "Step",
     "TimedOut",
+    "after_line",
     "after_var",
     "assignments",
+    "before_line",
     "before_rule",
     "before_var",
     "edit",

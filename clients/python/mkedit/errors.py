@@ -27,7 +27,7 @@ SENTENCES = {
         "such as `export`, by `define`, with `+=`, `?=`, `!=` or `:::=`, or to a byte that cannot be a "
         "prefix, such as the `$` of a reference."
     ),
-    "NoSuch": "No assignment or rule has this name, or there is no N-th of them.",
+    "NoSuch": "No assignment or rule has this name, or no line is OLD, or there is no N-th of them.",
     "Ambiguous": (
         "Several assignments or several rules have this name, and neither `nth` nor `all` says which are "
         "meant."

@@ -3,27 +3,45 @@
 from dataclasses import dataclass
 from typing import Optional
 
-from .words import PLACE_WORDS, PlaceWord, one_of
+from .words import PLACE_WORDS, SITE_WORDS, PlaceWord, SiteWord, one_of
+
+# The words of the places that are no line's.
+ENDS = ("top", "bottom")
 
 
 @dataclass(frozen=True)
-class Place:
-    """A place as a command has it, with the name of a line and its number, where it means one."""
+class Site:
+    """A place of `insert` as the command has it, with what tells a line and the number of that, where it means one.
 
-    word: PlaceWord
+    This is the name of a variable, a target, or the text of the line.
+    """
+
+    word: SiteWord
     name: Optional[str] = None
     nth: Optional[int] = None
 
     def __post_init__(self) -> None:
-        if one_of(PLACE_WORDS, self.word) != "bottom":
+        if one_of(SITE_WORDS, self.word) not in ENDS:
             if self.name is None:
                 raise TypeError(f"{self.word} needs a name")
         elif (self.name, self.nth) != (None, None):
-            raise ValueError("bottom has no name and no number")
+            raise ValueError(f"{self.word} has no name and no number")
 
 
-# The end of the file.
+@dataclass(frozen=True)
+class Place(Site):
+    """A place of `assign` and `rule`, which `insert` takes too."""
+
+    word: PlaceWord
+
+    def __post_init__(self) -> None:
+        one_of(PLACE_WORDS, self.word)
+        super().__post_init__()
+
+
+# The end and the start of the file.
 BOTTOM = Place("bottom")
+TOP = Site("top")
 
 
 def before_var(name: str, nth: Optional[int] = None) -> Place:
@@ -39,3 +57,13 @@ def after_var(name: str, nth: Optional[int] = None) -> Place:
 def before_rule(target: str, nth: Optional[int] = None) -> Place:
     """Before the line of the rule for a target: of the only one, or of the nth, from 1."""
     return Place("before-rule", target, nth)
+
+
+def before_line(old: str, nth: Optional[int] = None) -> Site:
+    """Before the line that is old: the only one, or the nth, from 1."""
+    return Site("before-line", old, nth)
+
+
+def after_line(old: str, nth: Optional[int] = None) -> Site:
+    """After that line."""
+    return Site("after-line", old, nth)

@@ -8,7 +8,7 @@ from typing import ContextManager, Iterator, List, Optional, Type
 from . import answers
 from .errors import Error, Fault, put_behind
 from .found import Assignment, RecipeLine, Rule, Step
-from .places import Place
+from .places import Place, Site
 from .talk import PathName, Talk
 from .words import MOST_OF_REQUEST, NEW_SEPARATORS, OPERATORS, NewSeparator, Operator
 from .words import digits, field, one_of, word
@@ -66,9 +66,9 @@ class Session:
         answers.nothing(found)
         self._made += 1
 
-    def _put_in(self, word: str, place: Place, *fields: str) -> None:
-        if not isinstance(place, Place):
-            raise TypeError(f"a place is a Place, and not of type {type(place).__name__}")
+    def _put_in(self, word: str, place: Site, *fields: str, kind: Type[Site] = Place) -> None:
+        if not isinstance(place, kind):
+            raise TypeError(f"a place is a {kind.__name__}, and not of type {type(place).__name__}")
         name = () if place.name is None else (place.name,)
         self._do(word, place.word, *name, *fields, nth=place.nth)
 
@@ -190,6 +190,20 @@ class Session:
     def rename(self, old: str, new: str) -> None:
         """Renames a target, also where it is a prerequisite."""
         self._do("rename", old, new)
+
+    # ---- whole lines
+
+    def insert(self, place: Site, block: str) -> None:
+        """Inserts a line of any class."""
+        self._put_in("insert", place, block, kind=Site)
+
+    def line_replace(self, old: str, block: str, nth: Optional[int] = None) -> None:
+        """Replaces the line that is old by another."""
+        self._do("line-replace", old, block, nth=nth)
+
+    def line_remove(self, old: str, nth: Optional[int] = None) -> None:
+        """Removes the line that is old."""
+        self._do("line-remove", old, nth=nth)
 
     # ---- history
 

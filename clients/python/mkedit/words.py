@@ -3,15 +3,18 @@
 import re
 from typing import Literal, Tuple, TypeVar, get_args
 
-# The operators of assignments; the separators of rules, and those of new ones; the first words of places.
+# The operators of assignments; the separators of rules, and those of new ones; the first words of places of
+# new assignments and rules, and those of places of any new line.
 Operator = Literal["=", ":=", "::=", ":::=", "?=", "+=", "!="]
 Separator = Literal[":", "::", "&:", "&::"]
 NewSeparator = Literal[":", "::"]
 PlaceWord = Literal["bottom", "before-var", "after-var", "before-rule"]
+SiteWord = Literal["bottom", "before-var", "after-var", "before-rule", "top", "before-line", "after-line"]
 OPERATORS: Tuple[Operator, ...] = get_args(Operator)
 SEPARATORS: Tuple[Separator, ...] = get_args(Separator)
 NEW_SEPARATORS: Tuple[NewSeparator, ...] = get_args(NewSeparator)
 PLACE_WORDS: Tuple[PlaceWord, ...] = get_args(PlaceWord)
+SITE_WORDS: Tuple[SiteWord, ...] = get_args(SiteWord)
 W = TypeVar("W", bound=str)
 
 # The greatest number in a command (docs/EDITS.md: K, and N of `nth N`), and in a request (docs/PROTOCOL.md).

@@ -65,6 +65,22 @@ class Client(ClientCase):
             with self.subTest(new):
                 self.assert_edit(edit, old, new)
 
+    def test_edits_of_whole_lines(self):
+        cases = (
+            (lambda it: it.insert(mkedit.TOP, "# ours"), "CC", "# ours\nCC"),
+            (lambda it: it.insert(mkedit.BOTTOM, ""), "rm -f x\n", "rm -f x\n\n"),
+            (lambda it: it.insert(mkedit.after_var("CC"), 'export CC # "q" \\ ;'), "# c\n", '# c\nexport CC # "q" \\ ;\n'),
+            (lambda it: it.insert(mkedit.before_line(""), "include a.mk"), "X = 2\n", "X = 2\ninclude a.mk\n"),
+            (lambda it: it.insert(mkedit.after_line("X = 1", nth=1), "# x"), "X = 1\n", "X = 1\n# x\n"),
+            (lambda it: it.line_replace("\trm -f x", "\t@echo $$"), "rm -f x", "@echo $$"),
+            (lambda it: it.line_replace("X = 2", "include a.mk", nth=1), "X = 2", "include a.mk"),
+            (lambda it: it.line_remove("CC = gcc # c"), "CC = gcc # c\n", ""),
+            (lambda it: it.line_remove("", nth=1), "\n\n", "\n"),
+        )
+        for edit, old, new in cases:
+            with self.subTest(new):
+                self.assert_edit(edit, old, new)
+
     def test_a_refusal_has_its_number_name_and_detail(self):
         cases = (
             (lambda it: it.set("X", "3"), (5, "Ambiguous", 2)),

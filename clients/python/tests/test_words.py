@@ -3,7 +3,7 @@
 import unittest
 
 import mkedit
-from mkedit import BOTTOM, after_var, before_rule, before_var, words
+from mkedit import BOTTOM, TOP, after_line, after_var, before_line, before_rule, before_var, words
 
 from .cases import MAKEFILE, ClientCase
 
@@ -52,6 +52,13 @@ WITH_FIELD = (
     lambda it, bad: it.recipe_replace("all", bad, "ls"),
     lambda it, bad: it.recipe_remove("all", bad),
     lambda it, bad: it.rename("all", bad),
+    lambda it, bad: it.insert(TOP, bad),
+    lambda it, bad: it.insert(before_line(bad), "# x"),
+    lambda it, bad: it.insert(after_line(bad), "# x"),
+    lambda it, bad: it.insert(mkedit.Site(bad, "X"), "# x"),
+    lambda it, bad: it.line_replace(bad, "# x"),
+    lambda it, bad: it.line_replace("X = 1", bad),
+    lambda it, bad: it.line_remove(bad),
 )
 WITH_WORD = (
     lambda it, bad: it.get(bad),
@@ -91,6 +98,11 @@ WITH_NUMBER = (
     lambda it, bad: it.recipe_del("all", 1, nth=bad),
     lambda it, bad: it.recipe_replace("all", "ls", "ls", nth=bad),
     lambda it, bad: it.recipe_remove("all", "ls", nth=bad),
+    lambda it, bad: it.insert(before_var("X", nth=bad), "# x"),
+    lambda it, bad: it.insert(before_line("X = 1", nth=bad), "# x"),
+    lambda it, bad: it.insert(after_line("X = 1", nth=bad), "# x"),
+    lambda it, bad: it.line_replace("X = 1", "# x", nth=bad),
+    lambda it, bad: it.line_remove("X = 1", nth=bad),
 )
 WITH_NUMBER_OF_REQUEST = (
     lambda it, bad: it.lines(bad, 1),
@@ -142,7 +154,13 @@ class Words(ClientCase):
         self.assertEqual(makefile.lines(0, 999_999_999), MAKEFILE)
 
     def test_a_place_is_a_place(self):
-        calls = (lambda it, bad: it.assign(bad, "Y", "=", "1"), lambda it, bad: it.rule(bad, "a", ":", "b"))
+        calls = (
+            lambda it, bad: it.assign(bad, "Y", "=", "1"),
+            lambda it, bad: it.rule(bad, "a", ":", "b"),
+            lambda it, bad: it.insert(bad, "# x"),
+            lambda it, _: it.assign(TOP, "Y", "=", "1"),
+            lambda it, _: it.rule(before_line("X = 1"), "a", ":", "b"),
+        )
         self.assert_nothing_is_sent(calls, ("bottom", ("bottom",), None), TypeError)
 
     def test_a_word_of_an_enumeration_is_one_of_it(self):
@@ -151,12 +169,15 @@ class Words(ClientCase):
             lambda it, bad: it.rule(BOTTOM, "a", bad, "b"),
             lambda it, bad: it.rule(mkedit.Place(bad, "X"), "a", ":", "b"),
             lambda it, bad: it.rule(mkedit.Place("bottom", bad), "a", ":", "b"),
+            lambda it, bad: it.insert(mkedit.Site(bad, "X"), "# x"),
+            lambda it, bad: it.insert(mkedit.Site("top", bad), "# x"),
         )
         self.assert_nothing_is_sent(calls, ("", "==", ": ", "&:", "top", "before"), ValueError)
         with self.assertRaises(ValueError):
             mkedit.Place("bottom", nth=1)
-        with self.assertRaises(TypeError):
-            mkedit.Place("before-var")
+        for kind, word in ((mkedit.Place, "before-var"), (mkedit.Site, "after-line")):
+            with self.assertRaises(TypeError):
+                kind(word)
 
     def test_the_program_takes_and_lists_each_word(self):
         self.path.write_text("a&: b\na&:: b\n")

@@ -3,7 +3,7 @@
 use crate::checks::{check_reply, opened};
 use crate::document::has_text;
 use crate::rows::{Expectation, Row};
-use mk_session::{Refusal, Session};
+use mk_session::{Command, Edit, Refusal, Session};
 use std::alloc::Global;
 use test_support::Heap;
 use test_support::difference::{Stop, holds};
@@ -11,7 +11,7 @@ use test_support::difference::{Stop, holds};
 /// Runs the commands of a row in a session, once for each of their growths, which is refused then.
 ///
 /// - A command that finds no memory changes nothing, and is made afterwards. Of the refusals none but
-///   `Misread` may be hidden by it.
+///   `Misread` may be hidden by it, and `Leans` of whole lines.
 /// - The text at the end is the expected one.
 /// - The end of a group, undoing all and redoing it take no memory.
 pub fn check_growths<'h>(alloc: Global, heap: &'h Heap, row: &Row<'_, 'h>) -> Result<(), Stop> {
@@ -53,8 +53,11 @@ fn check_commands<'h>(
         if answer == Err(Refusal::NoMemory) && heap.has_refused() {
             let what = "a command without memory leaves the size of the text";
             holds(alloc, what, session.doc().size() == size)?;
-            let may_be_hidden = expectation.reply == "done" || expectation.reply == "21 Misread";
-            holds(alloc, "no memory hides no refusal", may_be_hidden)?;
+            holds(
+                alloc,
+                "no memory hides no refusal",
+                may_be_hidden(expectation),
+            )?;
             check_again(alloc, session, expectation)?;
         } else {
             let what = "the reply where a growth may be refused";
@@ -62,6 +65,16 @@ fn check_commands<'h>(
         }
     }
     check_end(alloc, "the text where a growth was refused", session, row)
+}
+
+/// Whether want of memory may hide the reply to a command: of the refusals one that needs the new lines.
+fn may_be_hidden(expectation: &Expectation<'_, '_>) -> bool {
+    let is_of_lines = matches!(
+        &expectation.command,
+        Command::Apply(Edit::ExchangeLines { .. })
+    );
+    let reply = expectation.reply;
+    reply == "done" || reply == "21 Misread" || (is_of_lines && reply == "14 Leans")
 }
 
 /// Runs a command that has found no memory once more.

@@ -1,7 +1,7 @@
 //! mkedit as a library: one crate to list, and one `use`.
 //!
-//! - [`Session`]: a makefile that is edited, with a call for each edit, undo, redo and groups; [`Edit`] and
-//!   [`Place`] make edits as values.
+//! - [`Session`]: a makefile that is edited, with a call for each edit, undo, redo and groups; [`Edit`],
+//!   [`Place`] and [`Site`] make edits as values.
 //! - [`assignments`], [`rule_lines`] and their like: what a makefile has, line by line; a [`Line`] lends its parts.
 //! - [`get`]: the value of a variable.
 //! - [`run`]: a script over a makefile, as the program does it; [`parse_script`]: its steps.
@@ -27,7 +27,7 @@ pub use mk_run::{Observer, Outcome, Reported, message, run, run_steps, status};
 pub use mk_script::{Chain, ScriptFault, Step, line_of_edit, parse_script};
 pub use mk_session::{
     Command, Detail, Edit, Expected, Field, Flavor, LineChange, Place, Refusal, RuleSeparator,
-    Session, Side, ValueChange, laws,
+    Session, Side, Site, ValueChange, laws,
 };
 pub use mk_tree::{
     AssignmentRef, Conditional, Doc, Line, RuleRef, TargetAssignmentRef, WordTexts, text_of,

@@ -335,6 +335,54 @@ makes
     \trm -rf build
 ";
 
+const INSERT: &str = "\
+Inserts a line of any class: a comment, a directive, an assignment.
+
+Is refused with BadArgument, Reserved, RecipePrefix, NoSuch, Ambiguous, Already, OpenLine, OpenDefine,
+TooLong, Misread or Leans.
+
+Example: over
+    include a.mk
+    CC = gcc
+the script
+    insert after-line \"include a.mk\" \"-include b.mk\"
+makes
+    include a.mk
+    -include b.mk
+    CC = gcc
+";
+
+const LINE_REPLACE: &str = "\
+Replaces a whole line by another. The two may be of any class.
+
+Is refused with BadArgument, RecipePrefix, NoSuch, Already, Ambiguous, TooLong, Misread or Leans.
+
+Example: over
+    ifdef DEBUG
+    CFLAGS = -g
+    endif
+the script
+    line-replace \"ifdef DEBUG\" \"ifndef RELEASE\"
+makes
+    ifndef RELEASE
+    CFLAGS = -g
+    endif
+";
+
+const LINE_REMOVE: &str = "\
+Removes a whole line of any class.
+
+Is refused with BadArgument, RecipePrefix, NoSuch, Ambiguous, Misread or Leans.
+
+Example: over
+    include a.mk
+    CC = gcc
+the script
+    line-remove \"include a.mk\"
+makes
+    CC = gcc
+";
+
 const RENAME: &str = "\
 Renames a target, also where it is a prerequisite. Recipes stay as they are.
 
@@ -491,7 +539,7 @@ makes
 ";
 
 /// What is said of each command of a script, and of the words that may stand before one.
-pub(crate) static TEXTS: [(&str, &str); 33] = [
+pub(crate) static TEXTS: [(&str, &str); 36] = [
     ("set", SET),
     ("append", APPEND),
     ("add", ADD),
@@ -515,6 +563,9 @@ pub(crate) static TEXTS: [(&str, &str); 33] = [
     ("recipe-del", RECIPE_DEL),
     ("recipe-replace", RECIPE_REPLACE),
     ("recipe-remove", RECIPE_REMOVE),
+    ("insert", INSERT),
+    ("line-replace", LINE_REPLACE),
+    ("line-remove", LINE_REMOVE),
     ("rename", RENAME),
     ("nth", NTH),
     ("all", ALL),

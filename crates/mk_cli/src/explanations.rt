@@ -15,18 +15,19 @@ it is not empty either. `from` is not empty.
 and `prereqs` are such words, and `targets` is not empty. Outside a reference no word has a `#`,
 colon, semicolon, equals sign, vertical bar, backslash or lone `$`, and each reference is closed. No
 target ends in `&`. `place` contains such a name or such a target. With `add`, `drop`, `replace`,
-`add-before` and `add-after`, `word` and `new` are words of a value: they follow the rules for `value`,
-and are not empty.
-`line` does not end in a backslash, and neither does `old` of `recipe-replace` and `recipe-remove`,
-which is a whole line. No field has a CR or a NUL.
+`add-before` and `add-after`, `word` and `new` are words of a value: they follow the rules for
+`value`, and are not empty.
+`line` and `block` do not end in a backslash, and neither does `old` of `recipe-replace`,
+`recipe-remove`, `line-replace` and `line-remove`, which is a whole line, or that of PLACE. No field has
+a CR or a NUL.
 
 Example: the script
     set CC \"gcc #1\"
 is reported as
     1: refused 1 BadArgument value
 
-Correct the script. No edit reaches a line whose name has a reference, such as `obj-$(X)`: change such
-a line by hand. In a value write `\\#`, and between double quotes `\\\\#`:
+Correct the script. A line whose name has a reference, such as `obj-$(X)`, is a case for
+`line-replace`. In a value write `\\#`, and between double quotes `\\\\#`:
 `set CC \"gcc \\\\#1\"`. Or put the `#` inside a reference.
 ";
 
@@ -65,8 +66,8 @@ Edit by hand.
 ";
 
 const NO_SUCH: &str = "\
-No assignment or rule has this name, or there is no N-th of them. For `rename`, the old name is no
-target of a rule or of a target-specific assignment.
+No assignment or rule has this name, or no line is OLD, or there is no N-th of them. For `rename`, the
+old name is no target of a rule or of a target-specific assignment.
 
 Example: over
     CC = gcc
@@ -76,18 +77,16 @@ is reported as
     1: refused 4 NoSuch
 
 List what is there with `mkedit vars` or `mkedit rules`. If both print nothing, the makefile may be
-empty: `> FILE` empties it, and without FILE it is standard input. A byte order mark at the start of
-the file is part of its first name and does not show: `head -c 3 FILE | od -c` shows it. In `set` the
-name comes before the value. If the file does have the line, mkedit may be unable to parse it:
-`mkedit check` lists such lines. `set`, `append` and `unset` find no `define`, no directive such as
-`export NAME`, no target-specific assignment such as `t: X = 1` and no name with a reference such as
-`obj-$(X)`, and `mkedit check` lists none of these. Edit such a line by hand. For a word that is
-only a prerequisite, use `undepend` and `depend` instead of `rename`.
+empty: `> FILE` empties it, and without FILE it is standard input. If the file does have the line,
+mkedit may be unable to parse it: `mkedit check` lists such lines. Edits of variables find no `define`,
+no directive such as `export NAME`, no target-specific assignment such as `t: X = 1` and no name with a
+reference such as `obj-$(X)`, and `mkedit check` lists none of these: use `line-replace`. For a word
+that is only a prerequisite, use `undepend` and `depend` instead of `rename`.
 ";
 
 const AMBIGUOUS: &str = "\
 Several assignments or several rules have this name, and neither `nth` nor `all` says which are meant.
-Or several recipe lines of the rule have the text OLD. Or, with `add-before` and `add-after`, several
+Or several lines are OLD, or several recipe lines of the rule have the text OLD. Or, with `add-before` and `add-after`, several
 words of the value are WORD; this is tested directly after 7. The report says how many there are.
 
 Example: over
@@ -105,8 +104,8 @@ Say which one: `nth 2 set CC clang`. The name may be that of PLACE:
 `nth 2 assign after-var CC X = 1`. `mkedit vars` and `mkedit rules` list them in order;
 target-specific assignments do not count. Or change all of them: `all set CC clang`. `all` works with
 `set`, `append`, `add` and `drop`; for another command write one line for each. For a recipe line use
-`recipe-set` or `recipe-del`, which take its number. If a value has WORD several times, name the word on
-the other side of the new one, or give the whole value with `set`.
+`recipe-set` or `recipe-del`, which take its number. If a value has WORD several times, name the
+word on the other side of the new one, or give the whole value with `set`.
 ";
 
 const ABSENT: &str = "\
@@ -128,7 +127,8 @@ has no number: `mkedit rules` counts it, and no edit reaches it. Edit it by hand
 
 const ALREADY: &str = "\
 The new word is already in the list of prerequisites, or in the value, to which the command adds it,
-and with `all` in each value of the name.
+and with `all` in each value of the name. With `insert`, the line above or below the place is BLOCK;
+with `line-replace`, OLD is BLOCK.
 
 Example: over
     hello: main.o
@@ -315,7 +315,9 @@ Run it again with more memory.
 
 const MISREAD: &str = "\
 The new line would not read as the edit says: for instance, the new text has a `#`, an open reference
-or a backslash at its end, or `subst` takes out a `)` before a comment.
+or a backslash at its end, or `subst` takes out a `)` before a comment. Or lines that `insert`,
+`line-replace` and `line-remove` put in or take out would leave another define or conditional open, or
+another recipe prefix, than is there now.
 
 Example: over
     CFLAGS = -O2 -g

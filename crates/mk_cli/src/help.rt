@@ -28,15 +28,19 @@ A line of the script is a command, a comment that begins with #, or blank:
     depend TARGET WORD        depend-order TARGET WORD    undepend TARGET WORD
     recipe TARGET LINE        recipe-set TARGET K LINE    recipe-del TARGET K
     recipe-insert TARGET K LINE                           recipe-remove TARGET OLD
-    recipe-replace TARGET OLD LINE                        nth N COMMAND    all COMMAND
-    undo    redo    begin    end    cancel                try COMMAND    or COMMAND
-PLACE is bottom, before-var NAME, after-var NAME or before-rule TARGET. OP is one of
-= := ::= :::= ?= += != and SEP one of : and ::. Put double quotes around a field that has blanks in it
-or is empty. Between quotes \\\" is a quote and \\\\ a backslash; elsewhere each of the two is itself.
-`nth N` before a command picks the N-th of several lines that it could mean; `all` before set, append,
-add or drop means all of them. With `try` before an edit, having nothing to do is not an error. With `or`
-before an edit, it is made if the edit in the line above finds no line to edit. Commands run in order,
-each on the result of those above it. `mkedit help set` explains `set`, and so for each word.
+    recipe-replace TARGET OLD LINE
+    insert PLACE BLOCK        line-replace OLD BLOCK      line-remove OLD
+    nth N COMMAND             all COMMAND                 try COMMAND    or COMMAND
+    undo    redo    begin    end    cancel
+PLACE is bottom, before-var NAME, after-var NAME or before-rule TARGET, and for insert also top,
+before-line OLD or after-line OLD. BLOCK is a whole line, and so is OLD there and in line-replace and
+line-remove. OP is one of = := ::= :::= ?= += != and SEP one of : and ::. Put double quotes around a
+field that has blanks in it or is empty. Between quotes \\\" is a quote and \\\\ a backslash; elsewhere
+each of the two is itself. `nth N` before a command picks the N-th of several lines that it could mean;
+`all` before set, append, add or drop means all of them. With `try` before an edit, having nothing to do
+is not an error. With `or` before an edit, it is made if the edit in the line above finds no line to
+edit. Commands run in order, each on the result of those above it. `mkedit help set` explains `set`, and
+so for each word.
 
 The result goes to standard output, or to OUT. If a command is refused, a line on standard error says
 which one and why, and nothing is written unless -k is given. `mkedit explain 4` or `mkedit explain

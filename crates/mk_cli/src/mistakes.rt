@@ -113,6 +113,9 @@ fn said_of(cause: MistakeCause) -> &'static str {
         MistakeCause::UnknownPlace => {
             "PLACE is `bottom`, `before-var NAME`, `after-var NAME` or `before-rule TARGET`"
         }
+        MistakeCause::UnknownSite => {
+            "PLACE is `top`, `bottom`, `before-line OLD`, `after-line OLD` or a place of `assign`"
+        }
         MistakeCause::UnknownOperator => "OP is `=`, `:=`, `::=`, `:::=`, `?=`, `+=` or `!=`",
         MistakeCause::UnknownSeparator => "SEP is `:` or `::`",
         MistakeCause::UnknownCommand => "there is no such command",
@@ -122,6 +125,7 @@ fn said_of(cause: MistakeCause) -> &'static str {
         MistakeCause::NotAfterAll =>
             "`all` may stand before `set`, `append`, `add` and `drop` alone",
         MistakeCause::NthBottom => "`nth` may not stand before a command with the place `bottom`",
+        MistakeCause::NthTop => "`nth` may not stand before a command with the place `top`",
         MistakeCause::StrayOr => "`or` stands below an edit without `try`, or below another `or`",
     }
 }

@@ -9,6 +9,8 @@ pub mod Insertions
 pub mod RecipeEdits
 -- The words of a rule's line
 pub mod PrerequisiteEdits
+-- Whole lines
+pub mod ExchangePlans
 -- A line that is checked by reading
 pub mod LineChangePlans
 -- A rename

@@ -2,30 +2,36 @@
 -- Told in docs/PROOFS.md, "An edit".
 use Rattle.std.specs.Prelude.{◌≡◌, ◌⊎◌, ◌+◌, ◌≤◌, if◌then◌else◌, ℕ, List, length, Option, Some, None, Result, Ok, Err, IfOk, IfErr, OnOk, IsOkUnless}
 use Rattle.mk_lines.specs.Pieces.{Replacement}
-use Rattle.mk_class.specs.ClassedLines.{classed_lines}
+use Rattle.mk_class.specs.ClassedLines.{ClassedLine, classed_lines}
 use Rattle.mk_tree.specs.Counting.{AreCounted}
 use Rattle.mk_tree.specs.LocatedLines.{LocatedLine, located_text}
 use Rattle.mk_tree.specs.Documents.{IsFaithful, IsFaithfulTo}
 use Rattle.mk_tree.specs.Readings.{reading}
-use Rattle.mk_edit_language.specs.Edits.{Edit}
+use Rattle.mk_edit_language.specs.Edits.{Edit, ExchangeLines}
 use Rattle.mk_edit_language.specs.Stretches.{Stretch, insertion}
+use Rattle.mk_edit_language.specs.LineRuns.{site_found}
 use Rattle.mk_edit_language.specs.Changes.{change}
 use Rattle.mk_edit_language.specs.Costs.{cost, size}
 use Rattle.mk_edit_language.specs.Refusals.{spans, text_after}
 use Rattle.mk_edit_language.specs.declared.refusal.Refusal.{Refusal}
-use Rattle.mk_edit_language.specs.declared.refusal.Refusal.TheVariants.{NoMemory, Misread}
+use Rattle.mk_edit_language.specs.declared.refusal.Refusal.TheVariants.{NoMemory, Misread, Leans}
 use Rattle.mk_patch.specs.Moves.{Move, FitMoves, after_moves, held_by, taken_by}
 use Rattle.mk_edit.specs.PlannedMoves.{follows_unended}
 
--- how many last lines get a line end if a new line goes into a stretch: one, if the new line goes
--- after a last line without a line end
+-- the stretch where the new lines of an edit go, if it puts lines between others or in their place
+abbrev pub new_lines_place : List ClassedLine → Edit → Option Stretch
+new_lines_place ls (ExchangeLines s ts) = site_found ls s
+new_lines_place ls e = insertion ls e
+
+-- how many last lines get a line end if new lines go into a stretch: one, if they go after a last line
+-- without a line end
 abbrev pub ended_by : List LocatedLine → Option Stretch → ℕ
 ended_by ls None = 0
 ended_by ls (Some s) = if follows_unended ls (length s.above) then 1 else 0
 
 -- how many last lines get a line end by an edit
 abbrev pub ended_lines : List LocatedLine → Edit → ℕ
-ended_lines ls e = ended_by ls (insertion (classed_lines (located_text ls)) e)
+ended_lines ls e = ended_by ls (new_lines_place (classed_lines (located_text ls)) e)
 
 -- A patch planned for a document. The edit has spans. The patch fits the document, and leads to the
 -- document of the text with these spans replaced, which is faithful and reads as the edit's stated
@@ -41,12 +47,20 @@ pub record IsPlanned (e : Edit) (ls : List LocatedLine) (patch : List Move) : Ty
   pub held : held_by patch ≡ cost (located_text ls) e + ended_lines ls e
   pub taken : taken_by patch ≡ size (located_text ls) e + ended_lines ls e
 
--- no cause of an edit holds, or none but the last, that the new line is misread
+-- an edit puts in whole lines, takes them out or exchanges them
+abbrev pub IsOfWholeLines : Edit → Type 0
+IsOfWholeLines (ExchangeLines s ts) = Unit {0}
+IsOfWholeLines e = ⊥
+
+-- No cause of an edit holds, or none but those that its new lines decide: that they are misread, or
+-- of an edit of whole lines, that the lines below lean on them.
 abbrev pub IsUnrefused : (text : List ℕ) → Edit → Type 0
-IsUnrefused t e = ((rs : List Replacement) × (spans t e ≡ Ok rs)) ⊎ (spans t e ≡ Err Misread)
+IsUnrefused t e =
+    ((rs : List Replacement) × (spans t e ≡ Ok rs))
+    ⊎ ((spans t e ≡ Err Misread) ⊎ (IsOfWholeLines e × (spans t e ≡ Err Leans)))
 
 -- A refusal of an edit of a text: the first refusal whose cause holds; or NoMemory, if a growth was
--- refused and no cause holds, but perhaps the last, which needs the new line.
+-- refused and no cause holds, but perhaps one that needs the new lines.
 abbrev pub IsRefusal : (text : List ℕ) → Edit → Refusal → Type 0
 IsRefusal t e r =
     (spans t e ≡ Err r) ⊎ ((r ≡ NoMemory) × IsUnrefused t e)

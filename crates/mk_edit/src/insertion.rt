@@ -90,8 +90,8 @@ pub(crate) fn place_refusal<A: Allocator>(
     None
 }
 
-// Whether a new line at this place would follow a last line that is open.
-fn follows_open_line<A: Allocator>(doc: &Doc<A>, at: usize) -> bool
+/// Whether a new line at this place would follow a last line that is open.
+pub(crate) fn follows_open_line<A: Allocator>(doc: &Doc<A>, at: usize) -> bool
     ensures { result ≡ ((at == length doc.now) && is_open_line (last_line doc.now)) }
 {
     at == doc.len() && is_last_open(doc)
@@ -176,8 +176,8 @@ fn ends_len<A: Allocator>(doc: &Doc<A>, at: usize) -> usize
     }
 }
 
-// How many bytes a line end has.
-fn end_len(end: End) -> usize
+/// How many bytes a line end has.
+pub(crate) fn end_len(end: End) -> usize
     ensures number { result ≡ length (line_end_bytes end) }
     ensures few { result ≤ 2 }
 {

@@ -17,6 +17,9 @@
 //! - `insertion`: where new lines go, and the causes of refusal that their places decide.
 //! - `add_line`: new lines, planned: those of assignments and of rules.
 //! - `add_recipe`: a new recipe line, planned.
+//! - `lines_end`: what lines leave below them.
+//! - `new_lines`: whole new lines: their text, and the lines that it has where it goes.
+//! - `exchange_lines`: whole lines put in, taken out or exchanged, planned.
 //! - `header`: the header in the line of a rule.
 //! - `add_prereq`: a new prerequisite, planned.
 //! - `remove_prereq`: a prerequisite taken out, planned.
@@ -48,10 +51,13 @@ mod change_values_causes;
 mod change_values_patch;
 mod change_values_places;
 mod change_values_survey;
+mod exchange_lines;
 mod header;
 mod insertion;
+mod lines_end;
 mod meant_recipe;
 mod moves;
+mod new_lines;
 pub mod planning;
 mod remove_assign;
 mod remove_prereq;
@@ -65,5 +71,5 @@ mod rename_target_places;
 mod set_recipe;
 mod value_change;
 
-pub use mk_edit_language::{Detail, Edit, Field, Place, Refusal, RuleSeparator, ValueChange};
+pub use mk_edit_language::{Detail, Edit, Field, Place, Refusal, RuleSeparator, Site, ValueChange};
 pub use planning::{plan, plan_with};

@@ -3,7 +3,7 @@
 //!
 //! An edit decides its causes, builds the bytes of its new line, and calls one of these functions.
 //! All memory that the edit takes beside those bytes is taken here, except the notes of a rename.
-ghost use Rattle.std.specs.Prelude.{◌≡◌, ◌<◌, ◌+◌, ◌∷◌, [], length, replicate, IfOk, IsOkUnless};
+ghost use Rattle.std.specs.Prelude.{◌≡◌, ◌<◌, ◌≤◌, ◌+◌, ◌^◌, ◌∷◌, ◌++◌, [], length, replicate, IfOk, IsOkUnless};
 ghost use Rattle.mk_lines.specs.Limits.{max_text};
 ghost use Rattle.mk_tree.specs.Documents.{IsFaithful};
 ghost use Rattle.mk_tree.specs.LineTexts.{line_in};
@@ -13,7 +13,7 @@ ghost use Rattle.mk_lines.specs.LogicalLines.{logical_lines};
 ghost use Rattle.mk_patch.specs.Moves.{Exchange, IsPlain, TakeOut};
 ghost use Rattle.mk_patch.specs.StepMoves.{move_of};
 ghost use Rattle.mk_edit.specs.Planned.{ReadsAnew};
-ghost use Rattle.mk_edit.specs.PlannedMoves.{CanInsert, CanReplace, follows_unended, inserting_moves, is_unended, last_bytes_ended, replacing_moves};
+ghost use Rattle.mk_edit.specs.PlannedMoves.{CanInsert, CanReplace, ending_moves, follows_unended, inserting_moves, is_unended, last_bytes_ended, replacing_moves};
 ghost use Rattle.mk_edit_parts.specs.Found.{IsPlaceOf};
 
 use mk_class::{Context, Meter};
@@ -81,10 +81,19 @@ pub(crate) fn take_out<A: Allocator + Copy>(
     ensures refused { IsOkUnless result Refusal.NoMemory }
 {
     let mut patch = builder(alloc, count)?;
+    take_lines(&mut patch, at, count);
+    Ok(patch.finish())
+}
+
+/// Adds the steps to a patch that take out `count` lines, the first of which stands at a place.
+pub(crate) fn take_lines<A: Allocator>(patch: &mut PatchBuilder<A>, at: usize, count: usize)
+    requires { length patch.old.moves + count ≤ patch.old.room }
+    ensures { patch.new
+        ≡ record patch.old { moves = patch.old.moves ++ replicate count (TakeOut at) } }
+{
     'lines: for taken in 0..count {
         patch.push(Step::TakeOut(at));
     }
-    Ok(patch.finish())
 }
 
 /// The patch that puts a line of these bytes before the line at a place, or at the end. If the new
@@ -110,13 +119,37 @@ pub(crate) fn insert_line<A: Allocator + Copy>(
     // The contract of `size` says that no line is empty. So the number of lines is bounded, as
     // reading asks.
     let _size = doc.size();
-    let mut patch = builder(alloc, 2)?;
-    if follows_unended(doc, place.at) {
-        patch.push(Step::SwapEnd(last_line_ended(alloc, doc)?));
-    }
+    let mut patch = ending(alloc, doc, place.at, 1)?;
     let line = read_line(alloc, bytes, place.context, meter)?;
     patch.push(Step::PutIn(place.at, line));
     Ok(patch.finish())
+}
+
+/// A patch of the step by which the last line gets the file's line end, if new lines at a place would
+/// follow it and it has none. The patch has room for `more` steps.
+///
+/// # Errors
+///
+/// [`Refusal::NoMemory`] if a growth was refused.
+pub(crate) fn ending<A: Allocator + Copy>(
+    alloc: A,
+    doc: &Doc<A>,
+    at: usize,
+    more: usize,
+) -> Result<PatchBuilder<A>, Refusal>
+    requires faithful { IsFaithful doc.now }
+    requires few { more < 2 ^ 63 }
+    ensures moves { IfOk result (λ patch. patch ≡ record {
+      moves = ending_moves (follows_unended doc.now at) doc.now;
+      room = more + 1;
+    }) }
+    ensures refused { IsOkUnless result Refusal.NoMemory }
+{
+    let mut patch = builder(alloc, more + 1)?;
+    if follows_unended(doc, at) {
+        patch.push(Step::SwapEnd(last_line_ended(alloc, doc)?));
+    }
+    Ok(patch)
 }
 
 /// A patch of no step, with room for `room` steps.

@@ -13,6 +13,7 @@ use crate::add_recipe::plan_add_recipe;
 use crate::change_line::plan_change_line;
 use crate::change_value::plan_change_value;
 use crate::change_values::plan_change_values;
+use crate::exchange_lines::plan_exchange_lines;
 use crate::remove_assign::plan_remove_assign;
 use crate::remove_prereq::plan_remove_prereq;
 use crate::remove_recipe::plan_remove_recipe;
@@ -22,6 +23,7 @@ use crate::set_recipe::plan_set_recipe;
 use crate::value_change::{Change, change_of};
 use mk_class::Meter;
 use mk_edit_language::{Edit, Refusal};
+use mk_edit_parts::block_of;
 use mk_edit_parts::window::{Known, Window};
 use mk_patch::Patch;
 use mk_tree::Doc;
@@ -113,6 +115,9 @@ pub fn plan_with<A: Allocator + Copy>(
             plan_values(alloc, doc, edit, known, name, change_of(change), meter)
         }
         Edit::RenameTarget { from, to } => plan_rename(alloc, doc, edit, known, from, to, meter),
+        Edit::ExchangeLines { site, block } => {
+            plan_exchange_lines(alloc, doc, site, block_of(block), meter)
+        }
     }
 }
 

@@ -10,9 +10,12 @@ use Rattle.std.specs.contracts.prelude.U32Clone.TheImpl as numbers
 use denote.Builtin.{u32}
 use denote.RattleType.{RattleType}
 use mir.Syntax.{Dict}
-use Rattle.mk_edit_language.specs.EditViews.{edit_of, line_change_of, place_of, value_change_of}
+use Rattle.mk_edit_language.specs.EditViews.{edit_of, line_change_of, place_of, site_of, value_change_of}
+use Rattle.mk_edit_language.specs.LineRuns.{block_lines}
 use Rattle.mk_edit_language.specs.declared.edit.Place.{Place}
 use Rattle.mk_edit_language.specs.declared.edit.Place.TheVariants as place
+use Rattle.mk_edit_language.specs.declared.edit.Site.{Site}
+use Rattle.mk_edit_language.specs.declared.edit.Site.TheVariants as site
 use Rattle.mk_edit_language.specs.declared.edit.ValueChange.{ValueChange}
 use Rattle.mk_edit_language.specs.declared.edit.ValueChange.TheVariants as change
 use Rattle.mk_edit_language.specs.declared.edit.LineChange.{LineChange}
@@ -20,6 +23,7 @@ use Rattle.mk_edit_language.specs.declared.edit.LineChange.TheVariants as line
 use Rattle.mk_edit_language.specs.declared.edit.Edit.{Edit}
 use Rattle.mk_edit_language.specs.declared.edit.Edit.TheVariants as edit
 use Rattle.mk_edit_language.specs.contracts.edit.PlaceClone.TheImpl as places
+use Rattle.mk_edit_language.specs.contracts.edit.SiteClone.TheImpl as sites
 use Rattle.mk_edit_language.specs.contracts.edit.ValueChangeClone.TheImpl as changes
 use Rattle.mk_edit_language.specs.contracts.edit.LineChangeClone.TheImpl as lines
 use Rattle.mk_edit_language.specs.contracts.edit.EditClone.TheImpl as edits
@@ -40,6 +44,9 @@ number-cloned d e (Some x) (Some y) h = ap Some h
 text-cloned : (m n : List ℕ) → AllZip (λ x y. y ≡ x) m n → n ≡ m
 text-cloned m n h = same_from_all_zip (λ x y. y ≡ x) m n h (λ x y same. same)
 
+block-cloned : (m n : List ℕ) → AllZip (λ x y. y ≡ x) m n → block_lines n ≡ block_lines m
+block-cloned m n h = ap block_lines (text-cloned m n h)
+
 -- for an allocator of any type `R`, with what it gives
 pub places-cloned : (R : RattleType) (G : alloc.Ghosts R.Denot) (d : Dict) (C : clone.Ghosts R.Denot) (e f : Dict)
     (a b : Place R.Denot) → (places.ghosts R G d C e f).is_clone a b → place_of b ≡ place_of a
@@ -51,6 +58,18 @@ places-cloned R G d C e f (place.AfterVar k n) (place.AfterVar l m) h =
 places-cloned R G d C e f (place.BeforeRule k n) (place.BeforeRule l m) h =
     cc (number-cloned e e k l h.0, text-cloned n.items m.items h.1.0)
 places-cloned R G d C e f a b h = absurd h
+
+sites-cloned : (R : RattleType) (G : alloc.Ghosts R.Denot) (d : Dict) (C : clone.Ghosts R.Denot) (e f : Dict)
+    (a b : Site R.Denot) → (sites.ghosts R G d C e f).is_clone a b → site_of b ≡ site_of a
+sites-cloned R G d C e f site.Top site.Top h = refl
+sites-cloned R G d C e f (site.AtPlace p) (site.AtPlace q) h = cc (places-cloned R G d C e f p q h)
+sites-cloned R G d C e f (site.BeforeLines k n) (site.BeforeLines l m) h =
+    cc (number-cloned e e k l h.0, block-cloned n.items m.items h.1.0)
+sites-cloned R G d C e f (site.AfterLines k n) (site.AfterLines l m) h =
+    cc (number-cloned e e k l h.0, block-cloned n.items m.items h.1.0)
+sites-cloned R G d C e f (site.OfLines k n) (site.OfLines l m) h =
+    cc (number-cloned e e k l h.0, block-cloned n.items m.items h.1.0)
+sites-cloned R G d C e f a b h = absurd h
 
 changes-cloned : (R : RattleType) (G : alloc.Ghosts R.Denot) (d : Dict) (C : clone.Ghosts R.Denot) (e f : Dict)
     (a b : ValueChange R.Denot) → (changes.ghosts R G d C e f).is_clone a b → value_change_of b ≡ value_change_of a
@@ -117,4 +136,10 @@ edits-cloned R G d C e f (edit.RemoveRecipeByText k n v) (edit.RemoveRecipeByTex
     cc (number-cloned e e k l h.0, text-cloned n.items m.items h.1.0.0, text-cloned v.items w.items h.1.1.0)
 edits-cloned R G d C e f (edit.RenameTarget n v) (edit.RenameTarget m w) h =
     cc (text-cloned n.items m.items h.0.0, text-cloned v.items w.items h.1.0)
+edits-cloned R G d C e f (edit.ExchangeLines s None) (edit.ExchangeLines q None) h =
+    cc (sites-cloned R G d C e f s q h.0)
+edits-cloned R G d C e f (edit.ExchangeLines s (Some x)) (edit.ExchangeLines q (Some y)) h =
+    cc (sites-cloned R G d C e f s q h.0, block-cloned x.items y.items h.1.0)
+edits-cloned R G d C e f (edit.ExchangeLines s None) (edit.ExchangeLines q (Some y)) h = absurd h.1
+edits-cloned R G d C e f (edit.ExchangeLines s (Some x)) (edit.ExchangeLines q None) h = absurd h.1
 edits-cloned R G d C e f a b h = absurd h

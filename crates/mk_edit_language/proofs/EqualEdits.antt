@@ -1,8 +1,9 @@
 -- What `==` answers of two edits, of two places and of two changes: whether they are the same.
-use Rattle.std.proofs.Common.{◌≡◌, ℕ, Bool, true, false, Option, Some, None, ◌&&◌, refl}
+use Rattle.std.proofs.Common.{◌≡◌, ap, sym, ℕ, List, Bool, true, false, Option, Some, None, Vec, ◌&&◌, refl}
 use Rattle.std.specs.Bool.{Decides}
 use Rattle.std.specs.Option.{option_eq}
 use Rattle.std.specs.Prelude.{nat_eq}
+use Rattle.std.specs.Str.{bytes_eq}
 use Rattle.std.proofs.lemmas.Bool.Decides.{Decides-and, Decides-eqb, Decides-like}
 use Rattle.std.proofs.lemmas.Slice.Eq.{bytes_eq-Decides}
 use Rattle.std.specs.declared.alloc.Allocator as alloc
@@ -12,11 +13,15 @@ use mir.Syntax.{Dict}
 use Rattle.mk_class.specs.declared.assignment.Flavor.{Flavor}
 use Rattle.mk_class.specs.declared.assignment.Flavor.TheVariants.{Recursive, Simple, PosixSimple, Immediate, Conditional, Append, Shell}
 use Rattle.mk_class.specs.contracts.assignment.FlavorPartialEq.TheImpl as flavors
-use Rattle.mk_edit_language.specs.EditViews.{edit_of, line_change_of, place_of, value_change_of}
+use Rattle.mk_edit_language.specs.EditViews.{edit_of, line_change_of, lines_of, place_of, site_of, value_change_of}
+use Rattle.mk_edit_language.specs.LineRuns.{block_lines}
+use Rattle.mk_edit_language.proofs.on_line_runs.BlockTexts.{block-same, block-some}
 use Rattle.mk_edit_language.specs.declared.edit.RuleSeparator.{RuleSeparator}
 use Rattle.mk_edit_language.specs.declared.edit.RuleSeparator.TheVariants.{Single, Double}
 use Rattle.mk_edit_language.specs.declared.edit.Place.{Place}
 use Rattle.mk_edit_language.specs.declared.edit.Place.TheVariants as place
+use Rattle.mk_edit_language.specs.declared.edit.Site.{Site}
+use Rattle.mk_edit_language.specs.declared.edit.Site.TheVariants as site
 use Rattle.mk_edit_language.specs.declared.edit.ValueChange.{ValueChange}
 use Rattle.mk_edit_language.specs.declared.edit.ValueChange.TheVariants as change
 use Rattle.mk_edit_language.specs.declared.edit.Side.{Side}
@@ -27,6 +32,7 @@ use Rattle.mk_edit_language.specs.declared.edit.Edit.{Edit}
 use Rattle.mk_edit_language.specs.declared.edit.Edit.TheVariants as edit
 use Rattle.mk_edit_language.specs.contracts.edit.RuleSeparatorPartialEq.TheImpl as separators
 use Rattle.mk_edit_language.specs.contracts.edit.PlacePartialEq.TheImpl as places
+use Rattle.mk_edit_language.specs.contracts.edit.SitePartialEq.TheImpl as site_eq
 use Rattle.mk_edit_language.specs.contracts.edit.ValueChangePartialEq.TheImpl as changes
 use Rattle.mk_edit_language.specs.contracts.edit.SidePartialEq.TheImpl as sides
 use Rattle.mk_edit_language.specs.contracts.edit.LineChangePartialEq.TheImpl as lines
@@ -76,6 +82,16 @@ flavor-decides Append Append = yes refl
 flavor-decides Shell Shell = yes refl
 flavor-decides a b = no (λ h. cc)
 
+-- the lines of blocks
+block-decides : (x y : List ℕ) → Decides (bytes_eq x y) (block_lines x ≡ block_lines y)
+block-decides x y = Decides-like _ (ap block_lines) (block-same x y) (bytes_eq-Decides x y)
+
+lines-decide : {A : Type 0} (a b : Option (Vec ℕ A)) → Decides (option_eq (λ (x : Vec ℕ A) (y : Vec ℕ A). bytes_eq x.items y.items) a b) (lines_of a ≡ lines_of b)
+lines-decide None None = yes refl
+lines-decide None (Some y) = no (λ h. block-some y.items (sym h))
+lines-decide (Some x) None = no (λ h. block-some x.items h)
+lines-decide (Some x) (Some y) = block-decides x.items y.items
+
 -- for an allocator of any type `R`, with what it gives
 pub places-decide : (R : RattleType) (G : alloc.Ghosts R.Denot) (d e : Dict) (a b : Place R.Denot)
     → Decides ((places.ghosts R G d e).eq a b) (place_of a ≡ place_of b)
@@ -90,6 +106,21 @@ places-decide R G d e (place.BeforeRule k n) (place.BeforeRule l m) =
     Decides-like _ (λ h. cc) (λ h. (cc, cc))
     (also (number-decides k l) (bytes_eq-Decides n.items m.items))
 places-decide R G d e a b = no (λ h. cc)
+
+sites-decide : (R : RattleType) (G : alloc.Ghosts R.Denot) (d e : Dict) (a b : Site R.Denot)
+    → Decides ((site_eq.ghosts R G d e).eq a b) (site_of a ≡ site_of b)
+sites-decide R G d e site.Top site.Top = yes refl
+sites-decide R G d e (site.AtPlace p) (site.AtPlace q) = Decides-like _ (λ h. cc) (λ h. cc) (places-decide R G d e p q)
+sites-decide R G d e (site.BeforeLines k n) (site.BeforeLines l m) =
+    Decides-like _ (λ h. cc) (λ h. (cc, cc))
+    (also (number-decides k l) (block-decides n.items m.items))
+sites-decide R G d e (site.AfterLines k n) (site.AfterLines l m) =
+    Decides-like _ (λ h. cc) (λ h. (cc, cc))
+    (also (number-decides k l) (block-decides n.items m.items))
+sites-decide R G d e (site.OfLines k n) (site.OfLines l m) =
+    Decides-like _ (λ h. cc) (λ h. (cc, cc))
+    (also (number-decides k l) (block-decides n.items m.items))
+sites-decide R G d e a b = no (λ h. cc)
 
 changes-decide : (R : RattleType) (G : alloc.Ghosts R.Denot) (d e : Dict) (a b : ValueChange R.Denot)
     → Decides ((changes.ghosts R G d e).eq a b) (value_change_of a ≡ value_change_of b)
@@ -185,4 +216,7 @@ edits-decide R G d e (edit.RemoveRecipeByText k n v) (edit.RemoveRecipeByText l 
 edits-decide R G d e (edit.RenameTarget n v) (edit.RenameTarget m w) =
     Decides-like _ (λ h. cc) (λ h. (cc, cc))
     (also (bytes_eq-Decides n.items m.items) (bytes_eq-Decides v.items w.items))
+edits-decide R G d e (edit.ExchangeLines s b) (edit.ExchangeLines q c) =
+    Decides-like _ (λ h. cc) (λ h. (cc, cc))
+    (also (sites-decide R G d e s q) (lines-decide b c))
 edits-decide R G d e a b = no (λ h. cc)

@@ -9,7 +9,7 @@ use Rattle.mk_class.specs.Classes.{Class}
 use Rattle.mk_class.specs.Classes.Class.{Assign, TargetAssign, Header}
 use Rattle.mk_class.specs.ClassedLines.{ClassedLine}
 use Rattle.mk_tree.specs.LineTexts.{StandingLine}
-use Rattle.mk_edit_language.specs.Edits.{Place, Bottom, BeforeVar, AfterVar, BeforeRule, One, Every, OfAssign, OfRule, OfRecipe, Edit, ChangeValue, ChangeLine, ChangePrereqs, AddLine, AddRecipe, SetRecipe, RemoveLines, RenameTarget}
+use Rattle.mk_edit_language.specs.Edits.{Place, Bottom, BeforeVar, AfterVar, BeforeRule, One, Every, OfAssign, OfRule, OfRecipe, Edit, ChangeValue, ChangeLine, ChangePrereqs, AddLine, AddRecipe, SetRecipe, RemoveLines, RenameTarget, ExchangeLines}
 use Rattle.mk_edit_language.specs.Spots.{spots, picked}
 
 -- a variable by its name among the assignments, or a rule by a target among the headers
@@ -48,7 +48,8 @@ place_address (BeforeVar nth n) = Some (Variable nth n)
 place_address (AfterVar nth n) = Some (Variable nth n)
 place_address (BeforeRule nth t) = Some (Rule nth t)
 
--- the address of an edit, or of its place; an edit of every line of a name has none
+-- the address of an edit, or of its place; an edit of every line of a name has none, nor has one of
+-- whole lines, which are found by what they say
 abbrev pub address : Edit → Option Address
 address (ChangeValue (One nth) n c) = Some (Variable nth n)
 address (ChangeValue Every n c) = None
@@ -61,6 +62,7 @@ address (RemoveLines (OfAssign nth n)) = Some (Variable nth n)
 address (RemoveLines (OfRule nth t)) = Some (Rule nth t)
 address (RemoveLines (OfRecipe nth t w)) = Some (Rule nth t)
 address (RenameTarget o n) = None
+address (ExchangeLines s ts) = None
 
 -- the targets of a header or of a target assignment
 abbrev pub targets_of : Class Cell → List (List ℕ)

@@ -8,8 +8,9 @@ use Rattle.mk_class.specs.ListTests.{is_empty}
 use Rattle.mk_class.specs.Keywords.{is_reserved_word}
 use Rattle.mk_class.specs.RecipePrefix.{is_prefix_name}
 use Rattle.mk_class.specs.Arguments.{is_clean, is_value, is_word, is_target, is_name, is_command}
-use Rattle.mk_edit_language.specs.Edits.{Place, Bottom, BeforeVar, AfterVar, BeforeRule, NewLine, NewAssign, NewRule, Every, ValueChange, Set, Append, Add, Remove, LineChange, Prepend, ReplaceWord, InsertWord, Substitute, SetOperator, PrereqChange, AddPrereq, RemovePrereq, RecipeLine, ByNumber, ByText, Removal, OfAssign, OfRule, OfRecipe, Edit, ChangeValue, ChangeLine, ChangePrereqs, AddLine, AddRecipe, SetRecipe, RemoveLines, RenameTarget}
+use Rattle.mk_edit_language.specs.Edits.{Place, Bottom, BeforeVar, AfterVar, BeforeRule, Site, Top, AtPlace, BeforeRun, AfterRun, OfRun, NewLine, NewAssign, NewRule, Every, ValueChange, Set, Append, Add, Remove, LineChange, Prepend, ReplaceWord, InsertWord, Substitute, SetOperator, PrereqChange, AddPrereq, RemovePrereq, RecipeLine, ByNumber, ByText, Removal, OfAssign, OfRule, OfRecipe, Edit, ChangeValue, ChangeLine, ChangePrereqs, AddLine, AddRecipe, SetRecipe, RemoveLines, RenameTarget, ExchangeLines}
 use Rattle.mk_edit_language.specs.Addresses.{Address, Variable, Rule, address}
+use Rattle.mk_edit_language.specs.LineRuns.{is_block, site_address}
 use Rattle.mk_edit_language.specs.Causes.{where_holds}
 use Rattle.mk_edit_language.specs.declared.refusal.Field.{Field}
 use Rattle.mk_edit_language.specs.declared.refusal.Field.TheVariants as field
@@ -89,6 +90,18 @@ removal_tests (OfAssign nth n) = Tested field.Name (is_name n) ∷ []
 removal_tests (OfRule nth t) = Tested field.Target (is_target t) ∷ []
 removal_tests (OfRecipe nth t w) = Tested field.Target (is_target t) ∷ recipe_tests w []
 
+-- the tests of a site and of the new lines that go there; in the place of lines there may be none
+abbrev pub exchange_tests : Site → (new : List (List ℕ)) → List FieldTest
+exchange_tests Top ts = Tested field.Block (is_block ts) ∷ []
+exchange_tests (AtPlace p) ts =
+    Tested field.Place (is_place p) ∷ Tested field.Block (is_block ts) ∷ []
+exchange_tests (BeforeRun nth o) ts =
+    Tested field.Place (is_block o) ∷ Tested field.Block (is_block ts) ∷ []
+exchange_tests (AfterRun nth o) ts =
+    Tested field.Place (is_block o) ∷ Tested field.Block (is_block ts) ∷ []
+exchange_tests (OfRun nth o) ts =
+    Tested field.Old (is_block o) ∷ Tested field.Block (is_empty ts || is_block ts) ∷ []
+
 -- the fields of an edit in their order
 abbrev pub field_tests : Edit → List FieldTest
 field_tests (ChangeValue w n c) = Tested field.Name (is_name n) ∷ change_test c ∷ []
@@ -102,6 +115,7 @@ field_tests (SetRecipe nth t w c) =
 field_tests (RemoveLines r) = removal_tests r
 field_tests (RenameTarget o n) =
     Tested field.Old (is_target o) ∷ Tested field.New (is_target n) ∷ []
+field_tests (ExchangeLines s ts) = exchange_tests s ts
 
 abbrev pub bad_argument : Edit → Option Refusal
 bad_argument e = first_failed (field_tests e)
@@ -113,10 +127,11 @@ abbrev pub address_names : Option Address → List (List ℕ)
 address_names (Some (Variable nth n)) = n ∷ []
 address_names a = []
 
--- the variables that an edit names, including that of its place
+-- the variables that an edit names, including that of its place or site
 abbrev pub names : Edit → List (List ℕ)
 names (ChangeValue Every n c) = n ∷ []
 names (AddLine p (NewAssign n f v)) = n ∷ address_names (address (AddLine p (NewAssign n f v)))
+names (ExchangeLines s ts) = address_names (site_address s)
 names e = address_names (address e)
 
 -- the target that an address names
@@ -124,11 +139,12 @@ abbrev pub address_targets : Option Address → List (List ℕ)
 address_targets (Some (Rule nth t)) = t ∷ []
 address_targets a = []
 
--- the targets that an edit names, including that of its place
+-- the targets that an edit names, including that of its place or site
 abbrev pub targets : Edit → List (List ℕ)
 targets (AddLine p (NewRule ts c ws)) =
     words_in ts ++ address_targets (address (AddLine p (NewRule ts c ws)))
 targets (RenameTarget o n) = o ∷ n ∷ []
+targets (ExchangeLines s ts) = address_targets (site_address s)
 targets e = address_targets (address e)
 
 abbrev pub reserved : Edit → Option Refusal

@@ -18,11 +18,13 @@ use Rattle.mk_class.specs.declared.rule.Separator.TheVariants.{SingleColon, Doub
 use Rattle.mk_tree.specs.Documents.{text_of}
 use Rattle.mk_tree.specs.Items.{Item, Assign, TargetAssign, Header, Recipe, Sets, items, items_of_line, header_item}
 use Rattle.mk_tree.specs.LineTexts.{StandingLine}
-use Rattle.mk_edit_language.specs.Edits.{NewLine, NewAssign, NewRule, One, Every, ValueChange, Set, Append, Add, Remove, LineChange, PrereqChange, AddPrereq, RemovePrereq, Edit, ChangeValue, ChangeLine, ChangePrereqs, AddLine, AddRecipe, SetRecipe, RemoveLines, RenameTarget}
+use Rattle.mk_edit_language.specs.Edits.{NewLine, NewAssign, NewRule, One, Every, ValueChange, Set, Append, Add, Remove, LineChange, PrereqChange, AddPrereq, RemovePrereq, Edit, ChangeValue, ChangeLine, ChangePrereqs, AddLine, AddRecipe, SetRecipe, RemoveLines, RenameTarget, ExchangeLines}
 use Rattle.mk_edit_language.specs.Addresses.{Variable, Rule, found}
 use Rattle.mk_edit_language.specs.Stretches.{Stretch, this_line, place_found, recipe_place, removed, recipe_found}
 use Rattle.mk_edit_language.specs.ValueChanges.{set_value_span, led_words, staying, from_first_word, is_changed}
 use Rattle.mk_edit_language.specs.LineChanges.{assigned_after}
+use Rattle.mk_edit_language.specs.LineRuns.{site_found}
+use Rattle.mk_edit_language.specs.LineExchanges.{new_lines}
 use Rattle.mk_edit_language.specs.EditSpans.{where_found}
 use Rattle.mk_edit_language.specs.declared.edit.RuleSeparator.{RuleSeparator}
 use Rattle.mk_edit_language.specs.declared.edit.RuleSeparator.TheVariants.{Single, Double}
@@ -154,6 +156,10 @@ abbrev pub new_item : NewLine → Item
 new_item (NewAssign n f v) = Assign (Sets [] n f v)
 new_item (NewRule ts c ws) = Header (words_in ts) (separator_of c) [] (words_in ws) [] None
 
+-- the reading with the items of whole new lines in the place of those of the lines that go
+abbrev pub with_new_lines : (text : List ℕ) → (new : List (List ℕ)) → Stretch → List Item
+with_new_lines t ts s = with_items (items (new_lines t ts s)) s
+
 -- ---- the change
 
 -- the reading after an edit that no cause refuses
@@ -173,6 +179,7 @@ change_of t ls (SetRecipe nth g w c) =
     where_found (with_items (Recipe c ∷ [])) (option_map this_line (recipe_found ls nth g w))
 change_of t ls (RemoveLines r) = where_found (with_items []) (removed ls r)
 change_of t ls (RenameTarget o n) = map (renamed_item o n) (items ls)
+change_of t ls (ExchangeLines s ts) = where_found (with_new_lines t ts) (site_found ls s)
 
 abbrev pub change : (text : List ℕ) → Edit → List Item
 change t e = change_of t (classed_lines t) e

@@ -5,7 +5,7 @@ use Rattle.mk_lines.specs.Pieces.{Replacement}
 use Rattle.mk_lines.specs.Cells.{Cell}
 use Rattle.mk_class.specs.declared.assignment.Flavor.{Flavor}
 use Rattle.mk_tree.specs.Readings.{reading}
-use Rattle.mk_edit_language.specs.Edits.{Place, NewAssign, Edit, AddLine, Every, ChangeValue, RenameTarget}
+use Rattle.mk_edit_language.specs.Edits.{Place, NewAssign, Edit, AddLine, Every, ChangeValue, RenameTarget, ExchangeLines}
 use Rattle.mk_class.specs.ClassedLines.{classed_lines}
 use Rattle.mk_edit_language.specs.Stretches.{Stretch, place_found, removal, insertion, touched_by}
 use Rattle.mk_edit_language.specs.NewLines.{assign_text}
@@ -19,6 +19,7 @@ use Rattle.mk_edit_language.specs.KeptLines.{edited_lines, IsOfOnePlace, TouchFe
 use Rattle.mk_edit_language.specs.Lengths.{bytes_taken, bytes_put}
 use Rattle.mk_edit_language.specs.RisingSpans.{IsReplacedAt}
 use Rattle.mk_edit_language.specs.LinesInPlace.{AreOthersKeptByRenameTarget, AreOthersKeptByChangeValues}
+use Rattle.mk_edit_language.specs.LinesExchanged.{AreLinesExchanged}
 
 -- The reading law of an edit: if no cause refuses the edit, the text after it reads as the stated
 -- change says.
@@ -94,7 +95,7 @@ KeepsOthers e = (text : List ℕ) (replacements : List Replacement) → spans te
 
 -- What an edit leaves. A rename and a change of every value of a name may touch lines that stand
 -- apart: each leaves the lines that it does not change, makes each other line in its place, and
--- opens no conditional.
+-- opens no conditional. An exchange of whole lines leaves the lines above and below them.
 abbrev pub LeavesOthers : Edit → Type 0
 LeavesOthers (RenameTarget old new) = (text : List ℕ) (replacements : List Replacement)
     → spans text (RenameTarget old new) ≡ Ok replacements
@@ -102,6 +103,9 @@ LeavesOthers (RenameTarget old new) = (text : List ℕ) (replacements : List Rep
 LeavesOthers (ChangeValue Every name change) = (text : List ℕ) (replacements : List Replacement)
     → spans text (ChangeValue Every name change) ≡ Ok replacements
     → AreOthersKeptByChangeValues name change text replacements
+LeavesOthers (ExchangeLines site new) = (text : List ℕ) (replacements : List Replacement)
+    → spans text (ExchangeLines site new) ≡ Ok replacements
+    → AreLinesExchanged site new text replacements
 LeavesOthers e = KeepsOthers e
 
 -- each edit leaves the lines that its spans do not touch

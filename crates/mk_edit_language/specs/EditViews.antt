@@ -1,8 +1,12 @@
 -- What contracts see of the program's edits: the edits of the definitions.
 -- Told in docs/ARCHITECTURE.md, "An edit's way, from Edit to moved lines".
+use Rattle.std.specs.Prelude.{ℕ, List, [], Option, Some, None, Vec}
 use Rattle.mk_edit_language.specs.Edits as edits
+use Rattle.mk_edit_language.specs.LineRuns.{block_lines}
 use Rattle.mk_edit_language.specs.declared.edit.Place.{Place}
 use Rattle.mk_edit_language.specs.declared.edit.Place.TheVariants as place
+use Rattle.mk_edit_language.specs.declared.edit.Site.{Site}
+use Rattle.mk_edit_language.specs.declared.edit.Site.TheVariants as site
 use Rattle.mk_edit_language.specs.declared.edit.ValueChange.{ValueChange}
 use Rattle.mk_edit_language.specs.declared.edit.ValueChange.TheVariants as change
 use Rattle.mk_edit_language.specs.declared.edit.LineChange.{LineChange}
@@ -16,6 +20,19 @@ place_of place.Bottom = edits.Bottom
 place_of (place.BeforeVar nth name) = edits.BeforeVar nth name.items
 place_of (place.AfterVar nth name) = edits.AfterVar nth name.items
 place_of (place.BeforeRule nth target) = edits.BeforeRule nth target.items
+
+-- a site; a block in it is seen as its lines
+abbrev pub site_of : {A : _} → Site A → edits.Site
+site_of site.Top = edits.Top
+site_of (site.AtPlace p) = edits.AtPlace (place_of p)
+site_of (site.BeforeLines nth old) = edits.BeforeRun nth (block_lines old.items)
+site_of (site.AfterLines nth old) = edits.AfterRun nth (block_lines old.items)
+site_of (site.OfLines nth old) = edits.OfRun nth (block_lines old.items)
+
+-- the lines of a block, if there is one
+abbrev pub lines_of : {A : _} → Option (Vec ℕ A) → List (List ℕ)
+lines_of None = []
+lines_of (Some block) = block_lines block.items
 
 -- a change of values; its text is seen as bytes
 abbrev pub value_change_of : {A : _} → ValueChange A → edits.ValueChange
@@ -68,3 +85,4 @@ edit_of (edit.SetRecipeByText nth target old line) =
 edit_of (edit.RemoveRecipeByText nth target old) =
     edits.RemoveLines (edits.OfRecipe nth target.items (edits.ByText old.items))
 edit_of (edit.RenameTarget from to) = edits.RenameTarget from.items to.items
+edit_of (edit.ExchangeLines s block) = edits.ExchangeLines (site_of s) (lines_of block)

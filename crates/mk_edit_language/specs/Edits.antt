@@ -14,6 +14,16 @@ pub data Place : Type 0 where
   AfterVar : (nth : Option ℕ) → (name : List ℕ) → Place
   BeforeRule : (nth : Option ℕ) → (target : List ℕ) → Place
 
+-- Where new lines go: to the start of the text, to a place of a new line, to the start or the end of
+-- a run, which is lines that say what a block says; or in the place of a run. A block is here the
+-- list of its lines, and `nth` is the number of the run, from 1.
+pub data Site : Type 0 where
+  Top : Site
+  AtPlace : Place → Site
+  BeforeRun : (nth : Option ℕ) → (old : List (List ℕ)) → Site
+  AfterRun : (nth : Option ℕ) → (old : List (List ℕ)) → Site
+  OfRun : (nth : Option ℕ) → (old : List (List ℕ)) → Site
+
 -- A new line that goes to a place. The targets of a rule are one text, which is cut into words, and
 -- so are its prerequisites.
 pub data NewLine : Type 0 where
@@ -67,7 +77,8 @@ pub data Removal : Type 0 where
   OfRule : (nth : Option ℕ) → (target : List ℕ) → Removal
   OfRecipe : (nth : Option ℕ) → (target : List ℕ) → (which : RecipeLine) → Removal
 
--- An edit. `nth` is the number of the line, from 1, among the lines of the same name or target.
+-- An edit. `nth` is the number of the line, from 1, among the lines of the same name or target. The
+-- new lines of an exchange are those of a block; none if lines are taken out.
 pub data Edit : Type 0 where
   ChangeValue : (which : Which) → (name : List ℕ) → (change : ValueChange) → Edit
   ChangeLine : (nth : Option ℕ) → (name : List ℕ) → (change : LineChange) → Edit
@@ -77,3 +88,4 @@ pub data Edit : Type 0 where
   SetRecipe : (nth : Option ℕ) → (target : List ℕ) → (which : RecipeLine) → (line : List ℕ) → Edit
   RemoveLines : (lines : Removal) → Edit
   RenameTarget : (old new : List ℕ) → Edit
+  ExchangeLines : (site : Site) → (new : List (List ℕ)) → Edit

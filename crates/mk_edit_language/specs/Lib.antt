@@ -7,8 +7,10 @@ pub mod Numbered
 pub mod Spots
 pub mod Addresses
 pub mod Stretches
+pub mod LineRuns
 -- Spans
 pub mod NewLines
+pub mod LineExchanges
 pub mod Lengths
 pub mod WordPieces
 pub mod ValueChanges
@@ -21,17 +23,16 @@ pub mod ArgumentCauses
 pub mod AddressCauses
 pub mod RuleCauses
 pub mod LineCauses
+pub mod ExchangeCauses
 -- The outcome of an edit
 pub mod Refusals
 pub mod RefusalTexts
 pub mod Changes
 pub mod Costs
--- Whole lines put in, taken out or exchanged
-pub mod LineRuns
-pub mod LineExchanges
 -- What an edit leaves
 pub mod KeptLines
 pub mod LinesInPlace
+pub mod LinesExchanged
 pub mod RuleTaken
 -- Edits of several lines that are checked by reading
 pub mod EachLine

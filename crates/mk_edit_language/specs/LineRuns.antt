@@ -10,7 +10,7 @@ use Rattle.mk_lines.specs.LogicalLines.{ends_with_odd_run}
 use Rattle.mk_class.specs.ListTests.{is_empty, last_passes}
 use Rattle.mk_class.specs.Arguments.{is_clean}
 use Rattle.mk_class.specs.ClassedLines.{ClassedLine}
-use Rattle.mk_edit_language.specs.Edits.{Place, Bottom, BeforeVar, AfterVar, BeforeRule}
+use Rattle.mk_edit_language.specs.Edits.{Place, Bottom, BeforeVar, AfterVar, BeforeRule, Site, Top, AtPlace, BeforeRun, AfterRun, OfRun}
 use Rattle.mk_edit_language.specs.Spots.{picked}
 use Rattle.mk_edit_language.specs.Addresses.{Address, Variable, Rule, candidates, nth_meant, place_address}
 use Rattle.mk_edit_language.specs.Stretches.{Stretch, before_line, after_line, bottom}
@@ -19,7 +19,7 @@ use Rattle.mk_edit_language.specs.Stretches.{Stretch, before_line, after_line, b
 
 -- a byte before the lines of the text after it: a line feed ends a line, any other byte goes to the
 -- first line
-abbrev before_texts : (is_line_feed : Bool) → ℕ → List (List ℕ) → List (List ℕ)
+abbrev pub before_texts : (is_line_feed : Bool) → ℕ → List (List ℕ) → List (List ℕ)
 before_texts true b ts = [] ∷ ts
 before_texts false b ts = onto_first (b ∷ []) ts
 
@@ -84,15 +84,6 @@ abbrev pub is_in_run : (block : List (List ℕ)) → List ClassedLine → Stretc
 is_in_run b ls s = list_any (λ r. is_within r s) (runs b ls)
 
 -- ---- sites
-
--- Where new lines go: to the start of the text, to a place of a new line, to the start or the end of
--- a run for a block; or in the place of a run. `nth` is the number of the run, from 1.
-pub data Site : Type 0 where
-  Top : Site
-  AtPlace : Place → Site
-  BeforeRun : (nth : Option ℕ) → (old : List (List ℕ)) → Site
-  AfterRun : (nth : Option ℕ) → (old : List (List ℕ)) → Site
-  OfRun : (nth : Option ℕ) → (old : List (List ℕ)) → Site
 
 -- the empty stretch at the start of the text
 abbrev top : List ClassedLine → Stretch

@@ -3,18 +3,20 @@
 use Rattle.std.specs.Prelude.{ℕ, List, [], ◌∷◌, Option, Some, None, Result, Ok, Err}
 use Rattle.mk_lines.specs.Pieces.{Replacement, replaced}
 use Rattle.mk_class.specs.ClassedLines.{ClassedLine, classed_lines}
-use Rattle.mk_edit_language.specs.Edits.{Edit}
+use Rattle.mk_edit_language.specs.Edits.{Edit, ExchangeLines}
+use Rattle.mk_edit_language.specs.LineRuns.{site_found}
 use Rattle.mk_edit_language.specs.EditSpans.{spans_of}
 use Rattle.mk_edit_language.specs.ArgumentCauses.{bad_argument, reserved}
 use Rattle.mk_edit_language.specs.AddressCauses.{unread_prefix, no_such, ambiguous, prefix_led}
 use Rattle.mk_edit_language.specs.RuleCauses.{absent, already, taken, shared_rule, straddles}
 use Rattle.mk_edit_language.specs.LineCauses.{open_value, open_line, open_define, leaning, too_long, misread}
+use Rattle.mk_edit_language.specs.ExchangeCauses.{exchange_causes}
 use Rattle.mk_edit_language.specs.declared.refusal.Refusal.{Refusal}
 
--- The causes in their order. The cause that a written line would begin with the recipe prefix is
--- tested once the line's place is known.
-abbrev pub causes : (text : List ℕ) → List ClassedLine → Edit → List (Option Refusal)
-causes t ls e =
+-- The causes in their order, of an edit that means lines by a name or a target. The cause that a
+-- written line would begin with the recipe prefix is tested once the line's place is known.
+abbrev pub item_causes : (text : List ℕ) → List ClassedLine → Edit → List (Option Refusal)
+item_causes t ls e =
     bad_argument e
     ∷ reserved e
     ∷ unread_prefix ls
@@ -33,6 +35,11 @@ causes t ls e =
     ∷ too_long t (spans_of t ls e)
     ∷ misread ls e
     ∷ []
+
+-- the causes in their order
+abbrev pub causes : (text : List ℕ) → List ClassedLine → Edit → List (Option Refusal)
+causes t ls (ExchangeLines s ts) = exchange_causes t ls s ts (site_found ls s)
+causes t ls e = item_causes t ls e
 
 -- the first cause that holds
 abbrev pub first_cause : List (Option Refusal) → Option Refusal

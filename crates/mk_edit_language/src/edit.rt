@@ -1,13 +1,15 @@
-//! The edits, the changes of values and of lines, the places of new lines, and the separators of new
-//! rules.
+//! The edits, the changes of values and of lines, the places of new lines, the sites of whole lines,
+//! and the separators of new rules.
 //!
 //! An edit owns its texts. Contracts see it as a value of the definitions (`edit_of`). `==` compares
-//! edits, places and changes, and `clone` copies their texts: it answers
+//! edits, places, sites and changes, and `clone` copies their texts: it answers
 //! [`AllocError`](std::alloc::AllocError) if there is no memory for one.
 //!
 //! `nth` is the number of a line among the lines of the same name or target, from 1, in the order
 //! of the file; without it, an edit means the only such line. `number` is the number of a recipe
 //! line of its rule, from 1.
+//!
+//! A *block* is the text of whole lines: the lines without their line ends, with LF between them.
 
 use mk_class::Flavor;
 use std::alloc::{Allocator, Global};
@@ -51,6 +53,41 @@ pub enum Place<A: Allocator = Global> {
         nth: Option<u32>,
         /// One of the rule's targets.
         target: Vec<u8, A>,
+    },
+}
+
+/// Where whole lines go, or which lines go for them.
+///
+/// Lines are found by what they say: a run of lines says a block where its physical lines, without
+/// their line ends, are those of the block. `nth` is the number of such a run, from 1.
+#[derive(Drop)]
+#[derive_where(Clone; A)]
+#[derive_where(Debug, PartialEq, Eq)]
+pub enum Site<A: Allocator = Global> {
+    /// The start of the file.
+    Top,
+    /// A place of a new line.
+    AtPlace(Place<A>),
+    /// Before lines.
+    BeforeLines {
+        /// Which of the runs that say the block, from 1.
+        nth: Option<u32>,
+        /// What the lines say: a block.
+        old: Vec<u8, A>,
+    },
+    /// After lines.
+    AfterLines {
+        /// Which of the runs that say the block, from 1.
+        nth: Option<u32>,
+        /// What the lines say: a block.
+        old: Vec<u8, A>,
+    },
+    /// In the place of lines, which go.
+    OfLines {
+        /// Which of the runs that say the block, from 1.
+        nth: Option<u32>,
+        /// What the lines say: a block.
+        old: Vec<u8, A>,
     },
 }
 
@@ -304,5 +341,14 @@ pub enum Edit<A: Allocator = Global> {
         from: Vec<u8, A>,
         /// The new name.
         to: Vec<u8, A>,
+    },
+    /// Puts in whole lines of any class, or exchanges lines for others, or takes lines out. The new
+    /// lines are read in the context that is there, and the edit is refused where they would change
+    /// what the lines around them read as.
+    ExchangeLines {
+        /// Where the new lines go, or which lines go for them.
+        site: Site<A>,
+        /// The new lines, as a block; none if lines are taken out.
+        block: Option<Vec<u8, A>>,
     },
 }

@@ -23,6 +23,7 @@ pub mod outside;
 /// | a recipe line changed | the item has this text |
 /// | a new prerequisite | it stands last in its list of the header |
 /// | a prerequisite removed | each word that is it goes from both lists of the header |
+/// | whole lines put in, taken out or exchanged | the items of the new lines stand in the place of those of the lines that go; each new line is read below the lines above it |
 /// | a target renamed | the new word stands for each target and each prerequisite that was the old one, in headers and target assignments |
 ///
 /// No other item changes.

@@ -7,7 +7,7 @@ use thiserror::Error;
 /// A field of an edit, by the name that a report gives it.
 #[derive(Clone, Copy, Debug, PartialEq, Eq)]
 pub enum Field {
-    /// The name or the target that says where a new line goes.
+    /// The name, the target or the lines that say where a new line goes.
     Place,
     /// The name of a variable.
     Name,
@@ -23,7 +23,7 @@ pub enum Field {
     Word,
     /// The command of a recipe line.
     Line,
-    /// The target that is renamed.
+    /// The target that is renamed, or the text of a recipe line or of whole lines that are sought.
     Old,
     /// The new name of that target.
     New,
@@ -31,6 +31,8 @@ pub enum Field {
     From,
     /// The text in its place.
     To,
+    /// The whole lines that are new.
+    Block,
 }
 
 impl Field {
@@ -51,6 +53,7 @@ impl Field {
             Field::New => "new",
             Field::From => "from",
             Field::To => "to",
+            Field::Block => "block",
         }
     }
 }

@@ -11,6 +11,7 @@ use Rattle.mk_edit_language.specs.Addresses.{Address, address, found}
 use Rattle.mk_edit_language.specs.ArgumentCauses.{bad_argument, reserved}
 use Rattle.mk_edit_language.specs.AddressCauses.{unread_prefix, no_such, no_such_line, ambiguous, ambiguous_line}
 use Rattle.mk_edit_language.specs.Refusals.{first_cause}
+use Rattle.mk_edit_language.specs.KeptLines.{IsOfOnePlace}
 use Rattle.mk_edit_language.specs.declared.refusal.Refusal.{Refusal}
 use Rattle.mk_edit_parts.specs.declared.seek.Found.{Found}
 
@@ -42,9 +43,10 @@ pub record IsPicked (ls : List ClassedLine) (a : Option Address) (f : Found) : T
 abbrev pub IsNotPicked : List ClassedLine → Option Address → Refusal → Type 0
 IsNotPicked ls a r = first_cause (no_such_line ls a ∷ ambiguous_line ls a ∷ []) ≡ Some r
 
--- No cause holds that comes before the edit's own causes, and the place where the edit applies is
--- found.
+-- An edit of one place of which no cause holds that comes before its own causes; and the place where
+-- it applies is found.
 pub record IsAddressed (e : Edit) (ls : List LocatedLine) (f : Found) : Type 0 where
+  pub one_place : IsOfOnePlace e
   pub arguments : bad_argument e ≡ None
   pub not_reserved : reserved e ≡ None
   pub prefix_read : unread_prefix (classed_lines (located_text ls)) ≡ None

@@ -10,6 +10,9 @@ pub mod Found
 pub mod LineRanges
 -- The recipe of a rule, and its edits
 pub mod RecipeWalks
+-- The runs for a block, and the lines that a site means
+pub mod LineRunsFound
+pub mod SitesFound
 -- The words of a value
 pub mod SeenAssignments
 pub mod ValuePieces
@@ -25,3 +28,5 @@ pub mod Glances
 -- # Vocabulary of private contracts
 -- The recipe lines of a text
 pub mod TextMatches
+-- Walks for the runs of a block
+pub mod LineRunWalks

@@ -20,7 +20,7 @@ may_mean (Some (Variable nth n)) l = assigns_located n l
 may_mean (Some (Rule nth t)) l = is_rule_for_located t l
 
 -- the number that is sought, from 1; if no number is given, 1
-abbrev wanted_of : Option ℕ → ℕ
+abbrev pub wanted_of : Option ℕ → ℕ
 wanted_of None = 1
 wanted_of (Some n) = n
 

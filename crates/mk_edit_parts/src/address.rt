@@ -1,10 +1,11 @@
 //! The line that an edit means, as the edit says it.
 ghost use Rattle.std.specs.Prelude.{◌≡◌};
 ghost use Rattle.mk_edit_language.specs.Addresses.{address, place_address};
-ghost use Rattle.mk_edit_language.specs.EditViews.{edit_of, place_of};
+ghost use Rattle.mk_edit_language.specs.EditViews.{edit_of, place_of, site_of};
+ghost use Rattle.mk_edit_language.specs.LineRuns.{site_address};
 ghost use Rattle.mk_edit_parts.specs.AddressViews.{address_seen};
 
-use mk_edit_language::{Edit, Place};
+use mk_edit_language::{Edit, Place, Site};
 use std::alloc::Allocator;
 
 /// What an edit says of the line that it means. The number counts from 1; without one the line is
@@ -18,7 +19,7 @@ pub enum Address<'a> {
 }
 
 /// The address of an edit, or of its place. A new line at the end has no address, and neither has a
-/// rename or a change of all values of a name.
+/// rename, a change of all values of a name, or an exchange of whole lines.
 pub fn address_of<A: Allocator>(edit: &Edit<A>) -> Option<Address<'_>>
     ensures { address_seen result ≡ address (edit_of edit.now) }
 {
@@ -39,12 +40,23 @@ pub fn address_of<A: Allocator>(edit: &Edit<A>) -> Option<Address<'_>>
         | Edit::InsertRecipe { nth, target, .. }
         | Edit::SetRecipeByText { nth, target, .. }
         | Edit::RemoveRecipeByText { nth, target, .. } => Some(Address::Rule(*nth, target)),
-        Edit::ChangeValues { .. } | Edit::RenameTarget { .. } => None,
+        Edit::ChangeValues { .. } | Edit::RenameTarget { .. } | Edit::ExchangeLines { .. } => None,
     }
 }
 
-// The address of a place.
-fn place_address<A: Allocator>(place: &Place<A>) -> Option<Address<'_>>
+/// The address in a site. Only a place of a new line may have one.
+pub(crate) fn site_address<A: Allocator>(site: &Site<A>) -> Option<Address<'_>>
+    ensures { address_seen result ≡ site_address (site_of site.now) }
+{
+    match site {
+        Site::AtPlace(place) => place_address(place),
+        Site::Top | Site::BeforeLines { .. } | Site::AfterLines { .. } | Site::OfLines { .. } =>
+            None,
+    }
+}
+
+/// The address of a place.
+pub(crate) fn place_address<A: Allocator>(place: &Place<A>) -> Option<Address<'_>>
     ensures { address_seen result ≡ place_address (place_of place.now) }
 {
     match place {

@@ -5,18 +5,21 @@ ghost use Rattle.mk_class.specs.Arguments.{is_barred_byte, is_clean, is_command,
 ghost use Rattle.mk_class.specs.Keywords.{is_reserved_word};
 ghost use Rattle.mk_class.specs.ListTests.{is_empty};
 ghost use Rattle.mk_class.specs.RecipePrefix.{is_prefix_name};
-ghost use Rattle.mk_edit_language.specs.ArgumentCauses.{Tested, address_names, address_targets, are_targets, are_words, bad_argument, change_test, first_failed, is_place, is_value_word, line_change_tests, names, targets};
+ghost use Rattle.mk_edit_language.specs.ArgumentCauses.{Tested, address_names, address_targets, are_targets, are_words, bad_argument, change_test, exchange_tests, first_failed, is_place, is_value_word, line_change_tests, names, targets};
 ghost use Rattle.mk_edit_language.specs.declared.refusal.Field.TheVariants.{Line, Old, Prereqs, Target, Targets};
 ghost use Rattle.mk_lines.specs.Units.{units};
 ghost use Rattle.mk_lines.specs.Words.{is_gap, words_in};
-ghost use Rattle.mk_edit_language.specs.EditViews.{edit_of, line_change_of, place_of, value_change_of};
+ghost use Rattle.mk_edit_language.specs.EditViews.{edit_of, line_change_of, place_of, site_of, value_change_of};
 ghost use Rattle.mk_edit_language.specs.declared.refusal.Field.TheVariants as field;
+ghost use Rattle.mk_edit_language.specs.LineRuns.{block_lines, is_block};
 ghost use Rattle.mk_edit_parts.specs.AddressViews.{address_seen, field_refusal};
+ghost use Rattle.mk_edit_parts.specs.LineRunsFound.{block_seen};
 
-use crate::address::{Address, address_of};
+use crate::address::{Address, address_of, site_address};
+use crate::block::{block_of, is_block};
 use crate::text::is_prefix_name;
 use mk_class::{is_command, is_name, is_reserved_word, is_target, is_value, is_word};
-use mk_edit_language::{Edit, Field, LineChange, Place, ValueChange};
+use mk_edit_language::{Edit, Field, LineChange, Place, Site, ValueChange};
 use mk_lines::{split_first_unit, split_first_word};
 use std::alloc::Allocator;
 
@@ -25,6 +28,7 @@ pub fn bad_field<A: Allocator>(edit: &Edit<A>) -> Option<Field>
     ensures { field_refusal result ≡ bad_argument (edit_of edit.now) }
 {
     match edit {
+        Edit::ExchangeLines { site, block } => bad_site_field(site, block_of(block)),
         Edit::AddAssign { place, .. } | Edit::AddRule { place, .. } if !is_place(place) => {
             Some(Field::Place)
         }
@@ -62,6 +66,47 @@ pub fn bad_field<A: Allocator>(edit: &Edit<A>) -> Option<Field>
         Edit::RenameTarget { from, to } => {
             first_failed(Field::Old, is_target(from), Field::New, is_target(to))
         }
+    }
+}
+
+/// The first field that fails its test, of an exchange of whole lines. There is no block if lines are
+/// taken out, which is one of lines alone.
+pub(crate) fn bad_site_field<A: Allocator>(site: &Site<A>, block: Option<&[u8]>) -> Option<Field>
+    ensures { field_refusal result
+        ≡ first_failed (exchange_tests (site_of site.now) (block_seen block.entry)) }
+{
+    let is_new = is_new_block(block);
+    match site {
+        Site::Top => failed(Field::Block, is_new),
+        Site::AtPlace(place) => {
+            first_failed(Field::Place, is_place(place), Field::Block, is_new)
+        }
+        Site::BeforeLines { old, .. } | Site::AfterLines { old, .. } => {
+            first_failed(Field::Place, is_block(old), Field::Block, is_new)
+        }
+        Site::OfLines { old, .. } => {
+            first_failed(Field::Old, is_block(old), Field::Block, may_be_block(block))
+        }
+    }
+}
+
+// Whether a text may be a block, if there is one.
+fn may_be_block(block: Option<&[u8]>) -> bool
+    ensures { result ≡ (is_empty (block_seen block.entry) || is_block (block_seen block.entry)) }
+{
+    match block {
+        Some(block) => is_block(block),
+        None => true,
+    }
+}
+
+// Whether there is a block, and its text may be one.
+fn is_new_block(block: Option<&[u8]>) -> bool
+    ensures { result ≡ is_block (block_seen block.entry) }
+{
+    match block {
+        Some(block) => is_block(block),
+        None => false,
     }
 }
 
@@ -323,12 +368,13 @@ pub fn is_reserved<A: Allocator>(edit: &Edit<A>) -> bool
             has_reserved_word(targets) || is_reserved_address(address_of(edit))
         }
         Edit::RenameTarget { from, to } => is_reserved_word(from) || is_reserved_word(to),
+        Edit::ExchangeLines { site, .. } => is_reserved_address(site_address(site)),
         _ => is_reserved_address(address_of(edit)),
     }
 }
 
-// Whether an address names the recipe prefix, or a word of directives.
-fn is_reserved_address(address: Option<Address>) -> bool
+/// Whether an address names the recipe prefix, or a word of directives.
+pub(crate) fn is_reserved_address(address: Option<Address>) -> bool
     ensures { result
         ≡ (list_any is_prefix_name (address_names (address_seen address.entry))
         || list_any is_reserved_word (address_targets (address_seen address.entry))) }

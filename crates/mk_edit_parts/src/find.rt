@@ -25,8 +25,9 @@ use std::alloc::Allocator;
 ///
 /// It decides, in this order, whether a field fails its test; whether a name is reserved; whether
 /// the recipe prefix is set in a way that is not read; whether there is no such line; and whether
-/// there are several such lines. It asks for a faithful document, and for an edit that is no
-/// rename: a rename does not mean one line.
+/// there are several such lines. It asks for a faithful document, and for an edit of one place: a
+/// rename does not mean one line, nor does a change of all values of a name. Where an exchange of
+/// whole lines applies, [`find_site`](crate::site::find_site) tells.
 pub fn find<A: Allocator>(
     doc: &Doc<A>,
     edit: &Edit<A>,
@@ -68,9 +69,9 @@ fn sought_for<A: Allocator>(doc: &Doc<A>, address: Option<Address>, known: Optio
     }
 }
 
-// The line that an address means, from what was sought for it; the end of the lines if there is no
-// address.
-fn pick(address: Option<Address>, sought: Sought) -> Result<Found, Refusal>
+/// The line that an address means, from what was sought for it; the end of the lines if there is no
+/// address.
+pub(crate) fn pick(address: Option<Address>, sought: Sought) -> Result<Found, Refusal>
     ensures found { (lines : List ClassedLine) → IsSought lines (address_seen address.entry) sought
         → IfOk result (λ found. IsPicked lines (address_seen address.entry) found) }
     ensures refused { (lines : List ClassedLine)

@@ -23,6 +23,9 @@
 //! - [`value_words`]: the words of a value, and the line without one of them.
 //! - [`recipe`]: the recipe of a rule, by a walk down from its header.
 //! - [`recipe_text`]: the recipe lines that have a text.
+//! - `block`: which texts may be blocks of lines, and what a line says of a block.
+//! - [`line_run`]: the runs for a block: lines that say together what it says.
+//! - [`site`]: the lines that a site means, after the causes that come before its own.
 //! - [`word_parts`]: the words of a line that a rename replaces.
 //! - [`glance`]: whether a word may be one of a text's words, and from where on.
 //! - [`tally`]: the count of these words.
@@ -33,12 +36,14 @@
 
 pub mod address;
 pub mod argument;
+mod block;
 pub mod candidates;
 pub mod find;
 pub mod glance;
 pub mod lean;
 pub mod line_change;
 pub mod line_end;
+pub mod line_run;
 pub mod line_test;
 pub mod new_line;
 pub mod place;
@@ -49,8 +54,11 @@ pub mod recipe;
 pub mod recipe_text;
 pub mod renamed_line;
 pub mod seek;
+pub mod site;
 pub mod tally;
 pub mod text;
 pub mod value_words;
 pub mod window;
 pub mod word_parts;
+
+pub use block::block_of;

@@ -21,8 +21,8 @@ pub fn doc_line_end<A: Allocator>(doc: &Doc<A>) -> End
     }
 }
 
-// The bytes of a line end.
-fn line_end_bytes(end: End) -> &'static [u8]
+/// The bytes of a line end.
+pub fn line_end_bytes(end: End) -> &'static [u8]
     ensures { result.now ≡ line_end_bytes end }
 {
     match end {

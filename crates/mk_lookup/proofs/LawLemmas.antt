@@ -4,7 +4,7 @@ use Rattle.std.specs.Prelude.{Ok, Err}
 use Rattle.mk_class.specs.Arguments.{is_name, is_value}
 use Rattle.mk_class.specs.ClassedLines.{classed_lines}
 use Rattle.mk_tree.specs.LineTexts.{StandingLine}
-use Rattle.mk_edit_language.specs.Edits.{One, Set, OfAssign, OfRule, Edit, ChangeValue, RemoveLines}
+use Rattle.mk_edit_language.specs.Edits.{One, Set, Removal, OfAssign, OfRule, ChangeValue, RemoveLines}
 use Rattle.mk_edit_language.specs.EditSpans.{spans_of}
 use Rattle.mk_edit_language.specs.Addresses.{Variable, Rule, found}
 use Rattle.mk_edit_language.specs.ArgumentCauses.{Tested, bad_argument, first_failed, reserved}
@@ -82,15 +82,16 @@ no_index-by : (o : Option Refusal) (s : Option StandingLine) (r : Refusal) → i
 no_index-by None s r h = absurd (cc)
 no_index-by (Some x) s r h = let e : x ≡ r = cc in ap (λ z. Some z) e
 
-first-refused : (t : List ℕ) (e : Edit) (s : Option StandingLine) (r : Refusal) → index_unless (first_cause (first_causes (classed_lines t) e)) s ≡ Err r → spans t e ≡ Err r
-first-refused t e s r h =
+first-refused : (t : List ℕ) (m : Removal) (s : Option StandingLine) (r : Refusal) → index_unless (first_cause (first_causes (classed_lines t) (RemoveLines m))) s ≡ Err r → spans t (RemoveLines m) ≡ Err r
+first-refused t m s r h =
     let ls = classed_lines t in
+    let e = RemoveLines m in
     let all : first_cause (causes t ls e) ≡ Some r =
     five-first (bad_argument e) (reserved e) (unread_prefix ls) (no_such ls e) (ambiguous ls e) _ r (no_index-by (first_cause (first_causes ls e)) s r h) in
     ap (λ z. unless_refused z (spans_of t ls e)) all
 
 pub refused-as_unset : IsRefusedAsUnset
-refused-as_unset t nth n r h = first-refused t (RemoveLines (OfAssign nth n)) (found (classed_lines t) (Variable nth n)) r h
+refused-as_unset t nth n r h = first-refused t (OfAssign nth n) (found (classed_lines t) (Variable nth n)) r h
 
 pub refused-as_unrule : IsRefusedAsUnrule
-refused-as_unrule t nth g r h = first-refused t (RemoveLines (OfRule nth g)) (found (classed_lines t) (Rule nth g)) r h
+refused-as_unrule t nth g r h = first-refused t (OfRule nth g) (found (classed_lines t) (Rule nth g)) r h

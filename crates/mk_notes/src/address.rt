@@ -2,6 +2,7 @@
 
 use crate::line::is_named;
 use crate::text::{MOST_LINES, Notes};
+use crate::whole_lines::{address_of_site, number_of_site};
 use memchr::memmem;
 use mk_edit_language::{Edit, LineChange, ValueChange};
 use mk_edit_parts::address::{Address, address_of};
@@ -10,12 +11,22 @@ use mk_listing::{Position, RuleLine, numbered, rule_lines_for};
 use mk_tree::Doc;
 use std::alloc::{AllocError, Allocator};
 
-/// The address of an edit; of one that means all lines of a name, that of the name without a number.
+/// The address of an edit or of its place; of one that means all lines of a name, that of the name without a
+/// number.
 pub(crate) fn meant_by<A: Allocator>(edit: &Edit<A>) -> Option<Address<'_>> {
     match edit {
         Edit::ChangeValues { name, .. } => Some(Address::Variable(None, name)),
         Edit::RenameTarget { from, .. } => Some(Address::Rule(None, from)),
+        Edit::ExchangeLines { site, .. } => address_of_site(site),
         _ => address_of(edit),
+    }
+}
+
+/// The number that an edit gives of the line or the lines that it means, if it gives one.
+pub(crate) fn number_of<A: Allocator>(edit: &Edit<A>) -> Option<u32> {
+    match edit {
+        Edit::ExchangeLines { site, .. } => number_of_site(site),
+        _ => address_of(edit).and_then(|address| number_in(address)),
     }
 }
 

@@ -1,23 +1,24 @@
 //! What an edit asks for, in the words of a script.
 
-use crate::address::{meant_by, name_in, number_in, word_of};
+use crate::address::{meant_by, name_in, number_of, word_of};
 use crate::part::Part::{Number, Text, Words};
 use crate::text::Notes;
-use mk_edit_language::{Edit, LineChange, Place, Side, ValueChange};
-use mk_edit_parts::address::address_of;
+use crate::whole_lines::first_line;
+use mk_edit_language::{Edit, LineChange, Place, Side, Site, ValueChange};
 use std::alloc::{AllocError, Allocator};
 
 impl<'a, A: Allocator, B: Allocator + Copy> Notes<'a, A, B> {
     /// Puts the command of an edit with the fields that say what it is about, such as `nth 2 set CC` and
     /// `recipe-set all 3`. What it would write is left out.
     pub(crate) fn asked<C: Allocator>(&mut self, edit: &Edit<C>) -> Result<(), AllocError> {
-        if let Some(nth) = address_of(edit).and_then(|address| number_in(address)) {
+        if let Some(nth) = number_of(edit) {
             self.say("nth @ ", &[Number(u64::from(nth))])?;
         }
         self.say(command_word(edit), &[])?;
         match edit {
             Edit::AddAssign { place, name, .. } => self.asked_at(place, name),
             Edit::AddRule { place, targets, .. } => self.asked_at(place, targets),
+            Edit::ExchangeLines { site, .. } => self.asked_of_site(site),
             _ => self.asked_of_line(edit),
         }
     }
@@ -28,13 +29,30 @@ impl<'a, A: Allocator, B: Allocator + Copy> Notes<'a, A, B> {
         place: &'p Place<C>,
         new: &'p [u8],
     ) -> Result<(), AllocError> {
+        self.place_fields(place)?;
+        self.fields(&[new])
+    }
+
+    // Puts the fields of a place.
+    fn place_fields<C: Allocator>(&mut self, place: &Place<C>) -> Result<(), AllocError> {
         let (word, about) = match place {
-            Place::Bottom => return self.fields(&[b"bottom", new]),
+            Place::Bottom => return self.fields(&[b"bottom"]),
             Place::BeforeVar { name, .. } => ("before-var", name.as_slice()),
             Place::AfterVar { name, .. } => ("after-var", name.as_slice()),
             Place::BeforeRule { target, .. } => ("before-rule", target.as_slice()),
         };
-        self.fields(&[word.as_bytes(), about, new])
+        self.fields(&[word.as_bytes(), about])
+    }
+
+    // Puts the fields of the site of whole lines; of lines that are sought, the first.
+    fn asked_of_site<C: Allocator>(&mut self, site: &Site<C>) -> Result<(), AllocError> {
+        match site {
+            Site::Top => self.fields(&[b"top"]),
+            Site::AtPlace(place) => self.place_fields(place),
+            Site::BeforeLines { old, .. } => self.fields(&[b"before-line", first_line(old)]),
+            Site::AfterLines { old, .. } => self.fields(&[b"after-line", first_line(old)]),
+            Site::OfLines { old, .. } => self.fields(&[first_line(old)]),
+        }
     }
 
     // Puts the name or the target of the lines that an edit means, and the words, the text or the number of a
@@ -96,6 +114,11 @@ fn command_word<A: Allocator>(edit: &Edit<A>) -> &'static str {
         Edit::SetRecipeByText { .. } => "recipe-replace",
         Edit::RemoveRecipeByText { .. } => "recipe-remove",
         Edit::RenameTarget { .. } => "rename",
+        Edit::ExchangeLines { site, block } => match (site, block) {
+            (Site::OfLines { .. }, Some(_)) => "line-replace",
+            (Site::OfLines { .. }, None) => "line-remove",
+            _ => "insert",
+        },
     }
 }
 

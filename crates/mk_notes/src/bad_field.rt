@@ -3,9 +3,11 @@
 use crate::broken::{Test, broken};
 use crate::part::Part::Words;
 use crate::text::Notes;
+use crate::whole_lines::{address_of_site, sought_by};
 use mk_class::{is_target, is_word};
-use mk_edit_language::{Edit, Field, LineChange, ValueChange};
+use mk_edit_language::{Edit, Field, LineChange, Site, ValueChange};
 use mk_edit_parts::address::{Address, address_of};
+use mk_edit_parts::block_of;
 use mk_tree::WordTexts;
 use std::alloc::{AllocError, Allocator};
 
@@ -62,7 +64,22 @@ fn text_of_field<A: Allocator>(edit: &Edit<A>, field: Field) -> Tested<'_> {
             Tested::new("the name", name, Test::Name)
         }
         (_, Edit::ChangeLine { change, .. }) => text_of_change(edit, change, field),
+        (_, Edit::ExchangeLines { site, block }) => text_of_lines(site, block_of(block), field),
         _ => text_of_rule_field(edit, field),
+    }
+}
+
+// The text of a field of an edit of whole lines that may not stand there.
+fn text_of_lines<'a, A: Allocator>(
+    site: &'a Site<A>,
+    block: Option<&'a [u8]>,
+    field: Field,
+) -> Tested<'a> {
+    match (field, sought_by(site)) {
+        (Field::Block, _) => Tested::new("the block", block.unwrap_or_default(), Test::Block),
+        (Field::Old, Some(old)) => Tested::new("the old block", old, Test::Block),
+        (_, Some(old)) => Tested::new("the block in PLACE", old, Test::Block),
+        (_, None) => text_of_named(address_of_site(site), field),
     }
 }
 
@@ -127,9 +144,14 @@ fn text_of_rule_field<A: Allocator>(edit: &Edit<A>, field: Field) -> Tested<'_> 
     }
 }
 
-// The name or the target in an address that may not stand there.
+// The name or the target in the address of an edit that may not stand there.
 fn text_of_address<A: Allocator>(edit: &Edit<A>, field: Field) -> Tested<'_> {
-    match (field, address_of(edit)) {
+    text_of_named(address_of(edit), field)
+}
+
+// The name or the target in an address that may not stand there.
+fn text_of_named(address: Option<Address<'_>>, field: Field) -> Tested<'_> {
+    match (field, address) {
         (Field::Place, Some(Address::Variable(_, name))) => {
             Tested::new("the name in PLACE", name, Test::Name)
         }

@@ -21,6 +21,8 @@ pub(crate) enum Test {
     Line,
     /// A piece of a value.
     Text,
+    /// Whole lines.
+    Block,
 }
 
 /// The rule that a text breaks that is not what it has to be.
@@ -28,10 +30,10 @@ pub(crate) fn broken(text: &[u8], test: Test) -> &'static str {
     if text.is_empty() {
         return "is empty";
     }
-    let barred = barred_byte(text);
+    let barred = barred_byte(text, test);
     match test {
         Test::Name => "has other characters than ASCII letters, digits, `_`, `.` and `-`",
-        Test::Line | Test::Text => barred.unwrap_or(ENDS_IN_BACKSLASH),
+        Test::Line | Test::Text | Test::Block => barred.unwrap_or(ENDS_IN_BACKSLASH),
         Test::Value | Test::ValueWord | Test::Word => barred
             .or(outer_blank(text))
             .or(open_end(text))
@@ -40,11 +42,12 @@ pub(crate) fn broken(text: &[u8], test: Test) -> &'static str {
     }
 }
 
-// The byte of a text that no text of an edit may have, if it has one.
-fn barred_byte(text: &[u8]) -> Option<&'static str> {
+// The byte of a text that no text of an edit may have, if it has one; a line feed may stand between two
+// lines of a block.
+fn barred_byte(text: &[u8], test: Test) -> Option<&'static str> {
     for byte in text {
         match *byte {
-            b'\n' => return Some("has a line feed"),
+            b'\n' if !matches!(test, Test::Block) => return Some("has a line feed"),
             b'\r' => return Some("has a carriage return"),
             0 => return Some("has a NUL"),
             _ => {}

@@ -13,6 +13,7 @@
 //! - `line`: what notes ask of one line.
 //! - `text`: the text of the notes.
 //! - `part`: sentences with names, texts and numbers in them.
+//! - `whole_lines`: what is said of edits of whole lines.
 //! - `address`: the lines that an edit means.
 //! - `asked`: what an edit asks for.
 //! - `broken`: which rule a text breaks.
@@ -49,6 +50,7 @@ mod run_notes;
 mod sentence;
 mod tally;
 mod text;
+mod whole_lines;
 
 pub use report::{file_in_json, message_in_json};
 pub use run_notes::RunNotes;

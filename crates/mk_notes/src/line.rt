@@ -179,8 +179,8 @@ fn leads(address: Address<'_>, text: &[u8]) -> bool {
     }
 }
 
-// Whether a text begins with the operator of an assignment, maybe behind blanks.
-fn is_assigning(text: &[u8]) -> bool {
+/// Whether a text begins with the operator of an assignment, maybe behind blanks.
+pub(crate) fn is_assigning(text: &[u8]) -> bool {
     matches!(
         after_blanks(text),
         [b'=', ..]

@@ -26,7 +26,7 @@ impl<B: Allocator + Copy> RunNotes<'_, B> {
     ///
     /// | Edit | Notes |
     /// |---|---|
-    /// | each but `RemoveAssign`, `RemoveRule`, `ChangeValues` and `RenameTarget` | where the changed line is in a conditional: that make may skip it, and the line |
+    /// | each but `RemoveAssign`, `RemoveRule`, `ChangeValues`, `RenameTarget` and `ExchangeLines` | where the changed line is in a conditional: that make may skip it, and the line |
     /// | `SetValue`, `AppendValue`, `AddWord`, `RemoveWord`, and `ChangeLine` except for `SetOperator` | where the operator is `?=`: that make takes the value only where the variable has none, and the line |
     /// | the same, `SetOperator` and `AddAssign` | where the variable is assigned again below, and not in another branch of the same conditional: that it is, and the lines that assign it |
     /// | the same | where it is assigned in another branch of the same conditional: that it is, and the lines that assign it |

@@ -8,8 +8,9 @@ use crate::line::{has_target, is_hidden, is_near};
 use crate::open_value::is_open_to;
 use crate::run_notes::RunNotes;
 use crate::text::Notes;
+use crate::whole_lines::{address_of_site, is_run_at, number_of_site, sought_by};
 use mk_class::Class;
-use mk_edit_language::{Edit, Place, Refusal, ValueChange};
+use mk_edit_language::{Edit, Place, Refusal, Site, ValueChange};
 use mk_edit_parts::address::{Address, address_of};
 use mk_edit_parts::lean::begins_with;
 use mk_listing::{Position, assignments_of, numbered};
@@ -29,8 +30,8 @@ impl<C: Allocator + Copy> RunNotes<'_, C> {
     /// |---|---|
     /// | `Ambiguous` | the lines that fit the address, and what tells one of them; the line itself, if several of its recipe lines or words fit |
     /// | `NoSuch` | if the number is too high, the lines of the name; otherwise the lines of other names that are spelled alike, and those that begin with the name and that no edit looks at |
-    /// | `Absent`, `Already`, `SharedRule` | the line that the edit means; with `all` those of the name |
-    /// | `Misread` | the line that the edit means |
+    /// | `Absent`, `Already`, `SharedRule` | the line that the edit means; with `all` those of the name; the new lines that are there |
+    /// | `Misread` | the line or the lines that the edit means |
     /// | `OpenValue` | the line that the edit means; with `all` those that would be changed and whose value is open, except for a fold at its end, or all of the name if there are none |
     /// | `Straddles` | the line of the rule, and the first line of a conditional below it |
     /// | `Taken` | the lines for the new name |
@@ -99,6 +100,16 @@ impl<'a, A: Allocator, C: Allocator + Copy> Notes<'a, A, C> {
             (Refusal::Taken, Edit::RenameTarget { to, .. }) => self.taken(to),
             (Refusal::OpenValue, Edit::ChangeValues { name, change }) => self.open(name, change),
             (Refusal::Leans, _) => self.line(leaning(doc, edit)),
+            (
+                Refusal::Already,
+                Edit::ExchangeLines {
+                    block: Some(new),
+                    ..
+                },
+            ) => self.runs(new).map(|_| ()),
+            (_, Edit::ExchangeLines { site, .. }) if sought_by(site).is_some() => {
+                self.on_sought_lines(sought_by(site).unwrap_or_default(), refusal)
+            }
             _ => match meant_by(edit) {
                 Some(address) => self.refused(edit, address, refusal),
                 None => Ok(()),
@@ -140,7 +151,32 @@ impl<'a, A: Allocator, C: Allocator + Copy> Notes<'a, A, C> {
         if count < 2 {
             return Ok(());
         }
-        let all = takes_all(edit);
+        self.say_which(count, takes_all(edit))
+    }
+
+    // Puts the notes on a refusal of an edit that looks for lines by what they say.
+    fn on_sought_lines(&mut self, old: &[u8], refusal: Refusal) -> Result<(), AllocError> {
+        match refusal {
+            Refusal::Ambiguous(_) => {
+                let count = self.runs(old)?;
+                self.say_which(count, false)
+            }
+            Refusal::Misread => self.runs(old).map(|_| ()),
+            _ => Ok(()),
+        }
+    }
+
+    // Puts the notes on the lines that say a block. Hands out how often there are some.
+    fn runs(&mut self, block: &[u8]) -> Result<usize, AllocError> {
+        let doc = self.doc;
+        let found = numbered(doc).filter_map(|(at, _)| is_run_at(doc, at.index, block).then_some(
+            at,
+        ));
+        self.lines(&[], found)
+    }
+
+    // Puts what tells one of some lines, where `all` may stand for their numbers or not.
+    fn say_which(&mut self, count: usize, all: bool) -> Result<(), AllocError> {
         let mut digits = itoa::Buffer::new();
         self.script(&[
             b"`nth 1`",
@@ -253,9 +289,12 @@ fn conditional_below<A: Allocator>(doc: &Doc<A>, address: Address<'_>) -> Option
 }
 
 // The first line that begins with the recipe prefix and stands below the change of an edit: below the
-// line of its address, or at it if a new line goes above that one.
+// line of its address or of its site, or at it if a new line goes above that one.
 fn leaning<A: Allocator, B: Allocator>(doc: &Doc<A>, edit: &Edit<B>) -> Option<Position> {
-    let change = line_of(doc, address_of(edit)?)?;
+    let change = match edit {
+        Edit::ExchangeLines { site, .. } => line_at_site(doc, site)?,
+        _ => line_of(doc, address_of(edit)?)?,
+    };
     let prefix = prefix_at(doc, change);
     let is_above = goes_above(edit);
     numbered(doc)
@@ -266,13 +305,31 @@ fn leaning<A: Allocator, B: Allocator>(doc: &Doc<A>, edit: &Edit<B>) -> Option<P
         .map(|(at, _)| at)
 }
 
-// Whether the new line of an edit goes above the line of its address.
+// The line beside which whole lines go, or the first of the lines that go for them.
+fn line_at_site<A: Allocator, B: Allocator>(doc: &Doc<A>, site: &Site<B>) -> Option<Position> {
+    if let Some(address) = address_of_site(site) {
+        return line_of(doc, address);
+    }
+    let old = sought_by(site).unwrap_or_default();
+    let before = (number_of_site(site).unwrap_or(1) as usize).saturating_sub(1);
+    numbered(doc)
+        .filter(|(at, _)| matches!(site, Site::Top) || is_run_at(doc, at.index, old))
+        .nth(before)
+        .map(|(at, _)| at)
+}
+
+// Whether the new lines of an edit go above the line of its address or of its site.
 fn goes_above<A: Allocator>(edit: &Edit<A>) -> bool {
-    matches!(
-        edit,
-        Edit::AddAssign { place, .. } | Edit::AddRule { place, .. }
-            if matches!(place, Place::BeforeVar { .. } | Place::BeforeRule { .. })
-    )
+    match edit {
+        Edit::AddAssign { place, .. }
+        | Edit::AddRule { place, .. }
+        | Edit::ExchangeLines {
+            site: Site::AtPlace(place),
+            ..
+        } => matches!(place, Place::BeforeVar { .. } | Place::BeforeRule { .. }),
+        Edit::ExchangeLines { site, .. } => matches!(site, Site::Top | Site::BeforeLines { .. }),
+        _ => false,
+    }
 }
 
 // The recipe prefix in force at a position.

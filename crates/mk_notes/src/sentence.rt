@@ -7,9 +7,11 @@ use crate::address::{count_of, meant_by, name_in, number_in};
 use crate::line::hides_prefix;
 use crate::part::Part::{Count, Makefile, Number, Text, Times, Words};
 use crate::text::Notes;
+use crate::whole_lines::{address_of_site, number_of_site, sought_by};
 use mk_class::is_reserved_word;
-use mk_edit_language::{Edit, LineChange, Refusal};
+use mk_edit_language::{Edit, LineChange, Refusal, Site};
 use mk_edit_parts::address::Address;
+use mk_edit_parts::block_of;
 use mk_listing::numbered;
 use mk_tree::WordTexts;
 use std::alloc::{AllocError, Allocator};
@@ -26,10 +28,39 @@ impl<'a, A: Allocator, B: Allocator + Copy> Notes<'a, A, B> {
             Refusal::Reserved => self.reserved(edit),
             Refusal::RecipePrefix => self.recipe_prefix(),
             Refusal::OpenLine => self.open_line(),
-            _ => match meant_by(edit) {
-                Some(address) => self.sentence_on(edit, address, refusal),
-                None => self.plain_sentence(refusal),
+            _ => match (edit, meant_by(edit)) {
+                (Edit::ExchangeLines { site, block }, _) => {
+                    self.sentence_on_lines(site, block_of(block).unwrap_or_default(), refusal)
+                }
+                (_, Some(address)) => self.sentence_on(edit, address, refusal),
+                (_, None) => self.plain_sentence(refusal),
             },
+        }
+    }
+
+    // Puts what is so of whole lines, where an edit of these is refused.
+    fn sentence_on_lines<'e, C: Allocator>(
+        &mut self,
+        site: &'e Site<C>,
+        new: &'e [u8],
+        refusal: Refusal,
+    ) -> Result<(), AllocError> {
+        let old = sought_by(site).unwrap_or_default();
+        match (refusal, address_of_site(site)) {
+            (Refusal::NoSuch, Some(address)) => self.no_such(address),
+            (Refusal::NoSuch, None) => self.no_such_lines(old, number_of_site(site)),
+            (Refusal::Ambiguous(count), Some(address)) => self.has(address, count),
+            (Refusal::Ambiguous(count), None) => self.several_lines(old, count),
+            (Refusal::Already, _) => self.lines_there(new),
+            (Refusal::Misread, _) => {
+                let gone = if matches!(site, Site::OfLines { .. }) {
+                    old
+                } else {
+                    &[]
+                };
+                self.lines_misread(gone, new)
+            }
+            _ => self.plain_sentence(refusal),
         }
     }
 

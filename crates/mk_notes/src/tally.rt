@@ -82,6 +82,11 @@ impl<A: Allocator + Copy> Tally<A> {
                 Ok(())
             }
             Edit::RemoveRule { target, .. } => self.add(Use::Target, target, 1),
+            // New lines may be of any class, and others may be in another conditional.
+            Edit::ExchangeLines { .. } => {
+                self.is_doubtful = true;
+                Ok(())
+            }
             Edit::RenameTarget { from, to } => {
                 let (old, new) = (self.count(Use::Target, from), self.count(Use::Target, to));
                 self.add(Use::Target, from, new)?;

@@ -1,5 +1,6 @@
 -- Lemmas. Lines that are moved.
 pub mod MoveLemmas
+pub mod PlainMoves
 pub mod ShapeLemmas
 pub mod StepLemmas
 pub mod ExchangeLemmas

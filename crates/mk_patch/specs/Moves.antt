@@ -1,9 +1,9 @@
 -- Lines that are moved: what each move does to the lines of a document, and which lines it fits.
 -- Told in docs/ARCHITECTURE.md, "A patch".
-use Rattle.std.specs.Prelude.{◌≡◌, ℕ, ◌+◌, ◌<◌, ◌≤◌, false, List, [], ◌∷◌, ◌++◌, length, take, drop, slice_get, IfSome}
+use Rattle.std.specs.Prelude.{◌≡◌, ℕ, ◌+◌, ◌<◌, ◌≤◌, false, List, [], ◌∷◌, ◌++◌, length, take, drop}
 use Rattle.mk_lines.specs.Limits.{max_text}
 use Rattle.mk_lines.specs.PhysicalLines.{without_line_end}
-use Rattle.mk_tree.specs.LocatedLines.{LocatedLine, bytes_of_line, is_conditional_located, last_line, size_of, with_last_bytes}
+use Rattle.mk_tree.specs.LocatedLines.{LocatedLine, AreConditionalsFit, bytes_of_line, is_conditional_located, last_line, size_of, with_last_bytes}
 
 -- ---- one move
 
@@ -29,22 +29,13 @@ after_move (TakeOut at) ls = take at ls ++ drop (at + 1) ls
 after_move (Exchange at l) ls = exchanged at l ls
 after_move (SwapEnd bytes) ls = with_last_bytes bytes ls
 
--- a line is of no conditional
-abbrev pub IsPlain : LocatedLine → Type 0
-IsPlain l = is_conditional_located l.class ≡ false
-
--- the line at an index is of no conditional
-abbrev pub IsPlainAt : (at : ℕ) → List LocatedLine → Type 0
-IsPlainAt at ls = IfSome (slice_get ls at) IsPlain
-
--- The lines that a move fits: its index is one of theirs, no line of a conditional goes in or comes
--- out, and the lines after it have at most 16,777,216 bytes. The new bytes of a last line are not
--- empty, and equal the old ones except for the line end.
+-- The lines that a move fits: its index is one of theirs, and the lines after it have at most
+-- 16,777,216 bytes. The new bytes of a last line are not empty, and equal the old ones except for
+-- the line end.
 abbrev pub FitsMove : Move → List LocatedLine → Type 0
-FitsMove (PutIn at l) ls = (at ≤ length ls) × IsPlain l × (size_of ls + length l.bytes ≤ max_text)
-FitsMove (TakeOut at) ls = (at < length ls) × IsPlainAt at ls
-FitsMove (Exchange at l) ls =
-    (at < length ls) × IsPlainAt at ls × IsPlain l × (size_of (exchanged at l ls) ≤ max_text)
+FitsMove (PutIn at l) ls = (at ≤ length ls) × (size_of ls + length l.bytes ≤ max_text)
+FitsMove (TakeOut at) ls = at < length ls
+FitsMove (Exchange at l) ls = (at < length ls) × (size_of (exchanged at l ls) ≤ max_text)
 FitsMove (SwapEnd bytes) ls =
     (0 < length ls)
     × (0 < length bytes)
@@ -74,9 +65,15 @@ after_moves [] ls = ls
 after_moves (m ∷ ms) ls = after_moves ms (after_move m ls)
 
 -- each move fits the lines to which those before it lead
-abbrev pub FitMoves : List Move → List LocatedLine → Type 0
-FitMoves [] ls = Unit {0}
-FitMoves (m ∷ ms) ls = FitsMove m ls × FitMoves ms (after_move m ls)
+abbrev pub FitInTurn : List Move → List LocatedLine → Type 0
+FitInTurn [] ls = Unit {0}
+FitInTurn (m ∷ ms) ls = FitsMove m ls × FitInTurn ms (after_move m ls)
+
+-- The lines that moves fit: each move fits in its turn, and if the conditionals fit before the first
+-- move, they fit after the last. Between two moves they need not.
+pub record FitMoves (ms : List Move) (ls : List LocatedLine) : Type 0 where
+  pub in_turn : FitInTurn ms ls
+  pub conditionals : AreConditionalsFit 0 ls → AreConditionalsFit 0 (after_moves ms ls)
 
 -- how many lines moves hold
 abbrev pub held_by : List Move → ℕ
@@ -87,6 +84,10 @@ held_by (m ∷ ms) = held_by_move m + held_by ms
 abbrev pub taken_by : List Move → ℕ
 taken_by [] = 0
 taken_by (m ∷ ms) = taken_by_move m + taken_by ms
+
+-- a line is of no conditional: to move such lines leaves conditionals that fit
+abbrev pub IsPlain : LocatedLine → Type 0
+IsPlain l = is_conditional_located l.class ≡ false
 
 -- moves, and how many moves there may be
 pub record MovesWithRoom : Type 0 where

@@ -1,11 +1,11 @@
 //! Several lines that are moved, as one change.
 ghost use Rattle.std.specs.Prelude.{◌≡◌, ◌≤◌, ◌<◌, ◌+◌, [], ◌∷◌, None, IfSome, length, option_copied, option_map, slice_get};
-ghost use Rattle.mk_patch.specs.Moves.{FitMoves, after_moves, held_by, taken_by};
+ghost use Rattle.mk_patch.specs.Moves.{FitInTurn, FitMoves, after_moves, held_by, taken_by};
 ghost use Rattle.mk_patch.specs.StepMoves.{move_of, moves_of};
 
 use crate::step::Step;
 use circular_buffer::HeapCircularBuffer;
-use mk_tree::Doc;
+use mk_tree::{Doc, Draft};
 use std::alloc::{Allocator, Global};
 use std::marker::Model;
 
@@ -55,23 +55,23 @@ fn put_front<T: Drop, A: Allocator>(ring: &mut HeapCircularBuffer<T, A>, value: 
 fn make_all<A: Allocator>(
     waiting: &mut HeapCircularBuffer<Step<A>, A>,
     inverses: &mut HeapCircularBuffer<Step<A>, A>,
-    doc: &mut Doc<A>,
+    draft: &mut Draft<A>,
 )
-    requires fit { FitMoves (moves_of waiting.old.items) doc.old }
+    requires fit { FitInTurn (moves_of waiting.old.items) draft.old }
     requires empty { inverses.old.items ≡ [] }
     requires room { length waiting.old.items ≤ inverses.old.capacity }
     ensures waiting { waiting.new.items ≡ [] }
     ensures count { length inverses.new.items ≡ length waiting.old.items }
     ensures waiting_room { waiting.new.capacity ≡ waiting.old.capacity }
     ensures inverses_room { inverses.new.capacity ≡ inverses.old.capacity }
-    ensures after { doc.new ≡ after_moves (moves_of waiting.old.items) doc.old }
-    ensures fits_back { FitMoves (moves_of inverses.new.items) doc.new }
-    ensures leads_back { after_moves (moves_of inverses.new.items) doc.new ≡ doc.old }
+    ensures after { draft.new ≡ after_moves (moves_of waiting.old.items) draft.old }
+    ensures fits_back { FitInTurn (moves_of inverses.new.items) draft.new }
+    ensures leads_back { after_moves (moves_of inverses.new.items) draft.new ≡ draft.old }
     ensures held { held_by (moves_of inverses.new.items) ≡ taken_by (moves_of waiting.old.items) }
     ensures takes { taken_by (moves_of inverses.new.items) ≡ held_by (moves_of waiting.old.items) }
 {
     while let Some(step) = waiting.pop_front() {
-        put_front(inverses, step.make(doc));
+        put_front(inverses, step.make(draft));
     }
 }
 
@@ -121,6 +121,8 @@ impl<A: Allocator> Patch<A> {
 
     /// Makes the patch, and gives the patch that takes it back. Takes no memory and is never
     /// refused.
+    ///
+    /// It may move lines of conditionals: between two of its steps the conditionals need not fit.
     pub fn make(self, doc: &mut Doc<A>) -> Patch<A>
         requires { FitMoves self doc.old }
         ensures after { doc.new ≡ after_moves self doc.old }
@@ -136,7 +138,9 @@ impl<A: Allocator> Patch<A> {
             held,
             takes,
         } = self;
-        make_all(&mut waiting, &mut inverses, doc);
+        let mut draft = doc.take_draft();
+        make_all(&mut waiting, &mut inverses, &mut draft);
+        *doc = draft.into_doc();
         Patch {
             waiting: inverses,
             inverses: waiting,

@@ -4,7 +4,7 @@ ghost use Rattle.mk_patch.specs.Moves.{FitsMove, after_move, held_by_move, taken
 ghost use Rattle.mk_patch.specs.StepMoves.{move_of};
 
 use mk_lines::source::MAX_TEXT;
-use mk_tree::{Doc, Line, LineBytes};
+use mk_tree::{Draft, Line, LineBytes};
 use std::alloc::{Allocator, Global};
 
 /// One line that is moved, or the line end of the last line. Contracts see it as a move
@@ -49,30 +49,33 @@ impl<A: Allocator> Step<A> {
     }
 
     /// Makes the step, and gives the step that takes it back. Takes no memory and is never refused.
-    pub fn make(self, doc: &mut Doc<A>) -> Step<A>
-        requires { FitsMove (move_of self) doc.old }
-        ensures after { doc.new ≡ after_move (move_of self) doc.old }
-        ensures fits_back { FitsMove (move_of result) doc.new }
-        ensures leads_back { after_move (move_of result) doc.new ≡ doc.old }
+    ///
+    /// Lines of conditionals may go in and come out too, since a draft does not ask that the
+    /// conditionals fit.
+    pub fn make(self, draft: &mut Draft<A>) -> Step<A>
+        requires { FitsMove (move_of self) draft.old }
+        ensures after { draft.new ≡ after_move (move_of self) draft.old }
+        ensures fits_back { FitsMove (move_of result) draft.new }
+        ensures leads_back { after_move (move_of result) draft.new ≡ draft.old }
         ensures held { held_by_move (move_of result) ≡ taken_by_move (move_of self) }
         ensures takes { taken_by_move (move_of result) ≡ held_by_move (move_of self) }
     {
-        prove!(doc.size() <= MAX_TEXT); // so that the inverse fits
+        prove!(draft.size() <= MAX_TEXT); // so that the inverse fits
         match self {
             Step::PutIn(at, line) => {
-                doc.insert(at, line);
+                draft.insert(at, line);
                 Step::TakeOut(at)
             }
             Step::TakeOut(at) => {
-                let out = doc.remove(at);
+                let out = draft.remove(at);
                 Step::PutIn(at, out)
             }
             Step::Exchange(at, line) => {
-                let old = doc.replace(at, line);
+                let old = draft.replace(at, line);
                 Step::Exchange(at, old)
             }
             Step::SwapEnd(bytes) => {
-                let old = doc.swap_end(bytes);
+                let old = draft.swap_end(bytes);
                 Step::SwapEnd(old)
             }
         }

@@ -5,8 +5,8 @@ pub const HELP: &str = "\
 Commands, of each of which `help COMMAND` says more:
     set append add drop prepend replace add-before add-after subst operator
     unset assign rename rule unrule depend depend-order undepend
-    recipe recipe-insert recipe-set recipe-del recipe-replace recipe-remove nth all try
-    undo redo begin end cancel
+    recipe recipe-insert recipe-set recipe-del recipe-replace recipe-remove
+    insert line-replace line-remove nth all try undo redo begin end cancel
 Requests:
     print    print FROM    print FROM TO     the text, or its lines from one number to another
     diff                                     what has changed since FILE was opened

@@ -7,7 +7,6 @@ mod CornerEdits
 mod WordEdits
 mod EveryValue
 mod FurtherEdits
-mod LineOutcomes
 mod LineRuns
 mod EachOutcomes
 mod EachLine

@@ -51,7 +51,7 @@ GoesOn k n = k ≡ false → n ≡ 0
 
 -- A command of one of the steps found no memory. The steps before it were executed, and this is their
 -- report. The step tries the command, which takes memory, and the machine does not refuse it, but
--- perhaps as Misread.
+-- perhaps for a cause that needs new lines.
 pub record IsShort (keep_going : Bool) (steps : List Step) (first : Shown (List ℕ))
     (report : List ℕ) : Type 0 where
   pub earlier : List Step
@@ -63,7 +63,7 @@ pub record IsShort (keep_going : Bool) (steps : List Step) (first : Shown (List 
   pub reported : report ≡ (executed_steps keep_going earlier first).report
   pub tries : Tries step (executed_steps keep_going earlier first).shown command
   pub takes : takes_memory command ≡ true
-  pub unrefused : IsUnrefused (answer command (executed_steps keep_going earlier first).shown)
+  pub unrefused : IsUnrefused command (answer command (executed_steps keep_going earlier first).shown)
 
 -- A command of a run that comes to this result found no memory.
 pub record IsShortRun (makefile script : List ℕ) (depth : ℕ) (keep_going : Bool)

@@ -73,13 +73,13 @@ pub record IsStepRefused (end : StepEnd) (refused : RefusedCommand) (old new : S
   pub told : refused.refusal ≡ session_refusal cause
   pub same : new ≡ old
 
--- A command that a step tries found no memory, and the machine does not refuse it, but perhaps as
--- Misread; nothing has changed.
+-- A command that a step tries found no memory, and the machine does not refuse it, but perhaps for a
+-- cause that needs new lines; nothing has changed.
 pub record IsStepShort (IsTried : Command Edit → Type 0) (old new : Shown (List ℕ)) : Type 0 where
   pub command : Command Edit
   pub tried : IsTried command
   pub takes : takes_memory command ≡ true
-  pub unrefused : IsUnrefused (answer command old)
+  pub unrefused : IsUnrefused command (answer command old)
   pub same : new ≡ old
 
 -- A step that comes to this end, and tries these commands, was executed: it is done, or its refusal is

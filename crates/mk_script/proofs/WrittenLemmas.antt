@@ -1,6 +1,6 @@
 -- The line of an edit is a script that is this edit.
 use Rattle.std.proofs.Common.{◌≡◌, ◌≢◌, ℕ, zero, suc, ◌-◌, ◌<◌, ◌≤◌, Bool, true, false, cond, List, [], ◌∷◌, ◌++◌, length, length-append, slice_index, refl, sym, ap, ◌∙◌, subst, inl, inr, arith, append_assoc, append-nil, map, take, codes, Bor, eq-eqb, ne_eqb, lt-ltb}
-use Rattle.std.specs.Prelude.{not, ◌==◌, ◌||◌, ◌&&◌, nat_lt, Option, Some, None}
+use Rattle.std.specs.Prelude.{decimal, not, ◌==◌, ◌||◌, ◌&&◌, nat_lt, Option, Some, None}
 use Rattle.std.specs.List.{list_any}
 use Rattle.bstr.specs.Text.{without_terminator, no_cr}
 use Rattle.bstr.proofs.lemmas.LineLemmas.{lines-one}
@@ -9,13 +9,15 @@ use Rattle.mk_lines.specs.Bytes.{is_blank_byte}
 use Rattle.mk_lines.specs.Spacing.{each_after_space}
 use Rattle.mk_lines.proofs.on_lists.BoolLemmas.{or-left_false, or-right_false}
 use Rattle.mk_edit_language.specs.Edits.{Edit}
+use Rattle.mk_edit_language.specs.LineRuns.{block_lines}
 use Rattle.mk_history.specs.Machine.{Apply}
-use Rattle.mk_script.specs.CommandTable.{Content, Text, Number, texts, after_nth, command_fields, IsCommand}
+use Rattle.mk_script.specs.CommandTable.{Content, Text, Number, Block, texts, after_nth, command_fields, IsCommand}
 use Rattle.mk_script.specs.Fields.{EndsField, is_special, IsBare, IsWritten, HasFields, quoted, escaped}
 use Rattle.mk_script.specs.Lines.{script_lines}
 use Rattle.mk_script.specs.ScriptLaws.{CanBeWritten}
 use Rattle.mk_script.specs.WrittenEdits.{SaysOnly, content_text, fields_of, has_line_feed, is_plain, is_quoted_byte, line_with, written}
 use Rattle.mk_script.specs.WrittenLines.{IsCommandText, fields_in}
+use Rattle.mk_script.proofs.on_commands.BlockLemmas.{block-text}
 use Rattle.mk_script.proofs.on_commands.ReadLemmas.{edit-read}
 use Rattle.mk_script.proofs.on_scripts.WrittenLines.{contents-had}
 
@@ -233,6 +235,7 @@ can-more : (contents : List Content) (ts : List (List ℕ)) → CanBeWritten con
 can-more [] ts h = texts-can ts
 can-more (Text t ∷ contents) ts h = can-more contents ts h
 can-more (Number n ∷ contents) ts h = (h.0, can-more contents ts h.1)
+can-more (Block lines ∷ contents) ts h = (h.0, can-more contents ts h.1)
 
 text-more : (c : Content) (contents : List Content) (ts : List (List ℕ)) (text : List ℕ) → IsCommandText (c ∷ contents) text → IsCommandText (c ∷ (contents ++ texts ts)) (text ++ each_after_space (map written ts))
 text-more c contents ts text h = record {
@@ -264,6 +267,37 @@ said-more nth word first others begun line done h e f =
     both (f ∷ fs) =
         append_assoc (codes " ") (written f ++ each_after_space (map written fs)) (each_after_space (map written others))
         ∙ ap (λ (t : List ℕ). codes " " ++ t) (append_assoc (written f) (each_after_space (map written fs)) (each_after_space (map written others)) ∙ ap (λ (t : List ℕ). written f ++ t) (both fs))
+
+-- ---- blocks
+
+-- contents that are written as these texts
+contents-said : (nth : Option ℕ) (ts : List (List ℕ)) (contents : List Content) (text : List ℕ) → map content_text contents ≡ ts → CanBeWritten contents
+    → IsCommandText (after_nth nth (texts ts)) text → IsCommandText (after_nth nth contents) text
+contents-said None ts contents text same can h = record { text_is = h.text_is ∙ ap line_with (texts-text ts ∙ sym same); can = can }
+contents-said (Some n) ts contents text same can h = record {
+  text_is = h.text_is ∙ ap (λ (zs : List (List ℕ)). line_with (codes "nth" ∷ decimal n ∷ zs)) (texts-text ts ∙ sym same);
+  can = (h.can.0, can);
+}
+
+-- a block behind texts, and two
+block-behind : (ts : List (List ℕ)) (b : List ℕ) → (map content_text (texts ts ++ Block (block_lines b) ∷ []) ≡ ts ++ b ∷ []) × CanBeWritten (texts ts ++ Block (block_lines b) ∷ [])
+block-behind [] b = (ap (λ z. z ∷ []) (block-text b), ((b, refl), tt))
+block-behind (t ∷ ts) b = let others = block-behind ts b in (ap (λ zs. t ∷ zs) others.0, others.1)
+
+blocks-behind : (ts : List (List ℕ)) (a b : List ℕ) → (map content_text (texts ts ++ Block (block_lines a) ∷ Block (block_lines b) ∷ []) ≡ ts ++ a ∷ b ∷ []) × CanBeWritten (texts ts ++ Block (block_lines a) ∷ Block (block_lines b) ∷ [])
+blocks-behind [] a b = (rw (block-text a, block-text b) refl, ((a, refl), ((b, refl), tt)))
+blocks-behind (t ∷ ts) a b = let others = blocks-behind ts a b in (ap (λ zs. t ∷ zs) others.0, others.1)
+
+pub block-said : (nth : Option ℕ) (ts : List (List ℕ)) (b text : List ℕ) → IsCommandText (after_nth nth (texts (ts ++ b ∷ []))) text
+    → IsCommandText (after_nth nth (texts ts ++ Block (block_lines b) ∷ [])) text
+block-said nth ts b text h = let both = block-behind ts b in contents-said nth (ts ++ b ∷ []) (texts ts ++ Block (block_lines b) ∷ []) text both.0 both.1 h
+
+pub blocks-said : (nth : Option ℕ) (ts : List (List ℕ)) (a b text : List ℕ) → IsCommandText (after_nth nth (texts (ts ++ a ∷ b ∷ []))) text
+    → IsCommandText (after_nth nth (texts ts ++ Block (block_lines a) ∷ Block (block_lines b) ∷ [])) text
+blocks-said nth ts a b text h =
+    let both = blocks-behind ts a b in contents-said nth (ts ++ a ∷ b ∷ []) (texts ts ++ Block (block_lines a) ∷ Block (block_lines b) ∷ []) text both.0 both.1 h
+
+-- ---- a command alone
 
 -- the command of an edit and a line feed are a script that is this edit
 pub edit-only : (e : Edit) (text line : List ℕ) → IsCommandText (command_fields (Apply e)) text → has_line_feed text ≡ false → line ≡ text ++ codes "\n" → SaysOnly line e

@@ -1,4 +1,5 @@
 pub mod TableLemmas
+pub mod BlockLemmas
 pub mod ReadLemmas
 pub mod WrittenLemmas
 pub mod SayingLemmas

@@ -1,8 +1,9 @@
 -- How the fields of a line are read: which command they are, and what the line says.
 -- Told in docs/ARCHITECTURE.md, "From a script to a text".
 use Rattle.std.specs.Prelude.{ℕ, ◌-◌, true, false, List, [], ◌∷◌, length, take, drop, Option, Some, None, option_map, option_and_then}
-use Rattle.mk_edit_language.specs.Edits.{Place, Bottom, BeforeVar, AfterVar, BeforeRule, NewLine, NewAssign, NewRule, Which, One, Every, Set, Append, Add, Remove, LineChange, Prepend, ReplaceWord, InsertWord, Substitute, SetOperator, AddPrereq, RemovePrereq, ByNumber, ByText, Last, At, OfAssign, OfRule, OfRecipe, Edit, ChangeValue, ChangeLine, ChangePrereqs, AddLine, AddRecipe, SetRecipe, RemoveLines, RenameTarget}
+use Rattle.mk_edit_language.specs.Edits.{Place, Bottom, BeforeVar, AfterVar, BeforeRule, Site, Top, AtPlace, BeforeRun, AfterRun, OfRun, NewLine, NewAssign, NewRule, Which, One, Every, Set, Append, Add, Remove, LineChange, Prepend, ReplaceWord, InsertWord, Substitute, SetOperator, AddPrereq, RemovePrereq, ByNumber, ByText, Last, At, OfAssign, OfRule, OfRecipe, Edit, ChangeValue, ChangeLine, ChangePrereqs, AddLine, AddRecipe, SetRecipe, RemoveLines, RenameTarget, ExchangeLines}
 use Rattle.mk_edit_language.specs.declared.edit.Side.TheVariants.{Before, After}
+use Rattle.mk_edit_language.specs.LineRuns.{block_lines}
 use Rattle.mk_history.specs.Machine.{Command, Apply, Undo, Redo, Begin, End, Cancel}
 use Rattle.mk_script.specs.Lines.{Saying, Plain, Try, Or}
 use Rattle.mk_script.specs.Numbers.{number}
@@ -45,20 +46,45 @@ numbered fields =
 abbrev pub worded : Texts → Option (Word × Texts)
 worded fields = option_and_then (λ p. option_map (λ w. (w, p.1)) (named words p.0)) (front fields)
 
--- ---- new lines
+-- ---- places
 
--- the place that a word and the fields behind it are; no number stands before `bottom`
+-- the place of a new line that a word and the fields behind it are; no number stands before
+-- `bottom`
 abbrev pub place_with : (nth : Option ℕ) → PlaceWord → Texts → Option Place
 place_with nth place.BeforeVar fields = option_map (λ name. BeforeVar nth name) (one fields)
 place_with nth place.AfterVar fields = option_map (λ name. AfterVar nth name) (one fields)
 place_with nth place.BeforeRule fields = option_map (λ t. BeforeRule nth t) (one fields)
 place_with None place.Bottom [] = Some Bottom
-place_with nth place.Bottom fields = None
+place_with nth w fields = None
 
 abbrev pub place_in : (nth : Option ℕ) → Texts → Option Place
 place_in nth fields =
     option_and_then (λ p. option_and_then (λ w. place_with nth w p.1) (named places p.0))
     (front fields)
+
+-- the site of whole lines that a word and the fields behind it are; no number stands before `top`
+abbrev pub site_with : (nth : Option ℕ) → PlaceWord → Texts → Option Site
+site_with nth place.BeforeLine fields =
+    option_map (λ old. BeforeRun nth (block_lines old)) (one fields)
+site_with nth place.AfterLine fields =
+    option_map (λ old. AfterRun nth (block_lines old)) (one fields)
+site_with None place.Top [] = Some Top
+site_with nth place.Top fields = None
+site_with nth w fields = option_map AtPlace (place_with nth w fields)
+
+abbrev pub site_in : (nth : Option ℕ) → Texts → Option Site
+site_in nth fields =
+    option_and_then (λ p. option_and_then (λ w. site_with nth w p.1) (named places p.0))
+    (front fields)
+
+-- the fields before the last ones, of which there are so many, and these
+abbrev pub before_last : (count : ℕ) → Texts → Texts
+before_last count fields = take (length fields - count) fields
+
+abbrev pub last_fields : (count : ℕ) → Texts → Texts
+last_fields count fields = drop (length fields - count) fields
+
+-- ---- new lines
 
 -- the line of an assignment, and that of a rule
 abbrev pub new_assign : Texts → Option NewLine
@@ -71,18 +97,18 @@ new_rule fields =
     option_and_then (λ p. option_map (λ colons. NewRule p.0 colons p.2) (named separators p.1))
     (three fields)
 
--- the fields before the last three, and these
-abbrev pub before_three : Texts → Texts
-before_three fields = take (length fields - 3) fields
-
-abbrev pub last_three : Texts → Texts
-last_three fields = drop (length fields - 3) fields
-
 -- a new line, behind the fields of its place
 abbrev pub add_line : (nth : Option ℕ) → (line : Texts → Option NewLine) → Texts → Option Edit
 add_line nth line fields =
-    option_and_then (λ l. option_map (λ p. AddLine p l) (place_in nth (before_three fields)))
-    (line (last_three fields))
+    option_and_then (λ l. option_map (λ p. AddLine p l) (place_in nth (before_last 3 fields)))
+    (line (last_fields 3 fields))
+
+-- whole lines, behind the fields of their site
+abbrev pub insert_lines : (nth : Option ℕ) → Texts → Option Edit
+insert_lines nth fields =
+    option_and_then
+    (λ b. option_map (λ s. ExchangeLines s (block_lines b)) (site_in nth (before_last 1 fields)))
+    (one (last_fields 1 fields))
 
 -- ---- edits
 
@@ -102,7 +128,17 @@ change_line nth w fields =
     option_and_then (λ p. option_map (λ c. ChangeLine nth p.0 c) (line_change w p.1))
     (front fields)
 
--- an edit of a recipe, by its word and the fields behind it; by another word a change of a line
+-- an exchange of whole lines, by its word and the fields behind it; by another word a change of the
+-- line of an assignment
+abbrev pub exchange_lines : (nth : Option ℕ) → Word → Texts → Option Edit
+exchange_lines nth word.Insert fields = insert_lines nth fields
+exchange_lines nth word.LineReplace fields =
+    option_map (λ p. ExchangeLines (OfRun nth (block_lines p.0)) (block_lines p.1)) (two fields)
+exchange_lines nth word.LineRemove fields =
+    option_map (λ old. ExchangeLines (OfRun nth (block_lines old)) []) (one fields)
+exchange_lines nth w fields = change_line nth w fields
+
+-- an edit of a recipe, by its word and the fields behind it; by another word an exchange of lines
 abbrev pub recipe_edit : (nth : Option ℕ) → Word → Texts → Option Edit
 recipe_edit nth word.Recipe fields = option_map (λ p. AddRecipe nth p.0 Last p.1) (two fields)
 recipe_edit nth word.RecipeInsert fields =
@@ -116,7 +152,7 @@ recipe_edit nth word.RecipeReplace fields =
     option_map (λ p. SetRecipe nth p.0 (ByText p.1) p.2) (three fields)
 recipe_edit nth word.RecipeRemove fields =
     option_map (λ p. RemoveLines (OfRecipe nth p.0 (ByText p.1))) (two fields)
-recipe_edit nth w fields = change_line nth w fields
+recipe_edit nth w fields = exchange_lines nth w fields
 
 -- an edit before which a number may stand; none stands before a rename
 abbrev pub line_edit : (nth : Option ℕ) → Word → Texts → Option Edit

@@ -2,16 +2,19 @@
 -- Told in docs/EDITS.md, "The script".
 use Rattle.std.specs.Prelude.{◌≡◌, ℕ, Bool, true, false, List, [], ◌∷◌, ◌++◌, map, Option, Some, None, codes}
 use Rattle.mk_class.specs.OperatorTexts.{operator_text}
-use Rattle.mk_edit_language.specs.Edits.{Place, Bottom, BeforeVar, AfterVar, BeforeRule, NewAssign, NewRule, One, Every, ValueChange, Set, Append, Add, Remove, LineChange, Prepend, ReplaceWord, InsertWord, Substitute, SetOperator, AddPrereq, RemovePrereq, ByNumber, ByText, Last, At, OfAssign, OfRule, OfRecipe, Edit, ChangeValue, ChangeLine, ChangePrereqs, AddLine, AddRecipe, SetRecipe, RemoveLines, RenameTarget}
+use Rattle.mk_edit_language.specs.Edits.{Place, Bottom, BeforeVar, AfterVar, BeforeRule, Site, Top, AtPlace, BeforeRun, AfterRun, OfRun, NewAssign, NewRule, One, Every, ValueChange, Set, Append, Add, Remove, LineChange, Prepend, ReplaceWord, InsertWord, Substitute, SetOperator, AddPrereq, RemovePrereq, ByNumber, ByText, Last, At, OfAssign, OfRule, OfRecipe, Edit, ChangeValue, ChangeLine, ChangePrereqs, AddLine, AddRecipe, SetRecipe, RemoveLines, RenameTarget, ExchangeLines}
 use Rattle.mk_edit_language.specs.declared.edit.Side.TheVariants.{Before, After}
+use Rattle.mk_edit_language.specs.LineRuns.{block_lines}
 use Rattle.mk_edit_language.specs.NewLines.{rule_separator_text}
 use Rattle.mk_history.specs.Machine.{Command, Apply, Undo, Redo, Begin, End, Cancel}
 use Rattle.mk_script.specs.Numbers.{number}
 
--- what a field of a command has: a text; or a number, which stands there in digits
+-- what a field of a command has: a text; a number, which stands there in digits; or the lines of a
+-- block, which stand there as one text
 pub data Content : Type 0 where
   Text : List ℕ → Content
   Number : ℕ → Content
+  Block : List (List ℕ) → Content
 
 abbrev pub texts : List (List ℕ) → List Content
 texts ts = map Text ts
@@ -61,6 +64,24 @@ line_change_words name (Substitute from to) = codes "subst" ∷ name ∷ from �
 line_change_words name (SetOperator flavor) =
     codes "operator" ∷ name ∷ operator_text flavor ∷ []
 
+-- the fields of an edit that puts in whole lines, behind those of their site
+abbrev insert_fields : (nth : Option ℕ) → (site : List Content) → (new : List (List ℕ))
+    → List Content
+insert_fields nth site new = after_nth nth (Text (codes "insert") ∷ (site ++ Block new ∷ []))
+
+-- the fields of an exchange of whole lines
+abbrev pub exchange_fields : Site → (new : List (List ℕ)) → List Content
+exchange_fields Top new = insert_fields None (Text (codes "top") ∷ []) new
+exchange_fields (AtPlace place) new =
+    insert_fields (nth_of_place place) (texts (place_words place)) new
+exchange_fields (BeforeRun nth old) new =
+    insert_fields nth (Text (codes "before-line") ∷ Block old ∷ []) new
+exchange_fields (AfterRun nth old) new =
+    insert_fields nth (Text (codes "after-line") ∷ Block old ∷ []) new
+exchange_fields (OfRun nth old) [] = after_nth nth (Text (codes "line-remove") ∷ Block old ∷ [])
+exchange_fields (OfRun nth old) (line ∷ lines) =
+    after_nth nth (Text (codes "line-replace") ∷ Block old ∷ Block (line ∷ lines) ∷ [])
+
 -- ---- the table
 
 -- the fields of a command
@@ -99,6 +120,7 @@ command_fields (Apply (RemoveLines (OfRecipe nth target (ByNumber n)))) =
 command_fields (Apply (RemoveLines (OfRecipe nth target (ByText old)))) =
     after_nth nth (texts (codes "recipe-remove" ∷ target ∷ old ∷ []))
 command_fields (Apply (RenameTarget old new)) = texts (codes "rename" ∷ old ∷ new ∷ [])
+command_fields (Apply (ExchangeLines site new)) = exchange_fields site new
 command_fields Undo = texts (codes "undo" ∷ [])
 command_fields Redo = texts (codes "redo" ∷ [])
 command_fields Begin = texts (codes "begin" ∷ [])
@@ -109,6 +131,7 @@ command_fields Cancel = texts (codes "cancel" ∷ [])
 abbrev Has : (field : List ℕ) → Content → Type 0
 Has field (Text t) = field ≡ t
 Has field (Number n) = number field ≡ Some n
+Has field (Block lines) = block_lines field ≡ lines
 
 -- fields of a line have these, each in its place
 abbrev pub HaveContents : (fields : List (List ℕ)) → List Content → Type 0

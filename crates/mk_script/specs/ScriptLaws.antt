@@ -2,9 +2,10 @@
 -- Told in docs/PROOFS.md, "Scripts".
 use Rattle.std.specs.Prelude.{◌≡◌, ◌⊎◌, ◌↔◌, ℕ, ◌≤◌, List, [], ◌∷◌, ◌++◌, map, codes}
 use Rattle.mk_edit_language.specs.Edits.{Every, Edit, ChangeValue}
+use Rattle.mk_edit_language.specs.LineRuns.{block_lines}
 use Rattle.mk_history.specs.Machine.{Command, Apply}
 use Rattle.mk_script.specs.Fields.{quoted, HasFields}
-use Rattle.mk_script.specs.CommandTable.{Content, Text, Number, command_fields, IsCommand}
+use Rattle.mk_script.specs.CommandTable.{Content, Text, Number, Block, command_fields, IsCommand}
 use Rattle.mk_script.specs.Lines.{IsSkipped, Saying, Plain, Try, Or, Says}
 use Rattle.mk_script.specs.Scripts.{CommandAt, Step, Alone, IsScript, HasNoCommand}
 use Rattle.mk_script.specs.ScriptsOfCommands.{IsScriptOfCommands, IsFaultOfCommands}
@@ -34,11 +35,13 @@ LineSaysOneThing =
 abbrev pub SkippedLineSaysNothing : Type 0
 SkippedLineSaysNothing = (line : List ℕ) (saying : Saying) → IsSkipped line → Says line saying → ⊥
 
--- fields whose numbers a script can write
+-- fields whose numbers and blocks a script can write: a block has the lines of a text
 abbrev pub CanBeWritten : List Content → Type 0
 CanBeWritten [] = Unit {0}
 CanBeWritten (Text t ∷ contents) = CanBeWritten contents
 CanBeWritten (Number n ∷ contents) = (n ≤ 4294967295) × CanBeWritten contents
+CanBeWritten (Block lines ∷ contents) =
+    ((text : List ℕ) × (block_lines text ≡ lines)) × CanBeWritten contents
 
 abbrev HasLine : Saying → Type 0
 HasLine (Plain command) = CanBeWritten (command_fields command)

@@ -4,9 +4,9 @@
 //! once each: memory is asked for only if there is an edit.
 ghost use Rattle.std.specs.Prelude.{◌≡◌, option_map};
 ghost use Rattle.mk_edit_language.specs.Edits as edits;
-ghost use Rattle.mk_edit_language.specs.EditViews.{edit_of, line_change_of, place_of, value_change_of};
+ghost use Rattle.mk_edit_language.specs.EditViews.{edit_of, line_change_of, place_of, site_of, value_change_of};
 ghost use Rattle.mk_script.specs.SeenFields.{field_texts};
-ghost use Rattle.mk_script.specs.CommandReading.{add_line, before_three, change_line, edit_with, last_three, line_change, line_edit, new_assign, new_rule, numbered, place_in, recipe_edit, three, two};
+ghost use Rattle.mk_script.specs.CommandReading.{add_line, before_last, change_line, edit_with, exchange_lines, insert_lines, last_fields, line_change, line_edit, new_assign, new_rule, numbered, place_in, place_with, recipe_edit, site_in, site_with, three, two};
 ghost use Rattle.mk_script.specs.ReaderAnswers.{IsRead, copied_numbered, copied_three, copied_two, which_of};
 
 use crate::fault::LineFault;
@@ -15,7 +15,7 @@ use crate::fields::{front, one, three, two};
 use crate::number::number_of;
 use crate::table::Word;
 use crate::word::{PlaceWord, flavor, place_word, rule_separator};
-use mk_edit_language::{Edit, LineChange, Place, Side, ValueChange};
+use mk_edit_language::{Edit, LineChange, Place, Side, Site, ValueChange};
 use std::alloc::Allocator;
 
 /// Which assignments an edit of a value means.
@@ -27,7 +27,7 @@ pub(crate) enum Which {
     Every,
 }
 
-// The place that some fields are. No number may stand before `bottom`.
+// The place of a new line that some fields are.
 fn make_place<A: Allocator + Copy>(
     alloc: A,
     nth: Option<u32>,
@@ -36,40 +36,91 @@ fn make_place<A: Allocator + Copy>(
     ensures { IsRead place_of (place_in nth (field_texts fields.now)) result }
 {
     let (word, others) = front(fields)?;
-    let Some(word) = place_word(word) else {
-        return Err(LineFault::NotACommand);
-    };
+    match place_word(word) {
+        Some(word) => place_with(alloc, nth, word, others),
+        None => Err(LineFault::NotACommand),
+    }
+}
+
+// The place of a new line that a word and the fields behind it are. No number may stand before `bottom`.
+fn place_with<A: Allocator + Copy>(
+    alloc: A,
+    nth: Option<u32>,
+    word: PlaceWord,
+    fields: &[Field<'_>],
+) -> Result<Place<A>, LineFault>
+    ensures { IsRead place_of (place_with nth word (field_texts fields.now)) result }
+{
     match word {
-        PlaceWord::Bottom => {
-            if nth.is_some() {
-                return Err(LineFault::NotACommand);
-            }
-            match others {
-                [] => Ok(Place::Bottom),
-                [_, ..] => Err(LineFault::NotACommand),
-            }
-        }
+        PlaceWord::Bottom => match (nth, fields) {
+            (None, []) => Ok(Place::Bottom),
+            _ => Err(LineFault::NotACommand),
+        },
         PlaceWord::BeforeVar => {
-            let name = one(others)?.to_vec(alloc)?;
+            let name = one(fields)?.to_vec(alloc)?;
             Ok(Place::BeforeVar { nth, name })
         }
         PlaceWord::AfterVar => {
-            let name = one(others)?.to_vec(alloc)?;
+            let name = one(fields)?.to_vec(alloc)?;
             Ok(Place::AfterVar { nth, name })
         }
         PlaceWord::BeforeRule => {
-            let target = one(others)?.to_vec(alloc)?;
+            let target = one(fields)?.to_vec(alloc)?;
             Ok(Place::BeforeRule { nth, target })
+        }
+        PlaceWord::Top | PlaceWord::BeforeLine | PlaceWord::AfterLine => {
+            Err(LineFault::NotACommand)
         }
     }
 }
 
-// The fields before the last three, and these.
-fn split_last_three<'b, 'a>(fields: &'b [Field<'a>]) -> (&'b [Field<'a>], &'b [Field<'a>])
-    ensures place { field_texts result.0.now ≡ before_three (field_texts fields.now) }
-    ensures line { field_texts result.1.now ≡ last_three (field_texts fields.now) }
+// The site of whole lines that some fields are.
+fn make_site<A: Allocator + Copy>(
+    alloc: A,
+    nth: Option<u32>,
+    fields: &[Field<'_>],
+) -> Result<Site<A>, LineFault>
+    ensures { IsRead site_of (site_in nth (field_texts fields.now)) result }
 {
-    fields.split_at(fields.len().saturating_sub(3))
+    let (word, others) = front(fields)?;
+    match place_word(word) {
+        Some(word) => site_with(alloc, nth, word, others),
+        None => Err(LineFault::NotACommand),
+    }
+}
+
+// The site of whole lines that a word and the fields behind it are. No number may stand before `top`.
+fn site_with<A: Allocator + Copy>(
+    alloc: A,
+    nth: Option<u32>,
+    word: PlaceWord,
+    fields: &[Field<'_>],
+) -> Result<Site<A>, LineFault>
+    ensures { IsRead site_of (site_with nth word (field_texts fields.now)) result }
+{
+    match word {
+        PlaceWord::Top => match (nth, fields) {
+            (None, []) => Ok(Site::Top),
+            _ => Err(LineFault::NotACommand),
+        },
+        PlaceWord::BeforeLine => {
+            let old = one(fields)?.to_vec(alloc)?;
+            Ok(Site::BeforeLines { nth, old })
+        }
+        PlaceWord::AfterLine => {
+            let old = one(fields)?.to_vec(alloc)?;
+            Ok(Site::AfterLines { nth, old })
+        }
+        _ => Ok(Site::AtPlace(place_with(alloc, nth, word, fields)?)),
+    }
+}
+
+// The fields before the last ones, of which there are so many, and these.
+fn split_last<'b, 'a>(fields: &'b [Field<'a>], count: usize) -> (&'b [Field<'a>], &'b [Field<'a>])
+    ensures before { field_texts result.0.now ≡ before_last count (field_texts fields.now) }
+    ensures last { field_texts result.1.now ≡ last_fields count (field_texts fields.now) }
+{
+    fields.split_at(fields.len().saturating_sub(count))
 }
 
 // Two fields, copied.
@@ -214,7 +265,7 @@ fn make_assign<A: Allocator + Copy>(
 ) -> Result<Edit<A>, LineFault>
     ensures { IsRead edit_of (add_line nth new_assign (field_texts fields.now)) result }
 {
-    let (place, line) = split_last_three(fields);
+    let (place, line) = split_last(fields, 3);
     let (name, operator, value) = three(line)?;
     let Some(flavor) = flavor(operator) else {
         return Err(LineFault::NotACommand);
@@ -238,7 +289,7 @@ fn make_rule<A: Allocator + Copy>(
 ) -> Result<Edit<A>, LineFault>
     ensures { IsRead edit_of (add_line nth new_rule (field_texts fields.now)) result }
 {
-    let (place, line) = split_last_three(fields);
+    let (place, line) = split_last(fields, 3);
     let (targets, separator, prereqs) = three(line)?;
     let Some(separator) = rule_separator(separator) else {
         return Err(LineFault::NotACommand);
@@ -275,7 +326,7 @@ fn make_depend<A: Allocator + Copy>(
     })
 }
 
-// An edit of a recipe; by another word a change of a line.
+// An edit of a recipe; by another word an exchange of lines.
 #[tactic(auto, using(crate::proofs::on_commands::TableLemmas::is_some_mapped))]
 fn make_recipe_edit<A: Allocator + Copy>(
     alloc: A,
@@ -331,8 +382,56 @@ fn make_recipe_edit<A: Allocator + Copy>(
             let (target, old) = two_copied(alloc, fields)?;
             Ok(Edit::RemoveRecipeByText { nth, target, old })
         }
+        _ => make_exchange(alloc, nth, word, fields),
+    }
+}
+
+// An exchange of whole lines; by another word a change of the line of an assignment.
+#[tactic(auto, using(crate::proofs::on_commands::TableLemmas::is_some_mapped))]
+fn make_exchange<A: Allocator + Copy>(
+    alloc: A,
+    nth: Option<u32>,
+    word: Word,
+    fields: &[Field<'_>],
+) -> Result<Edit<A>, LineFault>
+    ensures { IsRead edit_of (exchange_lines nth word (field_texts fields.now)) result }
+{
+    match word {
+        Word::Insert => make_insert(alloc, nth, fields),
+        Word::LineReplace => {
+            let (old, block) = two_copied(alloc, fields)?;
+            Ok(Edit::ExchangeLines {
+                site: Site::OfLines { nth, old },
+                block: Some(block),
+            })
+        }
+        Word::LineRemove => {
+            let old = one(fields)?.to_vec(alloc)?;
+            Ok(Edit::ExchangeLines {
+                site: Site::OfLines { nth, old },
+                block: None,
+            })
+        }
         _ => make_change_line(alloc, nth, word, fields),
     }
+}
+
+// `insert PLACE BLOCK`.
+fn make_insert<A: Allocator + Copy>(
+    alloc: A,
+    nth: Option<u32>,
+    fields: &[Field<'_>],
+) -> Result<Edit<A>, LineFault>
+    ensures { IsRead edit_of (insert_lines nth (field_texts fields.now)) result }
+{
+    let (site, block) = split_last(fields, 1);
+    let block = one(block)?;
+    let site = make_site(alloc, nth, site)?;
+    let block = block.to_vec(alloc)?;
+    Ok(Edit::ExchangeLines {
+        site,
+        block: Some(block),
+    })
 }
 
 // A change of the line of an assignment.

@@ -28,8 +28,10 @@ pub enum MistakeCause {
     TextAfterQuote,
     /// N or K is no number.
     NotANumber,
-    /// No place begins with this word.
+    /// No place of a new line begins with this word.
     UnknownPlace,
+    /// No place of `insert` begins with this word.
+    UnknownSite,
     /// No operator is spelled so.
     UnknownOperator,
     /// No separator is spelled so.
@@ -42,6 +44,8 @@ pub enum MistakeCause {
     NotAfterNth,
     /// This word of a command may not stand behind `all`.
     NotAfterAll,
+    /// The place is `top`, and `nth` stands before the command.
+    NthTop,
     /// The place is `bottom`, and `nth` stands before the command.
     NthBottom,
     /// The line above is no edit without `try`, and no `or`. Or there is none.
@@ -125,17 +129,29 @@ fn after_field<'a>(name: &'static str, text: &'a [u8]) -> Result<&'a [u8], Fault
     }
 }
 
-// What follows the place at the front of a text.
+// What follows the place of a new line at the front of a text.
 fn after_place(is_numbered: bool, text: &[u8]) -> Result<&[u8], Fault> {
     let (word, rest) = field_at("PLACE", text)?;
     match place_word(word) {
-        None => Err(Fault::at_field(text, MistakeCause::UnknownPlace)),
         Some(PlaceWord::Bottom) if is_numbered => {
             Err(Fault::at_field(text, MistakeCause::NthBottom))
         }
         Some(PlaceWord::Bottom) => Ok(rest),
         Some(PlaceWord::BeforeVar | PlaceWord::AfterVar) => after_field("NAME", rest),
         Some(PlaceWord::BeforeRule) => after_field("TARGET", rest),
+        _ => Err(Fault::at_field(text, MistakeCause::UnknownPlace)),
+    }
+}
+
+// What follows the site of whole lines at the front of a text.
+fn after_site(is_numbered: bool, text: &[u8]) -> Result<&[u8], Fault> {
+    let (word, rest) = field_at("PLACE", text)?;
+    match place_word(word) {
+        None => Err(Fault::at_field(text, MistakeCause::UnknownSite)),
+        Some(PlaceWord::Top) if is_numbered => Err(Fault::at_field(text, MistakeCause::NthTop)),
+        Some(PlaceWord::Top) => Ok(rest),
+        Some(PlaceWord::BeforeLine | PlaceWord::AfterLine) => after_field("OLD", rest),
+        Some(_) => after_place(is_numbered, text),
     }
 }
 
@@ -155,10 +171,12 @@ fn check_fields(command: Row, is_numbered: bool, text: &[u8]) -> Result<(), Faul
     names.next();
     let mut rest = text;
     for name in names {
-        rest = if name == "PLACE" {
-            after_place(is_numbered, rest)?
-        } else {
+        rest = if name != "PLACE" {
             after_field(name, rest)?
+        } else if matches!(command.2, Word::Insert) {
+            after_site(is_numbered, rest)?
+        } else {
+            after_place(is_numbered, rest)?
         };
     }
     check_end(rest)

@@ -53,6 +53,9 @@ pub(crate) enum Word {
     RecipeDel,
     RecipeReplace,
     RecipeRemove,
+    Insert,
+    LineReplace,
+    LineRemove,
     Rename,
     Nth,
     All,
@@ -85,7 +88,7 @@ impl CommandForm {
 pub(crate) type Row = (&'static str, CommandKind, Word);
 
 /// All commands of a script, and the words that may stand before one.
-pub(crate) const COMMANDS: [(&str, CommandKind, Word); 33] = [
+pub(crate) const COMMANDS: [(&str, CommandKind, Word); 36] = [
     ("set NAME VALUE", ValueEdit, Word::Set),
     ("append NAME VALUE", ValueEdit, Word::Append),
     ("add NAME WORD", ValueEdit, Word::Add),
@@ -117,6 +120,9 @@ pub(crate) const COMMANDS: [(&str, CommandKind, Word); 33] = [
         Word::RecipeReplace,
     ),
     ("recipe-remove TARGET OLD", NumberedEdit, Word::RecipeRemove),
+    ("insert PLACE BLOCK", NumberedEdit, Word::Insert),
+    ("line-replace OLD BLOCK", NumberedEdit, Word::LineReplace),
+    ("line-remove OLD", NumberedEdit, Word::LineRemove),
     ("rename OLD NEW", PlainEdit, Word::Rename),
     ("nth N COMMAND", Prefix, Word::Nth),
     ("all COMMAND", Prefix, Word::All),

@@ -7,20 +7,26 @@ use crate::field::Field;
 use mk_class::Flavor;
 use mk_edit_language::RuleSeparator;
 
-/// The first words of places.
+/// The first words of places. At the top and beside other lines only whole lines go.
 #[derive(Clone, Copy, Debug)]
 pub(crate) enum PlaceWord {
+    Top,
     Bottom,
     BeforeVar,
     AfterVar,
     BeforeRule,
+    BeforeLine,
+    AfterLine,
 }
 
-const PLACES: [(PlaceWord, &[u8]); 4] = [
+const PLACES: [(PlaceWord, &[u8]); 7] = [
+    (PlaceWord::Top, b"top"),
     (PlaceWord::Bottom, b"bottom"),
     (PlaceWord::BeforeVar, b"before-var"),
     (PlaceWord::AfterVar, b"after-var"),
     (PlaceWord::BeforeRule, b"before-rule"),
+    (PlaceWord::BeforeLine, b"before-line"),
+    (PlaceWord::AfterLine, b"after-line"),
 ];
 
 const OPERATORS: [(Flavor, &[u8]); 7] = [

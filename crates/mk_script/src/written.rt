@@ -2,29 +2,34 @@
 //!
 //! The line is bytes, and `Edit` has no `Display`: the names and values of a makefile need not be
 //! UTF-8, and a text with other bytes in their place would not read back as the same edit.
-ghost use Rattle.std.specs.Prelude.{◌≡◌, ◌++◌, ◌∷◌, [], Err, true, IfOk, OnOk, codes, map};
+ghost use Rattle.std.specs.Prelude.{ℕ, ◌≡◌, ◌↔◌, ◌++◌, ◌∷◌, [], Err, List, false, true, IfOk, OnOk, codes, map};
 ghost use Rattle.std.specs.List.{list_any};
 ghost use Rattle.mk_lines.specs.Spacing.{each_after_space};
 ghost use Rattle.mk_class.specs.OperatorTexts.{operator_text};
-ghost use Rattle.mk_edit_language.specs.EditViews.{edit_of, line_change_of, place_of, value_change_of};
+ghost use Rattle.mk_edit_language.specs.EditViews.{edit_of, line_change_of, lines_of, place_of, site_of, value_change_of};
+ghost use Rattle.mk_edit_language.specs.Edits.{ExchangeLines};
+ghost use Rattle.mk_edit_language.specs.LineRuns.{block_lines};
 ghost use Rattle.mk_edit_language.specs.NewLines.{rule_separator_text};
 ghost use Rattle.mk_history.specs.Machine.{Apply};
-ghost use Rattle.mk_script.specs.CommandTable.{Number, Text, after_nth, change_words, command_fields, depend_word, line_change_words, nth_of_place, place_words, texts};
+ghost use Rattle.mk_script.specs.CommandTable.{IsCommand, Number, Text, after_nth, change_words, command_fields, depend_word, exchange_fields, line_change_words, nth_of_place, place_words, texts};
 ghost use Rattle.mk_script.specs.Fields.{escaped, quoted};
-ghost use Rattle.mk_script.specs.WrittenEdits.{SaysOnly, fields_of, has_line_feed, is_plain, is_quoted_byte, line_with, written};
+ghost use Rattle.mk_script.specs.WrittenEdits.{SaysOnly, fields_of, has_line_feed, is_plain, is_quoted_byte, lacks_block, line_with, written};
 ghost use Rattle.mk_script.specs.WrittenLines.{IsCommandText, fields_in, is_of_recipe};
 
 use mk_class::Flavor;
-use mk_edit_language::{Edit, LineChange, Place, RuleSeparator, Side, ValueChange};
+use mk_edit_language::{Edit, LineChange, Place, RuleSeparator, Side, Site, ValueChange};
 use std::alloc::{AllocError, Allocator};
 use thiserror::Error;
 
 /// Why an edit has no line.
 #[derive(Clone, Copy, Debug, PartialEq, Eq, Error)]
 pub enum LineError {
-    /// A text of the edit has a line feed, which no line has.
+    /// A text of the edit has a line feed, which no line has: a block of several lines, for one.
     #[error("a text of the edit has a line feed")]
     LineFeed,
+    /// The edit is to put in lines and has no block: no command does so.
+    #[error("the edit puts in lines and has no block")]
+    NoBlock,
     /// A growth was refused: the allocator had no memory for the line.
     #[error("no memory")]
     NoMemory,
@@ -50,8 +55,10 @@ impl From<AllocError> for LineError {
 ///
 /// # Errors
 ///
-/// - [`LineError::LineFeed`] if a text of the edit has a line feed. No line of a script says such an
-///   edit.
+/// - [`LineError::LineFeed`] if a text of the edit has a line feed, as a block of several lines has.
+///   No line of a script says such an edit.
+/// - [`LineError::NoBlock`] if the edit is to put in lines and has no block. No command is such an
+///   edit, which is refused wherever it is made.
 /// - [`LineError::NoMemory`] if a growth was refused.
 pub fn line_of_edit<A: Allocator + Copy, B: Allocator>(
     alloc: A,
@@ -62,7 +69,15 @@ pub fn line_of_edit<A: Allocator + Copy, B: Allocator>(
     ensures read { IfOk result (λ line. SaysOnly line.items (edit_of edit.now)) }
     ensures feed { result ≡ Err LineError.LineFeed
         → has_line_feed (line_with (fields_of (edit_of edit.now))) ≡ true }
+    ensures one_line { OnOk result
+        (has_line_feed (line_with (fields_of (edit_of edit.now))) ≡ false) }
+    ensures block { result ≡ Err LineError.NoBlock ↔ (lacks_block (edit_of edit.now) ≡ true) }
+    ensures unsaid { result ≡ Err LineError.NoBlock → (fields : List (List ℕ))
+        → IsCommand fields (Apply (edit_of edit.now)) → ⊥ }
 {
+    if lacks_block(edit) {
+        return Err(LineError::NoBlock);
+    }
     let mut line = command_text(alloc, edit)?;
     if has_line_feed(&line) {
         return Err(LineError::LineFeed);
@@ -71,11 +86,33 @@ pub fn line_of_edit<A: Allocator + Copy, B: Allocator>(
     Ok(line)
 }
 
+// Whether an edit is to put in lines, and has none.
+fn lacks_block<B: Allocator>(edit: &Edit<B>) -> bool
+    ensures { result ≡ lacks_block (edit_of edit.now) }
+{
+    match edit {
+        Edit::ExchangeLines { site, block } => lacks_lines(site, block),
+        _ => false,
+    }
+}
+
+// Whether new lines are to go to a site, and there are none.
+#[tactic(auto, using(crate::proofs::on_commands::BlockLemmas::some_lines))]
+fn lacks_lines<B: Allocator>(site: &Site<B>, block: &Option<Vec<u8, B>>) -> bool
+    ensures { result ≡ lacks_block (ExchangeLines (site_of site.now) (lines_of block.now)) }
+{
+    match (site, block) {
+        (_, Some(_)) | (Site::OfLines { .. }, None) => false,
+        _ => true,
+    }
+}
+
 // The command of an edit, without a line feed behind it.
 fn command_text<A: Allocator + Copy, B: Allocator>(
     alloc: A,
     edit: &Edit<B>,
 ) -> Result<Vec<u8, A>, AllocError>
+    requires { lacks_block (edit_of edit.now) ≡ false }
     ensures { IfOk result
         (λ text. IsCommandText (command_fields (Apply (edit_of edit.now))) text.items) }
 {
@@ -115,6 +152,7 @@ fn command_text<A: Allocator + Copy, B: Allocator>(
             said(alloc, *nth, b"undepend", &[target, word])
         }
         Edit::RenameTarget { from, to } => said(alloc, None, b"rename", &[from, to]),
+        Edit::ExchangeLines { site, block } => exchange_text(alloc, site, block),
         _ => recipe_text(alloc, edit),
     }
 }
@@ -165,6 +203,45 @@ fn line_change_text<A: Allocator + Copy, B: Allocator>(
         LineChange::SetOperator(flavor) => {
             said(alloc, nth, b"operator", &[name, operator(*flavor)])
         }
+    }
+}
+
+// The command of an exchange of lines.
+fn exchange_text<A: Allocator + Copy, B: Allocator>(
+    alloc: A,
+    site: &Site<B>,
+    block: &Option<Vec<u8, B>>,
+) -> Result<Vec<u8, A>, AllocError>
+    requires { lacks_block (ExchangeLines (site_of site.now) (lines_of block.now)) ≡ false }
+    ensures { IfOk result (λ text. IsCommandText
+        (exchange_fields (site_of site.now) (lines_of block.now)) text.items) }
+{
+    match (site, block) {
+        (_, Some(block)) => block_text(alloc, site, block),
+        (Site::OfLines { nth, old }, None) => said(alloc, *nth, b"line-remove", &[old]),
+        _ => unreachable!(),
+    }
+}
+
+// The command that puts a block to a site.
+fn block_text<A: Allocator + Copy, B: Allocator>(
+    alloc: A,
+    site: &Site<B>,
+    block: &[u8],
+) -> Result<Vec<u8, A>, AllocError>
+    ensures { IfOk result (λ text. IsCommandText
+        (exchange_fields (site_of site.now) (block_lines block.now)) text.items) }
+{
+    match site {
+        Site::Top => said(alloc, None, b"insert", &[b"top", block]),
+        Site::AtPlace(place) => said_at(alloc, b"insert", place, &[block]),
+        Site::BeforeLines { nth, old } => {
+            said(alloc, *nth, b"insert", &[b"before-line", old, block])
+        }
+        Site::AfterLines { nth, old } => {
+            said(alloc, *nth, b"insert", &[b"after-line", old, block])
+        }
+        Site::OfLines { nth, old } => said(alloc, *nth, b"line-replace", &[old, block]),
     }
 }
 

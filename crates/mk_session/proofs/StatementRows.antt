@@ -1,10 +1,10 @@
 -- Edits of small makefiles, by the statement in bytes and lines: those that it allows, and careless ones that it does not.
-use Rattle.std.proofs.Common.{◌≡◌, refl, sym, ap, ◌∙◌, subst, arith, ℕ, suc, ◌<◌, List, [], ◌∷◌, ◌++◌, length, length-append, get_or}
+use Rattle.std.proofs.Common.{◌≡◌, refl, sym, ap, ◌∙◌, subst, arith, ℕ, suc, ◌<◌, List, [], ◌∷◌, ◌++◌, length, length-append, get_or, inl, inr}
 use Rattle.std.specs.Prelude.{◌⊎◌, codes}
 use Rattle.std.specs.List.{AllZip}
 use Rattle.mk_lines.specs.PhysicalLines.{without_line_end}
 use Rattle.mk_lines.specs.LogicalLines.{logical_lines}
-use Rattle.mk_session.specs.Statement.{Names, Lines, Line, Become, Renames}
+use Rattle.mk_session.specs.Statement.{Names, Lines, Line, Say, Become, Renames}
 use Rattle.mk_session.proofs.on_statement.CellTexts.{solid-all}
 
 -- a folded assignment, a rule and its recipe line
@@ -81,6 +81,15 @@ operator_0 = (
 rename_0 : Renames (codes "a.o") (codes "b.o") (codes "all: a.o x/a.o a.o") (codes "all: b.o x/a.o b.o")
 rename_0 plain = (codes "all: " ∷ codes " x/a.o " ∷ [] ∷ [], refl, refl)
 
+-- `line-replace` of the folded assignment, by what it says, by `ifdef CC`
+line_replace_0 : Become (Say (codes "CC = gcc " ++ (92 ∷ 10 ∷ codes "  -m32"))) (Say (codes "ifdef CC")) (rule ∷ value ∷ []) (rule ∷ (codes "ifdef CC" ++ (13 ∷ 10 ∷ [])) ∷ [])
+unfolding value
+line_replace_0 = (rule ∷ [], value ∷ [], (codes "ifdef CC" ++ (13 ∷ 10 ∷ [])) ∷ [], [], rule ∷ [], refl, refl, refl, refl, (inl refl, tt))
+
+-- `insert` of `endif` after a last line that has no line end
+insert_0 : Become (λ up ls. ls ≡ []) (Say (codes "endif")) (codes "X = 1" ∷ []) ((codes "X = 1" ++ (10 ∷ [])) ∷ (codes "endif" ++ (10 ∷ [])) ∷ [])
+insert_0 = (codes "X = 1" ∷ [], [], (codes "endif" ++ (10 ∷ [])) ∷ [], [], (codes "X = 1" ++ (10 ∷ [])) ∷ [], refl, refl, refl, refl, (inr refl, tt))
+
 -- ---- careless edits
 
 -- the name `A` does not stand in the line of `BA`: what comes before its `A` is a `B`
@@ -128,3 +137,18 @@ other_line_0 h = go h.0 h.4 h.6.0 h.7.0 h.3 (h.5 ∙ ap (λ z. h.0 ++ (z ++ h.3)
     go (a ∷ b ∷ above) (x ∷ ended) l m below e f n z =
         let no : 2 ≡ suc (suc (length (above ++ (l ∷ below)))) = ap length e in
         absurd (omega (arith, no, length-append above (l ∷ below)))
+
+-- `line-remove endif` does not take out `endif # A`
+other_text_0 : Become (Say (codes "endif")) (λ up ls. ls ≡ []) (codes "endif # A" ∷ []) [] → ⊥
+other_text_0 h = go h.0 h.1 h.4 h.5 h.6 h.8 h.9
+  where
+    go : (above gone ended : Lines) → codes "endif # A" ∷ [] ≡ above ++ (gone ++ h.3) → Say (codes "endif") above gone → [] ≡ ended ++ (h.2 ++ h.3)
+        → AllZip (λ l m. (m ≡ l) ⊎ (without_line_end m ≡ l)) above ended → ⊥
+    go [] [] ended e says f z = let no : 0 ≡ 6 = ap length says in absurd (omega (arith, no))
+    go [] (l ∷ []) ended e says f z =
+        let same : codes "endif # A" ≡ l = ap (λ z. get_or z 0 []) e in
+        let no : 10 ≡ 6 = ap length (subst (λ (x : List ℕ). Say (codes "endif") [] (x ∷ [])) (sym same) says) in
+        absurd (omega (arith, no))
+    go [] (l ∷ k ∷ gone) ended e says f z = let no : 1 ≡ suc (suc (length (gone ++ h.3))) = ap length e in absurd (omega (arith, no))
+    go (a ∷ above) gone [] e says f z = absurd z
+    go (a ∷ above) gone (b ∷ ended) e says f z = absurd (cc)

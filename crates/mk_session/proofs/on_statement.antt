@@ -9,4 +9,6 @@ pub mod RulesStated
 pub mod NewRulesStated
 pub mod RuleGoesStated
 pub mod RenamesStated
+pub mod SaidLines
+pub mod ExchangesStated
 pub mod CallsStated

@@ -35,12 +35,12 @@ cost_on t (Apply e) = cost t e
 cost_on t c = 0
 
 -- A call leads from what is seen to what is seen next. It is one step of the machine; it finds no
--- memory only if it takes memory and the machine grants it, or refuses it as Misread; and it reads at
--- most as many lines as it costs.
+-- memory only if it takes memory and the machine grants it, or refuses it for a cause that needs the
+-- new lines; and it reads at most as many lines as it costs.
 pub record IsCall (call : Call) (before after : Seen) : Type 0 where
   pub step : IsStep answer call.0 call.1 before.shown after.shown
   pub memory : call.1 ≡ NoMemory → takes_memory call.0 ≡ true
-  pub unrefused : call.1 ≡ NoMemory → IsUnrefused (answer call.0 before.shown)
+  pub unrefused : call.1 ≡ NoMemory → IsUnrefused call.0 (answer call.0 before.shown)
   pub few_read : after.rereads ≤ before.rereads + cost_on before.shown.text call.0
 
 -- what a call gave back tells its reply

@@ -8,7 +8,8 @@ use Rattle.mk_tree.specs.Documents.{IsTooDeep}
 use Rattle.mk_edit_language.specs.Edits.{Edit}
 use Rattle.mk_edit_language.specs.Refusals.{spans}
 use Rattle.mk_edit_language.specs.declared.refusal.Refusal.{Refusal}
-use Rattle.mk_edit_language.specs.declared.refusal.Refusal.TheVariants.{NoMemory, Misread, NothingToUndo, NothingToRedo, GroupOpen, NoGroup}
+use Rattle.mk_edit_language.specs.declared.refusal.Refusal.TheVariants.{NoMemory, Misread, Leans, NothingToUndo, NothingToRedo, GroupOpen, NoGroup}
+use Rattle.mk_edit.specs.Planned.{IsOfWholeLines}
 use Rattle.mk_lines.specs.declared.fault.Fault as fault
 use Rattle.mk_lines.specs.declared.fault.Fault.TheVariants.{TooLong, TooDeep, BadDepth}
 use Rattle.mk_history.specs.Machine as machine
@@ -45,16 +46,24 @@ seen_opened d t = record { shown = shown_opened d t; rereads = 0 }
 
 -- ---- refusals and faults
 
--- an answer is no refusal, or that of an edit for its last cause, that the new line is misread
-abbrev pub IsUnrefused : Result (Shown (List ℕ)) (machine.Refusal Refusal) → Type 0
-IsUnrefused a = ((new : Shown (List ℕ)) × (a ≡ Ok new)) ⊎ (a ≡ Err (EditRefused Misread))
+-- a call makes an edit of whole lines
+abbrev EditsWholeLines : Command Edit → Type 0
+EditsWholeLines (Apply e) = IsOfWholeLines e
+EditsWholeLines c = ⊥
+
+-- An answer to a call is no refusal, or that of an edit for a cause that its new lines decide: that
+-- they are misread, or of an edit of whole lines, that the lines below lean on them.
+abbrev pub IsUnrefused : Command Edit → Result (Shown (List ℕ)) (machine.Refusal Refusal) → Type 0
+IsUnrefused c a =
+    ((new : Shown (List ℕ)) × (a ≡ Ok new))
+    ⊎ ((a ≡ Err (EditRefused Misread)) ⊎ (EditsWholeLines c × (a ≡ Err (EditRefused Leans))))
 
 -- A refusal of an edit: that of the machine; or NoMemory, if a growth was refused, and the machine
--- accepts the edit or refuses it as Misread, for which the new line is needed.
+-- accepts the edit or refuses it for a cause that needs the new lines.
 abbrev pub IsEditRefusal : Edit → Shown (List ℕ) → Refusal → Type 0
 IsEditRefusal e s r =
     (answer (Apply e) s ≡ Err (EditRefused r))
-    ⊎ ((r ≡ NoMemory) × IsUnrefused (answer (Apply e) s))
+    ⊎ ((r ≡ NoMemory) × IsUnrefused (Apply e) (answer (Apply e) s))
 
 -- A fault of opening a text: a bad depth first; then a text that is too long; then a text that is
 -- too deep; and otherwise that a growth was refused. Memory is needed to see how deep a text is, so

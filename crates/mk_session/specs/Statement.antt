@@ -3,15 +3,16 @@
 -- where undoing leads. To read it one needs no definition of classes, causes or spans.
 -- Told in docs/BELIEVED.md.
 use Rattle.std.specs.Prelude.{◌≡◌, ◌⊎◌, ℕ, ◌<◌, ◌≤◌, Bool, true, false, List, [], ◌∷◌, ◌++◌, length, map, filter, take, codes, Some, None, All, Contains}
-use Rattle.std.specs.List.{AllZip, Any, join_by}
-use Rattle.mk_lines.specs.PhysicalLines.{without_line_end}
+use Rattle.std.specs.List.{AllZip, Any, join_by, flat_map}
+use Rattle.mk_lines.specs.PhysicalLines.{physical_lines, without_line_end}
 use Rattle.mk_lines.specs.LogicalLines.{logical_lines}
 use Rattle.mk_class.specs.OperatorTexts.{operator_text}
 use Rattle.mk_history.specs.Shown.{Shown, shown_opened, shown_edited, shown_ended}
 use Rattle.mk_edit_language.specs.declared.edit.LineChange.{LineChange}
 use Rattle.mk_edit_language.specs.declared.edit.LineChange.TheVariants.{Prepend, ReplaceWord, InsertWord, Substitute, SetOperator}
+use Rattle.mk_edit_language.specs.declared.edit.Site.TheVariants.{OfLines}
 use Rattle.mk_edit_language.specs.declared.edit.Edit.{Edit}
-use Rattle.mk_edit_language.specs.declared.edit.Edit.TheVariants.{SetValue, AppendValue, AddWord, RemoveWord, ChangeValues, ChangeLine, AddAssign, RemoveAssign, AddRule, RemoveRule, AddPrereq, RemovePrereq, AddRecipe, SetRecipe, RemoveRecipe, InsertRecipe, SetRecipeByText, RemoveRecipeByText, RenameTarget}
+use Rattle.mk_edit_language.specs.declared.edit.Edit.TheVariants.{SetValue, AppendValue, AddWord, RemoveWord, ChangeValues, ChangeLine, AddAssign, RemoveAssign, AddRule, RemoveRule, AddPrereq, RemovePrereq, AddRecipe, SetRecipe, RemoveRecipe, InsertRecipe, SetRecipeByText, RemoveRecipeByText, RenameTarget, ExchangeLines}
 use Rattle.mk_edit_language.specs.declared.command.Command.{Command}
 use Rattle.mk_edit_language.specs.declared.command.Command.TheVariants.{Apply, Undo, Redo, Begin, End, Cancel}
 
@@ -52,6 +53,11 @@ Recipe g t up ls = (l : List ℕ) × (ls ≡ l ∷ []) × IsRecipe up l × Has t
 abbrev pub Rule : (target : List ℕ) → (above lines : Lines) → Type 0
 Rule g up ls = (l : List ℕ) × (rs : Lines) × (ls ≡ l ∷ rs) × Names g 58 l
     × All (λ r. IsRecipe up r ⊎ (Has (35 ∷ []) r ⊎ All (λ b. (b < 33) ⊎ (b ≡ 92)) r)) rs
+
+-- Lines of any kind that say a block: with a line feed in the place of each line end, and after a last
+-- line that has none, they are the block and a line feed.
+abbrev pub Say : (block : List ℕ) → (above lines : Lines) → Type 0
+Say b up ls = flat_map (λ l. without_line_end l ++ 10 ∷ []) (flat_map physical_lines ls) ≡ b ++ 10 ∷ []
 
 -- ---- an edit
 
@@ -96,6 +102,10 @@ Does (InsertRecipe k g i c) = Become (λ up ls. ls ≡ []) (Recipe g.items c.ite
 Does (SetRecipeByText k g o c) = Become (Recipe g.items o.items) (Recipe g.items c.items)
 Does (RemoveRecipeByText k g o) = Become (Recipe g.items o.items) (λ up ls. ls ≡ [])
 Does (RenameTarget o n) = AllZip (Renames o.items n.items)
+Does (ExchangeLines (OfLines k o) (Some n)) = Become (Say o.items) (Say n.items)
+Does (ExchangeLines (OfLines k o) None) = Become (Say o.items) (λ up ls. ls ≡ [])
+Does (ExchangeLines s (Some n)) = Become (λ up ls. ls ≡ []) (Say n.items)
+Does (ExchangeLines s None) = λ ls ms. ⊥
 
 -- ---- the calls of a session
 

@@ -18,7 +18,7 @@ pub use command::Command;
 pub use mk_class::Flavor;
 pub use mk_edit::{Detail, Edit, Field, Place, Refusal, RuleSeparator, ValueChange};
 pub use mk_edit_language::{
-    LineChange, Side, clone_edit, clone_place, is_same_edit, is_same_place, number_edit,
+    LineChange, Side, Site, clone_edit, clone_place, is_same_edit, is_same_place, number_edit,
     number_place,
 };
 pub use mk_index::Expected;

@@ -153,7 +153,8 @@ impl<A: Allocator + Copy> Session<A> {
     ///
     /// The first [`Refusal`] of the edit whose cause holds (one of the first fifteen, or
     /// [`Refusal::Misread`]). [`Refusal::NoMemory`] if a growth was refused and no cause holds, but
-    /// perhaps `Misread`, which needs the new line. An open group stays open.
+    /// perhaps one that needs the new lines: `Misread`, and, of whole lines, [`Refusal::Leans`]. An
+    /// open group stays open.
     pub fn apply(&mut self, edit: &Edit<A>) -> Result<(), Refusal>
         ensures done { OnOk result
             (answer (Apply (edit_of edit.now)) self.old.shown ≡ Ok self.new.shown) }

@@ -47,7 +47,7 @@ conditionals-fit n (Header x) h = tt
 fit-before : (n : ℕ) (x : LocatedLine) (ls : List LocatedLine) → is_conditional_located x.class ≡ false → AreConditionalsFit n ls → AreConditionalsFit n (x ∷ ls)
 fit-before n x ls p h = (conditionals-fit n x.class p, rw (conditionals-left n x.class p) h)
 
-fit-insert : (n : ℕ) (x : LocatedLine) (ls : List LocatedLine) (at : ℕ) → is_conditional_located x.class ≡ false → AreConditionalsFit n ls → AreConditionalsFit n (take at ls ++ x ∷ drop at ls)
+pub fit-insert : (n : ℕ) (x : LocatedLine) (ls : List LocatedLine) (at : ℕ) → is_conditional_located x.class ≡ false → AreConditionalsFit n ls → AreConditionalsFit n (take at ls ++ x ∷ drop at ls)
 fit-insert n x ls zero p h = fit-before n x ls p h
 fit-insert n x [] (suc at) p h = fit-before n x [] p h
 fit-insert n x (l ∷ ls) (suc at) p h = (h.0, fit-insert (conditionals_after_located n l.class) x ls at p h.1)
@@ -57,7 +57,7 @@ fit-insert n x (l ∷ ls) (suc at) p h = (h.0, fit-insert (conditionals_after_lo
 fit-after : (n : ℕ) (l : LocatedLine) (ls : List LocatedLine) → is_conditional_located l.class ≡ false → AreConditionalsFit n (l ∷ ls) → AreConditionalsFit n ls
 fit-after n l ls p h = rw (conditionals-left n l.class p) at h.1
 
-fit-remove : (n : ℕ) (ls : List LocatedLine) (at : ℕ) → IfSome (slice_get ls at) (λ l. is_conditional_located l.class ≡ false) → AreConditionalsFit n ls → AreConditionalsFit n (take at ls ++ drop (at + 1) ls)
+pub fit-remove : (n : ℕ) (ls : List LocatedLine) (at : ℕ) → IfSome (slice_get ls at) (λ l. is_conditional_located l.class ≡ false) → AreConditionalsFit n ls → AreConditionalsFit n (take at ls ++ drop (at + 1) ls)
 fit-remove n [] zero p h = tt
 fit-remove n [] (suc at) p h = rw (suc-add at 1) tt
 fit-remove n (l ∷ ls) zero p h = fit-after n l ls p h
@@ -65,7 +65,7 @@ fit-remove n (l ∷ ls) (suc at) p h = (h.0, rw (suc-add at 1) (fit-remove (cond
 
 -- ---- one line for another
 
-fit-replace : (n : ℕ) (x : LocatedLine) (ls : List LocatedLine) (at : ℕ) → IfSome (slice_get ls at) (λ l. is_conditional_located l.class ≡ false) → is_conditional_located x.class ≡ false
+pub fit-replace : (n : ℕ) (x : LocatedLine) (ls : List LocatedLine) (at : ℕ) → IfSome (slice_get ls at) (λ l. is_conditional_located l.class ≡ false) → is_conditional_located x.class ≡ false
     → AreConditionalsFit n ls → AreConditionalsFit n (take at ls ++ x ∷ drop (at + 1) ls)
 fit-replace n x [] zero p q h = fit-before n x [] q h
 fit-replace n x [] (suc at) p q h = rw (suc-add at 1) (fit-before n x [] q h)
@@ -79,17 +79,17 @@ size_of-replace x (l ∷ ls) (suc at) h = rw (suc-add at 1) (omega (arith, size_
 
 -- ---- the same, through what each step leaves
 
-pub fit-insert_steps : (x : LocatedLine) (inside taken new : List LocatedLine) (at : ℕ) → taken ≡ inside → is_conditional_located x.class ≡ false → AreConditionalsFit 0 inside
-    → new ≡ take at taken ++ x ∷ drop at taken → AreConditionalsFit 0 new
-fit-insert_steps x inside taken new at e p h r = rw (r, e) (fit-insert 0 x inside at p h)
+pub fit-insert_steps : (x : LocatedLine) (self draft new : List LocatedLine) (at : ℕ) → draft ≡ self → is_conditional_located x.class ≡ false → AreConditionalsFit 0 self
+    → new ≡ take at draft ++ x ∷ drop at draft → AreConditionalsFit 0 new
+fit-insert_steps x self draft new at e p h r = rw (r, e) (fit-insert 0 x self at p h)
 
-pub fit-remove_steps : (inside taken self new : List LocatedLine) (at : ℕ) → taken ≡ inside → inside ≡ self → IfSome (slice_get self at) (λ l. is_conditional_located l.class ≡ false) → AreConditionalsFit 0 inside
-    → new ≡ take at taken ++ drop (at + 1) taken → AreConditionalsFit 0 new
-fit-remove_steps inside taken self new at e v p h r = rw (r, e) (fit-remove 0 inside at (rw v p) h)
+pub fit-remove_steps : (self draft new : List LocatedLine) (at : ℕ) → draft ≡ self → IfSome (slice_get self at) (λ l. is_conditional_located l.class ≡ false) → AreConditionalsFit 0 self
+    → new ≡ take at draft ++ drop (at + 1) draft → AreConditionalsFit 0 new
+fit-remove_steps self draft new at e p h r = rw (r, e) (fit-remove 0 self at p h)
 
-pub fit-replace_steps : (x : LocatedLine) (inside self new : List LocatedLine) (at : ℕ) → inside ≡ self → IfSome (slice_get self at) (λ l. is_conditional_located l.class ≡ false)
-    → is_conditional_located x.class ≡ false → AreConditionalsFit 0 inside → new ≡ take at inside ++ x ∷ drop (at + 1) inside → AreConditionalsFit 0 new
-fit-replace_steps x inside self new at v p q h r = rw r (fit-replace 0 x inside at (rw v p) q h)
+pub fit-replace_steps : (x : LocatedLine) (self draft new : List LocatedLine) (at : ℕ) → draft ≡ self → IfSome (slice_get self at) (λ l. is_conditional_located l.class ≡ false)
+    → is_conditional_located x.class ≡ false → AreConditionalsFit 0 self → new ≡ take at draft ++ x ∷ drop (at + 1) draft → AreConditionalsFit 0 new
+fit-replace_steps x self draft new at e p q h r = rw (r, e) (fit-replace 0 x self at p q h)
 
 -- the size of a document with one line for another
 pub size-replace_steps : (size : ℕ) (x old : LocatedLine) (inside new : List LocatedLine) (at : ℕ) → size ≡ size_of inside → Some old ≡ slice_get inside at

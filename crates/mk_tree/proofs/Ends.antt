@@ -76,13 +76,13 @@ size_of-with_last bytes (l ∷ []) h = omega arith
 size_of-with_last bytes (l ∷ k ∷ ls) h = omega (arith, size_of-with_last bytes (k ∷ ls) (omega arith))
 
 -- the classes stay, and so do the open conditionals
-fit-with_last : (n : ℕ) (bytes : List ℕ) (ls : List LocatedLine) → AreConditionalsFit n ls → AreConditionalsFit n (with_last_bytes bytes ls)
+pub fit-with_last : (n : ℕ) (bytes : List ℕ) (ls : List LocatedLine) → AreConditionalsFit n ls → AreConditionalsFit n (with_last_bytes bytes ls)
 fit-with_last n bytes [] h = tt
 fit-with_last n bytes (l ∷ []) h = h
 fit-with_last n bytes (l ∷ k ∷ ls) h = (h.0, fit-with_last (conditionals_after_located n l.class) bytes (k ∷ ls) h.1)
 
-pub fit-with_last_steps : (bytes : List ℕ) (inside taken new : List LocatedLine) → taken ≡ inside → AreConditionalsFit 0 inside → new ≡ with_last_bytes bytes taken → AreConditionalsFit 0 new
-fit-with_last_steps bytes inside taken new e h r = rw (r, e) (fit-with_last 0 bytes inside h)
+pub fit-with_last_steps : (bytes : List ℕ) (self draft new : List LocatedLine) → draft ≡ self → AreConditionalsFit 0 self → new ≡ with_last_bytes bytes draft → AreConditionalsFit 0 new
+fit-with_last_steps bytes self draft new e h r = rw (r, e) (fit-with_last 0 bytes self h)
 
 -- the bytes of a line, counted
 size_of_line-bytes : (o : Option LocatedLine) → size_of_line o ≡ length (bytes_of_line o)

@@ -133,6 +133,16 @@ parts text first last kept count front end ls u k n f e =
 
 -- ---- the same, through what each call leaves
 
+-- where there is no line
+pub untouched-none : (text : List ℕ) (first last : ℕ) (ls : List LocatedLine) → ls ≡ [] → first ≡ 0 → last ≡ 0 → AreUntouched text first last ls
+untouched-none text first last ls e f l =
+    rw (e, f, l) (record {
+      few_first = omega arith;
+      few_last = omega arith;
+      front = (text, refl);
+      end = (text, sym (append-nil text));
+    })
+
 -- all lines stand in the text that they were read from
 pub untouched-read : (text text' : List ℕ) (n first last : ℕ) (ls : List LocatedLine) → n ≡ length ls → first ≡ n → last ≡ n → text' ≡ text → located_text ls ≡ text → AreUntouched text' first last ls
 untouched-read text text' n first last ls long f e same all =

@@ -1,8 +1,14 @@
 -- The lines of a document that no call has touched since they were read: they stand in the text
 -- that they were read from, at its front or at its end.
 -- Told in docs/ARCHITECTURE.md, "The document".
-use Rattle.std.specs.Prelude.{◌≡◌, ℕ, ◌-◌, ◌≤◌, List, ◌++◌, length, take, drop}
+use Rattle.std.specs.Prelude.{◌≡◌, ℕ, ◌-◌, ◌≤◌, List, [], ◌++◌, length, take, drop, option_map, unwrap_or}
+use Rattle.std.specs.Rc.{rc_slice_items}
+use Rattle.mk_tree.specs.declared.origin.Origin.{Origin}
 use Rattle.mk_tree.specs.LocatedLines.{LocatedLine, located_text}
+
+-- the text that a document was read from, or no bytes if it was read from none
+abbrev pub origin_text : {A : _} → Origin A → List ℕ
+origin_text o = unwrap_or (option_map rc_slice_items o.text) []
 
 -- a text begins with the text of some lines
 abbrev pub BeginsWith : (text : List ℕ) → List LocatedLine → Type 0

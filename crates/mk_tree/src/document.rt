@@ -8,6 +8,7 @@ ghost use Rattle.mk_tree.specs.Admissions.{AreAdmitted};
 ghost use Rattle.mk_tree.specs.Documents.{IsFaithful};
 ghost use Rattle.mk_tree.specs.Trees.{line_view};
 
+use crate::draft::Draft;
 use crate::iter::Lines;
 use crate::line_bytes::LineBytes;
 use crate::origin::Origin;
@@ -34,9 +35,8 @@ pub struct Doc<A: Allocator = Global> {
 
 impl<A: Allocator> Model for Doc<A> {
     ghost use Rattle.std.specs.Prelude.{◌≡◌, List};
-    ghost use Rattle.std.specs.Rc.{rc_slice_items};
     ghost use Rattle.mk_tree.specs.LocatedLines.{LocatedLine, AreConditionalsFit, size_of};
-    ghost use Rattle.mk_tree.specs.Origins.{AreUntouched};
+    ghost use Rattle.mk_tree.specs.Origins.{AreUntouched, origin_text};
 
     ghost Value = { List LocatedLine };
 
@@ -44,7 +44,7 @@ impl<A: Allocator> Model for Doc<A> {
 
     ghost invariant = { λ d. AreConditionalsFit 0 d.tree.0
         × (d.size ≡ size_of d.tree.0)
-        × AreUntouched (rc_slice_items d.origin.text) d.origin.first d.origin.last d.tree.0 };
+        × AreUntouched (origin_text d.origin) d.origin.first d.origin.last d.tree.0 };
 }
 
 impl<A: Allocator> Doc<A> {
@@ -106,6 +106,21 @@ impl<A: Allocator> Doc<A> {
         Lines::from_index(&self.tree, at)
     }
 
+    /// Takes out all lines as a draft, in which they can be changed one by one: for a change that
+    /// moves lines of conditionals. [`Draft::into_doc`] makes a document of them again. Takes no
+    /// memory, and walks over none of them.
+    pub fn take_draft(&mut self) -> Draft<A>
+        ensures lines { result ≡ self.old }
+        ensures conditionals { AreConditionalsFit 0 self.old }
+        ensures empty { self.new ≡ [] }
+    {
+        Draft {
+            tree: mem::replace(&mut self.tree, Tree::new()),
+            size: mem::replace(&mut self.size, 0),
+            origin: mem::replace(&mut self.origin, Origin::none()),
+        }
+    }
+
     /// Puts a line before the line at an index from 0, or at the end of the document. Takes no
     /// memory and is never refused.
     ///
@@ -117,10 +132,9 @@ impl<A: Allocator> Doc<A> {
         requires fits { size_of self.old + length (line_view line).bytes ≤ max_text }
         ensures lines { self.new ≡ take at self.old ++ line_view line ∷ drop at self.old }
     {
-        self.origin.keep(at, self.tree.len() - at);
-        let tree = mem::replace(&mut self.tree, Tree::new());
-        self.size += line.bytes().len();
-        self.tree = tree.insert(at, line);
+        let mut draft = self.take_draft();
+        draft.insert(at, line);
+        *self = draft.into_doc();
     }
 
     /// Takes out the line at an index, from 0. Takes no memory.
@@ -133,11 +147,9 @@ impl<A: Allocator> Doc<A> {
         ensures line { Some (line_view result) ≡ slice_get self.old at }
         ensures lines { self.new ≡ take at self.old ++ drop (at + 1) self.old }
     {
-        self.origin.keep(at, self.tree.len() - at - 1);
-        let tree = mem::replace(&mut self.tree, Tree::new());
-        let (tree, line) = tree.remove(at);
-        self.tree = tree;
-        self.size -= line.bytes().len();
+        let mut draft = self.take_draft();
+        let line = draft.remove(at);
+        *self = draft.into_doc();
         line
     }
 
@@ -146,7 +158,6 @@ impl<A: Allocator> Doc<A> {
     ///
     /// It asks that neither line belongs to a conditional, and that the document then has at most
     /// 16,777,216 bytes.
-    #[tactic(auto, using(crate::proofs::Changes::sizes))]
     pub fn replace(&mut self, at: usize, line: Line<A>) -> Line<A>
         requires in_range { at < length self.old }
         requires old_plain { IfSome (slice_get self.old at) (λ old.
@@ -157,10 +168,9 @@ impl<A: Allocator> Doc<A> {
         ensures line { Some (line_view result) ≡ slice_get self.old at }
         ensures lines { self.new ≡ take at self.old ++ line_view line ∷ drop (at + 1) self.old }
     {
-        self.origin.keep(at, self.tree.len() - at - 1);
-        let size = self.size + line.bytes().len();
-        let old = self.tree.replace(at, line);
-        self.size = size - old.bytes().len();
+        let mut draft = self.take_draft();
+        let old = draft.replace(at, line);
+        *self = draft.into_doc();
         old
     }
 
@@ -170,7 +180,6 @@ impl<A: Allocator> Doc<A> {
     /// It serves to put a line end after the last line, or to take it away. It asks that there is a
     /// line, that the new bytes are not empty and equal the old ones except for the line end, and
     /// that the document then has at most 16,777,216 bytes.
-    #[tactic(auto, using(crate::proofs::Ends::sizes))]
     pub fn swap_end(&mut self, bytes: LineBytes<A>) -> LineBytes<A>
         requires some_lines { 0 < length self.old }
         requires some_bytes { 0 < length bytes }
@@ -181,12 +190,9 @@ impl<A: Allocator> Doc<A> {
         ensures old { result ≡ bytes_of_line (last_line self.old) }
         ensures some_bytes_back { 0 < length result }
     {
-        self.origin.keep(self.tree.len() - 1, 0);
-        let tree = mem::replace(&mut self.tree, Tree::new());
-        let size = self.size + bytes.as_slice().len();
-        let (tree, old) = tree.swap_end(bytes);
-        self.tree = tree;
-        self.size = size - old.as_slice().len();
+        let mut draft = self.take_draft();
+        let old = draft.swap_end(bytes);
+        *self = draft.into_doc();
         old
     }
 }

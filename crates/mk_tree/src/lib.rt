@@ -1,6 +1,7 @@
 //! The document: a makefile as the list of its lines, each with its bytes and its class.
 //!
 //! - [`document`]: the document, and the calls that change its lines.
+//! - [`draft`]: the lines of a document while they are changed.
 //! - [`parse`]: a document made of a text.
 //! - `read`: lines as they are read, with their class and their cells.
 //! - `plain`: which lines of a text are plain, as most are, and need no cells.
@@ -28,6 +29,7 @@ mod as_list;
 mod content;
 mod contexts;
 pub mod document;
+pub mod draft;
 pub mod end;
 pub mod gathering;
 pub mod iter;
@@ -48,6 +50,7 @@ pub mod views;
 pub mod walk;
 
 pub use document::Doc;
+pub use draft::Draft;
 pub use end::DocEnd;
 pub use iter::Lines;
 pub use line_bytes::LineBytes;

@@ -1,6 +1,7 @@
 //! The text that a document was read from, and the lines that stand in it still.
 ghost use Rattle.std.specs.Prelude.{◌≡◌, min};
 ghost use Rattle.std.specs.Rc.{rc_slice_items};
+ghost use Rattle.mk_tree.specs.Origins.{origin_text};
 
 use std::alloc::Allocator;
 use std::rc::RcSlice;
@@ -10,7 +11,8 @@ use std::rc::RcSlice;
 /// taken out or exchanged. So these can be printed at once, and not line by line.
 #[derive(Drop)]
 pub(crate) struct Origin<A: Allocator> {
-    pub(crate) text: RcSlice<u8, A>,
+    /// `None` if the document was read from no text.
+    pub(crate) text: Option<RcSlice<u8, A>>,
     /// How many of the first lines are the front of the text.
     pub(crate) first: usize,
     /// How many of the last lines are the end of the text.
@@ -20,20 +22,42 @@ pub(crate) struct Origin<A: Allocator> {
 impl<A: Allocator> Origin<A> {
     /// The origin of a document that was read from a text just now, and has this many lines.
     pub(crate) fn new(text: RcSlice<u8, A>, lines: usize) -> Origin<A>
-        ensures text { rc_slice_items result.text ≡ rc_slice_items text }
+        ensures text { origin_text result ≡ rc_slice_items text }
         ensures first { result.first ≡ lines }
         ensures last { result.last ≡ lines }
     {
         Origin {
-            text,
+            text: Some(text),
             first: lines,
             last: lines,
         }
     }
 
+    /// The origin of a document that was read from no text.
+    pub(crate) fn none() -> Origin<A>
+        ensures first { result.first ≡ 0 }
+        ensures last { result.last ≡ 0 }
+    {
+        Origin {
+            text: None,
+            first: 0,
+            last: 0,
+        }
+    }
+
+    /// The text; it is empty if the document was read from none.
+    pub(crate) fn text(&self) -> &[u8]
+        ensures { result.now ≡ origin_text self.now }
+    {
+        match &self.text {
+            Some(text) => text.as_slice(),
+            None => &[],
+        }
+    }
+
     /// Notes that lines change which have this many lines before them, and this many after them.
     pub(crate) fn keep(&mut self, before: usize, after: usize)
-        ensures text { rc_slice_items self.new.text ≡ rc_slice_items self.old.text }
+        ensures text { origin_text self.new ≡ origin_text self.old }
         ensures first { self.new.first ≡ min self.old.first before }
         ensures last { self.new.last ≡ min self.old.last after }
     {

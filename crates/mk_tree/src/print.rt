@@ -92,7 +92,7 @@ impl<A: Allocator> Doc<A> {
             };
         }
         let (front, end) = self.sizes_around(first, count);
-        let text = self.origin.text.as_slice();
+        let text = self.origin.text();
         Parts {
             front: &text[..front],
             from: first,

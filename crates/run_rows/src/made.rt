@@ -4,8 +4,8 @@
 use crate::sessions::{edit_of, text_of};
 use mk_lines::Fault;
 use mk_session::{
-    Edit, Flavor, Place, Refusal, RuleSeparator, Session, clone_edit, clone_place, is_same_edit,
-    is_same_place,
+    Edit, Flavor, Place, Refusal, RuleSeparator, Session, Site, clone_edit, clone_place,
+    is_same_edit, is_same_place,
 };
 use std::alloc::AllocError;
 use test_support::text::number;
@@ -55,8 +55,19 @@ fn edit_at(heap: &Heap, number: u64) -> Result<Edit<&Heap>, AllocError> {
         31 => Edit::operator(heap, b"A", Flavor::Simple),
         32 => Edit::add_before(heap, b"A", b"b", b"c"),
         33 => Edit::add_after(heap, b"A", b"b", b"c"),
+        34 => Site::Top.insert(heap, b"b"),
+        35 => Edit::line_replace(heap, b"A", b"b"),
+        36 => Edit::line_remove(heap, b"A"),
+        37 => Site::AtPlace(place_at(heap, 24)?).insert(heap, b"b"),
+        38 => Ok(lines_before(heap)?.insert(heap, b"b")?.nth(2)),
         place => place_at(heap, place)?.assign(heap, b"A", Flavor::Simple, b"b"),
     }
+}
+
+/// Before the lines that say a block.
+fn lines_before(heap: &Heap) -> Result<Site<&Heap>, AllocError> {
+    let old = Vec::from_slice(heap, b"A")?;
+    Ok(Site::BeforeLines { nth: None, old })
 }
 
 /// The copy of the place of a number, which has to be the same.
@@ -116,6 +127,9 @@ fn apply_at(session: &mut Session<&Heap>, number: u64) -> Result<(), Refusal> {
         25 => session.operator(b"A", Flavor::Simple),
         26 => session.add_before(b"A", b"b", b"c"),
         27 => session.add_after(b"A", b"b", b"c"),
+        28 => session.insert(Site::Top, b"A"),
+        29 => session.line_replace(b"ifdef B", b"ifndef B"),
+        30 => session.line_remove(b"A=b"),
         _ => session.rule(Place::Bottom, b"A", RuleSeparator::Single, b"b"),
     }
 }

@@ -245,7 +245,7 @@ module _ (ls : List LocatedLine) (nth : Option ℕ) (n : List ℕ) (c : LineChan
   unrefused-but k = go (is_misread c f.context l.bytes (Assign a None)) refl
     where
       go : (b : Bool) → is_misread c f.context l.bytes (Assign a None) ≡ b → IsUnrefused text edit
-      go true e = inr (refused text edit Misread (only-misread true k e))
+      go true e = inr (inl (refused text edit Misread (only-misread true k e)))
       go false e = inl (_, unrefused text edit (only-misread false k e))
 
   misread-there : first_cause (causes text lines edit) ≡ first_cause (misread lines edit ∷ []) → is_misread c f.context l.bytes (Assign a None) ≡ true → spans text edit ≡ Err Misread

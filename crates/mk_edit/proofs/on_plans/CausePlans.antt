@@ -6,7 +6,7 @@ use Rattle.mk_lines.specs.Limits.{max_text}
 use Rattle.mk_lines.specs.Pieces.{Replacement, replaced}
 use Rattle.mk_class.specs.ClassedLines.{ClassedLine, classed_lines}
 use Rattle.mk_tree.specs.LocatedLines.{LocatedLine, located_text}
-use Rattle.mk_edit_language.specs.Edits.{Edit, ChangeValue, ChangeLine, ChangePrereqs, AddLine, AddRecipe, SetRecipe, RemoveLines, RenameTarget}
+use Rattle.mk_edit_language.specs.Edits.{Edit, ChangeValue, ChangeLine, ChangePrereqs, AddLine, AddRecipe, SetRecipe, RemoveLines, RenameTarget, ExchangeLines}
 use Rattle.mk_edit_language.specs.EditSpans.{spans_of}
 use Rattle.mk_edit_language.specs.Stretches.{Stretch, insertion, removal}
 use Rattle.mk_edit_language.specs.Causes.{where_holds}
@@ -18,6 +18,7 @@ use Rattle.mk_edit_language.specs.Lengths.{bytes_taken, bytes_put}
 use Rattle.mk_edit_language.specs.Refusals.{first_cause, causes}
 use Rattle.mk_edit_language.specs.declared.refusal.Refusal.{Refusal}
 use Rattle.mk_edit_language.specs.declared.refusal.Refusal.TheVariants.{Leans, TooLong}
+use Rattle.mk_edit_language.proofs.on_edits.Accepted.{one_place-causes}
 use Rattle.mk_edit_language.proofs.on_edits.LengthLemmas.{length-replaced}
 use Rattle.mk_edit_language.proofs.on_edits.SpansRise.{spans-rise}
 use Rattle.mk_edit_parts.specs.Found.{IsAddressed}
@@ -47,7 +48,8 @@ pub addressed-all : (e : Edit) (ls : List LocatedLine) (f : Found) (r : Option R
     → first_cause (causes (located_text ls) (classed_lines (located_text ls)) e) ≡ r
 addressed-all e ls f r A h =
     let cs = classed_lines (located_text ls) in
-    passed (bad_argument e) _ r A.arguments
+    ap first_cause (one_place-causes (located_text ls) cs e A.one_place)
+    ∙ passed (bad_argument e) _ r A.arguments
     (passed (reserved e) _ r A.not_reserved
     (passed (unread_prefix cs) _ r A.prefix_read (passed (no_such cs e) _ r A.is_there (passed (ambiguous cs e) _ r A.is_one h))))
 
@@ -87,6 +89,7 @@ removal-read ls (AddRecipe nth g p c) s h = refl
 removal-read ls (SetRecipe nth g w c) s h = refl
 removal-read ls (RemoveLines r) s h = refl
 removal-read ls (RenameTarget o n) s h = refl
+removal-read ls (ExchangeLines x ts) s h = refl
 
 pub removal-leaning : (ls : List ClassedLine) (e : Edit) (s : Stretch) (b : Bool) → insertion ls e ≡ None → removal ls e ≡ Some s → b ≡ removal_leans (Some s) → leaning ls e ≡ where_holds b Leans
 removal-leaning ls e s b i h k =

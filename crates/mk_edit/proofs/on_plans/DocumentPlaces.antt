@@ -18,7 +18,7 @@ use Rattle.mk_edit_parts.specs.declared.seek.Found.{Found}
 -- ---- open defines
 
 -- each of some lines opens at most one
-defines-few : (c : Context) (ls : List ClassedLine) → (context_after_lines c ls).defines ≤ c.defines + length ls
+pub defines-few : (c : Context) (ls : List ClassedLine) → (context_after_lines c ls).defines ≤ c.defines + length ls
 defines-few c [] = omega arith
 defines-few c (l ∷ ls) = omega (arith, defines-few (context_after c l.class) ls, defines_after-few c.defines l.class)
 
@@ -34,7 +34,7 @@ place-defines ls place p low =
     subst (λ (c : Context). c.defines < max_text) p (omega (arith, defines-few start above, take-few place.at (classed_lines (located_text ls))))
 
 -- a line has some bytes
-some-line : (m : List ℕ) → logical_lines m ≡ m ∷ [] → 0 < length m
+pub some-line : (m : List ℕ) → logical_lines m ≡ m ∷ [] → 0 < length m
 some-line [] h = absurd (let g : [] ≡ [] ∷ [] = h in cc)
 some-line (b ∷ m) h = omega arith
 

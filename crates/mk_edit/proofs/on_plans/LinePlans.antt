@@ -17,7 +17,7 @@ use Rattle.mk_patch.proofs.on_moves.ShapeLemmas.{LeadTo, run-held, run-taken}
 use Rattle.mk_patch.proofs.on_moves.TextLineLemmas.{plain-located, text_line-exchanged, text_run-taken_out}
 use Rattle.mk_edit.specs.Planned.{IsPlanned, ended_by, ended_lines}
 use Rattle.mk_edit.specs.PlannedMoves.{line_read_at, replacing_moves, CanReplace}
-use Rattle.mk_edit.proofs.on_plans.PlanLemmas.{lead-planned, after-fits, faithful-length, read-at, touched-none_put, removed-none_put, changes-one}
+use Rattle.mk_edit.proofs.on_plans.PlanLemmas.{lead-planned, after-fits, faithful-length, read-at, touched-none_put, touched-place, removed-none_put, changes-one}
 
 -- ---- a line replaced
 
@@ -36,7 +36,7 @@ line-replaced e ls rs s at m f h p place b =
     let P = put-there t e rs (this_line s) m p h b in
     let none = touched-none_put (classed_lines t) e (this_line s) p (omega arith) in
     let one = changes-one t e rs (this_line s) m p (omega arith) b in
-    let ends : ended_lines ls e ≡ 0 = ap (ended_by ls) none in
+    let ends : ended_lines ls e ≡ 0 = ap (ended_by ls) (touched-place (classed_lines t) e (this_line s) p ∙ none) in
     let after : classed_lines (text_after t e) ≡ s.above ++ new ∷ s.below = P.lines ∙ ap (λ (o : Option Stretch). above_after t o (this_line s) ++ new ∷ s.below) none in
     let read : line_read_at ls at m ≡ located_line new = read-at ls s.above (s.line ∷ s.below) at m E.before place in
     let moves : replacing_moves ls at m ≡ Exchange (length s.above) (located_line new) ∷ [] = ap (λ z. Exchange at z ∷ []) read ∙ ap (λ n. Exchange n (located_line new) ∷ []) (sym place) in
@@ -62,7 +62,7 @@ lines-taken_out e ls rs s at count f h p place number b costs changes =
     let t = located_text ls in
     let E = edited t e rs s p h in
     let none = removed-none_put t e rs s b in
-    let ends : ended_lines ls e ≡ 0 = ap (ended_by ls) none in
+    let ends : ended_lines ls e ≡ 0 = ap (ended_by ls) (touched-place (classed_lines t) e s p ∙ none) in
     let after : classed_lines (text_after t e) ≡ s.above ++ s.below = taken-out t e rs s p h b ∙ ap (λ (o : Option Stretch). above_after t o s ++ s.below) none in
     let moves : replicate count (TakeOut at) ≡ replicate (length s.lines) (TakeOut (length s.above)) = ap (λ n. replicate n (TakeOut at)) (sym number) ∙ ap (λ n. replicate (length s.lines) (TakeOut n)) (sym place) in
     let L = text_run-taken_out s.above s.lines s.below E.gone_plain in

@@ -28,23 +28,24 @@ use Rattle.mk_edit_language.proofs.on_edits.Accepted.{accepted, where_holds-none
 use Rattle.mk_edit_language.proofs.on_edits.EditedLineLemmas.{edited, put-there}
 use Rattle.mk_patch.specs.Moves.{PutIn, SwapEnd, IsPlain}
 use Rattle.mk_patch.proofs.on_moves.TextLineLemmas.{plain-located, text_line-put_in, text_line-put_in_ended}
+use Rattle.mk_patch.proofs.on_moves.ExchangeLemmas.{append-one}
 use Rattle.mk_edit.specs.Planned.{IsPlanned, ended_by, ended_lines}
 use Rattle.mk_edit.specs.PlannedMoves.{line_read_at, is_unended, follows_unended, last_bytes_ended, ending_moves, inserting_moves, CanInsert}
-use Rattle.mk_edit.proofs.on_plans.PlanLemmas.{lead-planned, after-fits, faithful-length, read-at, puts-in}
+use Rattle.mk_edit.proofs.on_plans.PlanLemmas.{lead-planned, after-fits, faithful-length, read-at, puts-in, touched-place}
 
 -- ---- the last line
 
 -- a list that is not empty, with its last element apart
-record LastApart (t : List ClassedLine) : Type 0 where
-  front : List ClassedLine
-  last : ClassedLine
-  is : t ≡ front ++ last ∷ []
+pub record LastApart (t : List ClassedLine) : Type 0 where
+  pub front : List ClassedLine
+  pub last : ClassedLine
+  pub is : t ≡ front ++ last ∷ []
 
-last-apart : (b : ClassedLine) (t : List ClassedLine) → LastApart (b ∷ t)
+pub last-apart : (b : ClassedLine) (t : List ClassedLine) → LastApart (b ∷ t)
 last-apart b [] = record { front = []; last = b; is = refl }
 last-apart b (c ∷ t) = let a = last-apart c t in record { front = b ∷ a.front; last = a.last; is = ap (λ z. b ∷ z) a.is }
 
-last_passes-last : (p : ClassedLine → Bool) (front : List ClassedLine) (l : ClassedLine) → last_passes p (front ++ l ∷ []) ≡ p l
+pub last_passes-last : (p : ClassedLine → Bool) (front : List ClassedLine) (l : ClassedLine) → last_passes p (front ++ l ∷ []) ≡ p l
 last_passes-last p [] l = refl
 last_passes-last p (x ∷ []) l = refl
 last_passes-last p (x ∷ y ∷ front) l = last_passes-last p (y ∷ front) l
@@ -54,12 +55,8 @@ last-shown [] l = refl
 last-shown (x ∷ []) l = refl
 last-shown (x ∷ y ∷ front) l = last-shown (y ∷ front) l
 
-append-one : (xs : List ClassedLine) (y : ClassedLine) (ys : List ClassedLine) → (xs ++ y ∷ []) ++ ys ≡ xs ++ y ∷ ys
-append-one [] y ys = refl
-append-one (x ∷ xs) y ys = ap (λ z. x ∷ z) (append-one xs y ys)
-
 -- a line end has some bytes
-some-end : (e : End) → has_no_line_end e ≡ false → 0 < length (line_end_bytes e)
+pub some-end : (e : End) → has_no_line_end e ≡ false → 0 < length (line_end_bytes e)
 some-end end.None h = absurd (cc)
 some-end end.Lf h = omega arith
 some-end end.CrLf h = omega arith
@@ -201,7 +198,7 @@ line-put_in e ls rs s at m f h i place b =
       place = place;
       one = Q.one;
       none_gone = Q.none;
-      ends = ap (ended_by ls) i ∙ ap (λ n. if follows_unended ls n then 1 else 0) place;
+      ends = ap (ended_by ls) (touched-place (classed_lines t) e (between s) Q.place ∙ i) ∙ ap (λ n. if follows_unended ls n then 1 else 0) place;
     }) in
     record {
       can = record {

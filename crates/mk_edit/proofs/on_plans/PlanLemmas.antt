@@ -10,7 +10,7 @@ use Rattle.mk_tree.specs.Documents.{IsFaithful, document_lines, context_of}
 use Rattle.mk_tree.specs.LineTexts.{line_in}
 use Rattle.mk_tree.specs.LocatedLines.{LocatedLine, located_line, located_lines, located_text, size_of}
 use Rattle.mk_tree.proofs.on_documents.DocumentLemmas.{faithful-own}
-use Rattle.mk_edit_language.specs.Edits.{One, Every, Edit, ChangeValue, ChangeLine, ChangePrereqs, AddLine, AddRecipe, SetRecipe, RemoveLines, RenameTarget}
+use Rattle.mk_edit_language.specs.Edits.{One, Every, Edit, ChangeValue, ChangeLine, ChangePrereqs, AddLine, AddRecipe, SetRecipe, RemoveLines, RenameTarget, ExchangeLines}
 use Rattle.mk_edit_language.specs.Stretches.{Stretch, between, insertion, touched_by}
 use Rattle.mk_edit_language.specs.Costs.{cost, size}
 use Rattle.mk_edit_language.specs.KeptLines.{edited_bytes, new_line_bytes}
@@ -22,7 +22,7 @@ use Rattle.mk_patch.proofs.on_moves.ShapeLemmas.{LeadTo, same-lead}
 use Rattle.mk_edit_language.specs.declared.refusal.Refusal.{Refusal}
 use Rattle.mk_edit_language.specs.declared.refusal.Refusal.TheVariants.{NoMemory}
 use Rattle.mk_edit_parts.proofs.CauseLemmas.{unrefused}
-use Rattle.mk_edit.specs.Planned.{IsPlanned, IsRefusal, Plans, ReadsAnew, ended_lines}
+use Rattle.mk_edit.specs.Planned.{IsPlanned, IsRefusal, Plans, ReadsAnew, ended_lines, new_lines_place}
 use Rattle.mk_edit.specs.PlannedMoves.{line_read_at}
 
 -- moves that lead from the lines of the text to those after the edit are what is planned
@@ -84,6 +84,11 @@ removed-none_put t (AddLine p l) rs s h = absurd (cc)
 removed-none_put t (AddRecipe nth g p c) rs s h = absurd (cc)
 removed-none_put t e rs s h = refl
 
+-- an edit that touches lines of one place puts new lines only where it puts one in
+pub touched-place : (ls : List ClassedLine) (e : Edit) (s : Stretch) → touched_by ls e ≡ Some s → new_lines_place ls e ≡ insertion ls e
+touched-place ls (ExchangeLines x ts) s h = absurd (cc)
+touched-place ls e s h = refl
+
 -- an edit that leaves one line where it touches one line reads that line again, and replaces one line
 pub record ChangesOne (t : List ℕ) (e : Edit) : Type 0 where
   pub cost_is : cost t e ≡ 1
@@ -99,6 +104,7 @@ changes-one t (AddLine p l) rs s m h few k = absurd (touched-some (insertion (cl
 changes-one t (AddRecipe nth g p c) rs s m h few k = absurd (touched-some (insertion (classed_lines t) (AddRecipe nth g p c)) s h few)
 changes-one t (RemoveLines r) rs s m h few k = absurd (cc)
 changes-one t (RenameTarget o n) rs s m h few k = absurd (cc)
+changes-one t (ExchangeLines x ts) rs s m h few k = absurd (cc)
 
 -- what is known of an edit that puts a line in
 pub record PutsIn (t : List ℕ) (e : Edit) (rs : List Replacement) (s : Stretch) : Type 0 where

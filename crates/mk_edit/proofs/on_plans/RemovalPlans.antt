@@ -50,7 +50,7 @@ drop-located (suc n) (l ∷ ls) = drop-located n ls
 same_stretch : (a b c d e f : List ClassedLine) → a ≡ d → b ≡ e → c ≡ f → record { above = a; lines = b; below = c } ≡ (let s : Stretch = record { above = d; lines = e; below = f } in s)
 same_stretch a b c d e f h k i = rw (h, k, i) refl
 
-stretch-is : (ls : List ClassedLine) (s : Stretch) (at count : ℕ) → ls ≡ s.above ++ (s.lines ++ s.below) → length s.above ≡ at → length s.lines ≡ count → stretch_at ls at count ≡ s
+pub stretch-is : (ls : List ClassedLine) (s : Stretch) (at count : ℕ) → ls ≡ s.above ++ (s.lines ++ s.below) → length s.above ≡ at → length s.lines ≡ count → stretch_at ls at count ≡ s
 stretch-is ls s at count h p n =
     let rest = s.lines ++ s.below in
     let above : take at ls ≡ s.above = ap (take at) h ∙ (ap (λ k. take k (s.above ++ rest)) (sym p) ∙ take-append_seam s.above rest) in

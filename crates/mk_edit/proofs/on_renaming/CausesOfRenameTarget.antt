@@ -1,5 +1,5 @@
 -- The causes of a rename in their order, and what decides each.
-use Rattle.std.proofs.Common.{◌≡◌, refl, sym, ap, ◌∙◌, arith, ℕ, ◌+◌, ◌*◌, ◌<◌, ◌&&◌, Bool, false, not, List, [], ◌∷◌, length, Option, Some, None}
+use Rattle.std.proofs.Common.{◌≡◌, refl, sym, ap, ◌∙◌, arith, ℕ, ◌+◌, ◌*◌, ◌<◌, ◌&&◌, Bool, false, not, List, [], ◌∷◌, drop, length, Option, Some, None}
 use Rattle.std.specs.List.{list_any}
 use Rattle.std.specs.Prelude.{nat_lt}
 use Rattle.std.proofs.lemmas.Bool.{and_parts, not-true}
@@ -13,7 +13,7 @@ use Rattle.mk_class.specs.Texts.{is_one_of}
 use Rattle.mk_tree.specs.Documents.{IsFaithful}
 use Rattle.mk_tree.specs.LocatedLines.{LocatedLine, located_text, size_of}
 use Rattle.mk_tree.proofs.on_changes.Sizes.{size_of-text}
-use Rattle.mk_edit_language.specs.Edits.{Edit, RenameTarget}
+use Rattle.mk_edit_language.specs.Edits.{Edit, RenameTarget, ExchangeLines}
 use Rattle.mk_edit_language.specs.Addresses.{is_a_target, targets_of}
 use Rattle.mk_edit_language.specs.ArgumentCauses.{bad_argument, reserved}
 use Rattle.mk_edit_language.specs.AddressCauses.{ambiguous, begins_some_renamed_line, is_unread_prefix, no_such, prefix_led, unread_prefix}
@@ -76,9 +76,13 @@ after_fields ls e long =
 
 -- a bad field is told first, and then a reserved name
 pub bad-first : (t : List ℕ) (ls : List ClassedLine) (e : Edit) (r : Refusal) → bad_argument e ≡ Some r → Some r ≡ first_cause (causes t ls e)
+bad-first t ls (ExchangeLines s ts) r h = sym (holds (bad_argument (ExchangeLines s ts)) (drop 1 (causes t ls (ExchangeLines s ts))) r h)
 bad-first t ls e r h = sym (holds (bad_argument e) (reserved e ∷ after_fields ls e (too_long t (spans_of t ls e))) r h)
 
 pub reserved-first : (t : List ℕ) (ls : List ClassedLine) (e : Edit) (r : Refusal) → bad_argument e ≡ None → reserved e ≡ Some r → Some r ≡ first_cause (causes t ls e)
+reserved-first t ls (ExchangeLines s ts) r b h =
+    let after = drop 2 (causes t ls (ExchangeLines s ts)) in
+    sym (passed (bad_argument (ExchangeLines s ts)) (reserved (ExchangeLines s ts) ∷ after) (Some r) b (holds (reserved (ExchangeLines s ts)) after r h))
 reserved-first t ls e r b h =
     let after = after_fields ls e (too_long t (spans_of t ls e)) in
     sym (passed (bad_argument e) (reserved e ∷ after) (Some r) b (holds (reserved e) after r h))

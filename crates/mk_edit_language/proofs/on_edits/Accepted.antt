@@ -1,24 +1,39 @@
 -- What it says of an edit that no cause refuses it.
-use Rattle.std.proofs.Common.{◌≡◌, refl, ℕ, List, [], ◌∷◌, Bool, true, false, not, Option, Some, None, is_some}
+use Rattle.std.proofs.Common.{◌≡◌, refl, ap, ◌∙◌, ℕ, List, [], ◌∷◌, Bool, true, false, not, Option, Some, None, is_some}
 use Rattle.std.specs.Prelude.{Ok}
 use Rattle.mk_lines.specs.Pieces.{Replacement}
-use Rattle.mk_class.specs.ClassedLines.{classed_lines}
+use Rattle.mk_class.specs.ClassedLines.{ClassedLine, classed_lines}
 use Rattle.mk_tree.specs.LineTexts.{StandingLine}
-use Rattle.mk_edit_language.specs.Edits.{Edit}
+use Rattle.mk_edit_language.specs.Edits.{Edit, ExchangeLines}
 use Rattle.mk_edit_language.specs.Spots.{nth_of, picked}
+use Rattle.mk_edit_language.specs.LineRuns.{site_found}
 use Rattle.mk_edit_language.specs.EditSpans.{spans_of}
 use Rattle.mk_edit_language.specs.Causes.{where_holds}
 use Rattle.mk_edit_language.specs.ArgumentCauses.{FieldTest, Tested, first_failed, bad_argument, reserved}
 use Rattle.mk_edit_language.specs.AddressCauses.{unread_prefix, no_such, ambiguous, prefix_led, is_missing, is_several}
 use Rattle.mk_edit_language.specs.RuleCauses.{absent, already, taken, shared_rule, straddles}
 use Rattle.mk_edit_language.specs.LineCauses.{open_value, open_line, open_define, leaning, too_long, misread}
-use Rattle.mk_edit_language.specs.Refusals.{first_cause, unless_refused, causes, spans}
+use Rattle.mk_edit_language.specs.ExchangeCauses.{exchange_causes}
+use Rattle.mk_edit_language.specs.Refusals.{first_cause, unless_refused, item_causes, causes, spans}
+use Rattle.mk_edit_language.specs.KeptLines.{IsOfOnePlace}
 use Rattle.mk_edit_language.specs.declared.refusal.Field.{Field}
 use Rattle.mk_edit_language.specs.declared.refusal.Refusal.{Refusal}
 
 pub none-first : (o : Option Refusal) (cs : List (Option Refusal)) → first_cause (o ∷ cs) ≡ None → (o ≡ None) × (first_cause cs ≡ None)
 none-first None cs h = (refl, h)
 none-first (Some r) cs h = absurd (cc)
+
+-- no cause of some causes holds
+abbrev NoCause : List (Option Refusal) → Type 0
+NoCause [] = Unit {0}
+NoCause (c ∷ cs) = (c ≡ None) × NoCause cs
+
+pub no-cause : (cs : List (Option Refusal)) → first_cause cs ≡ None → NoCause cs
+no-cause [] h = tt
+no-cause (c ∷ cs) h = let p = none-first c cs h in (p.0, no-cause cs p.1)
+
+passed-over : (o : Option Refusal) (cs : List (Option Refusal)) → o ≡ None → first_cause cs ≡ None → first_cause (o ∷ cs) ≡ None
+passed-over o cs h k = ap (λ z. first_cause (z ∷ cs)) h ∙ k
 
 -- a cause that is nothing does not hold
 pub where_holds-none : (b : Bool) (r : Refusal) → where_holds b r ≡ None → b ≡ false
@@ -50,12 +65,27 @@ pub record IsAccepted (t : List ℕ) (e : Edit) (rs : List Replacement) : Type 0
   pub not_misread : misread (classed_lines t) e ≡ None
   pub spans_are : spans_of t (classed_lines t) e ≡ rs
 
+-- the causes of an edit that means lines by a name or a target do not hold of one of whole lines, but for those that it has too
+no-item_cause : (t : List ℕ) (ls : List ClassedLine) (e : Edit) → first_cause (causes t ls e) ≡ None → first_cause (item_causes t ls e) ≡ None
+no-item_cause t ls (ExchangeLines s ts) h =
+    let e = ExchangeLines s ts in
+    let n = no-cause (exchange_causes t ls s ts (site_found ls s)) h in
+    passed-over (bad_argument e) _ n.0
+    (passed-over (reserved e) _ n.1.0
+    (passed-over (unread_prefix ls) _ n.1.1.0 (passed-over (too_long t (spans_of t ls e)) (None ∷ []) n.1.1.1.1.1.1.1.1.1.0 refl)))
+no-item_cause t ls e h = h
+
+-- an edit of one place means lines by a name or a target
+pub one_place-causes : (t : List ℕ) (ls : List ClassedLine) (e : Edit) → IsOfOnePlace e → causes t ls e ≡ item_causes t ls e
+one_place-causes t ls (ExchangeLines s ts) p = absurd p
+one_place-causes t ls e p = refl
+
 -- no cause of an edit with spans holds
 pub accepted : (t : List ℕ) (e : Edit) (rs : List Replacement) → spans t e ≡ Ok rs → IsAccepted t e rs
 accepted t e rs h =
     let ls = classed_lines t in
     let u = unrefused (first_cause (causes t ls e)) (spans_of t ls e) rs h in
-    let a = none-first (bad_argument e) _ u.0 in
+    let a = none-first (bad_argument e) _ (no-item_cause t ls e u.0) in
     let b = none-first (reserved e) _ a.1 in
     let c = none-first (unread_prefix ls) _ b.1 in
     let d = none-first (no_such ls e) _ c.1 in

@@ -13,7 +13,7 @@ use Rattle.mk_class.specs.ClassTable.{class_of}
 use Rattle.mk_tree.specs.Documents.{text_of, context_of}
 use Rattle.mk_tree.specs.Items.{Assign as AssignItem, Recipe, header_item}
 use Rattle.mk_tree.specs.LineTexts.{StandingLine}
-use Rattle.mk_edit_language.specs.Edits.{Place, NewLine, NewAssign, NewRule, One, Every, ValueChange, LineChange, PrereqChange, AddPrereq, RemovePrereq, RecipeLine, ByNumber, ByText, RecipePlace, Removal, Edit, ChangeValue, ChangeLine, ChangePrereqs, AddLine, AddRecipe, SetRecipe, RemoveLines, RenameTarget}
+use Rattle.mk_edit_language.specs.Edits.{Place, NewLine, NewAssign, NewRule, One, Every, ValueChange, LineChange, PrereqChange, AddPrereq, RemovePrereq, RecipeLine, ByNumber, ByText, RecipePlace, Removal, Edit, ChangeValue, ChangeLine, ChangePrereqs, AddLine, AddRecipe, SetRecipe, RemoveLines, RenameTarget, ExchangeLines}
 use Rattle.mk_edit_language.specs.Stretches.{Stretch, this_line}
 use Rattle.mk_edit_language.specs.ValueChanges.{assignment_spans, value_spans, change_spans}
 use Rattle.mk_edit_language.specs.LineChanges.{line_pieces, line_change_spans, assigned_after, line_after, fits_line, reads_as, is_misread}
@@ -182,3 +182,4 @@ one_place-made (SetRecipe nth g w c) p t rs h = set_recipe-made nth g w c t rs h
 one_place-made (RemoveLines r) p t rs h = remove-made r t rs h
 one_place-made (ChangeValue Every n c) p t rs h = absurd p
 one_place-made (RenameTarget o n) p t rs h = absurd p
+one_place-made (ExchangeLines s ts) p t rs h = absurd p

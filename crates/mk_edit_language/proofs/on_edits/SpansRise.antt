@@ -32,7 +32,7 @@ use Rattle.mk_tree.specs.Documents.{text_of, context_of}
 use Rattle.mk_tree.proofs.on_documents.LinesInText.{line-in_text, run-in_text, AreClassed, AreClassed-class, AreClassed-tail, AreClassed-lines}
 use Rattle.mk_tree.proofs.on_documents.DocumentLemmas.{text_of-classed_lines}
 use Rattle.mk_tree.specs.LineTexts.{StandingLine}
-use Rattle.mk_edit_language.specs.Edits.{ValueChange, Set, Append, Add, Remove, One, Every, LineChange, Prepend, ReplaceWord, InsertWord, Substitute, SetOperator, PrereqChange, AddPrereq, RemovePrereq, Edit, ChangeValue, ChangeLine, ChangePrereqs, AddLine, AddRecipe, SetRecipe, RemoveLines, RenameTarget}
+use Rattle.mk_edit_language.specs.Edits.{Site, ValueChange, Set, Append, Add, Remove, One, Every, LineChange, Prepend, ReplaceWord, InsertWord, Substitute, SetOperator, PrereqChange, AddPrereq, RemovePrereq, Edit, ChangeValue, ChangeLine, ChangePrereqs, AddLine, AddRecipe, SetRecipe, RemoveLines, RenameTarget, ExchangeLines}
 use Rattle.mk_edit_language.specs.Addresses.{Variable, Rule, found}
 use Rattle.mk_edit_language.specs.Stretches.{Stretch, this_line, between, place_found, recipe_place, recipe_found, touched_by}
 use Rattle.mk_edit_language.specs.NewLines.{new_line_span}
@@ -41,6 +41,8 @@ use Rattle.mk_edit_language.specs.LineChanges.{tokens_beside, begins_with, subst
 use Rattle.mk_edit_language.proofs.on_values.RemoveWordLemmas.{remove_word-old}
 use Rattle.mk_edit_language.specs.WordPieces.{add_pieces, remove_pieces, rename_pieces, renamed_pieces, header_pieces, kept, put_last, prerequisite_text, removed_words, renamed_words}
 use Rattle.mk_edit_language.proofs.on_prerequisites.WordsRemoved.{removed-old_cells}
+use Rattle.mk_edit_language.specs.LineRuns.{site_found}
+use Rattle.mk_edit_language.specs.LineExchanges.{exchange_span}
 use Rattle.mk_edit_language.specs.EditSpans.{removed_span, header_spans, word_spans, prereq_pieces, spans_in_lines, renamed_line_spans, recipe_span, where_found, spans_of}
 use Rattle.mk_edit_language.specs.Refusals.{spans, text_by, text_after}
 use Rattle.mk_edit_language.proofs.on_edits.Accepted.{accepted}
@@ -50,6 +52,7 @@ use Rattle.mk_edit_language.proofs.on_recipes.RecipeClassLemmas.{recipe-stands}
 use Rattle.mk_edit_language.proofs.on_lines.SpotLemmas.{recipe_found-is}
 use Rattle.mk_edit_language.proofs.on_lines.PrefixLemmas.{CanBegin, context-can_begin}
 use Rattle.mk_edit_language.proofs.on_edits.EditPlaces.{IsSpotOf, found-spot, touched-stretch}
+use Rattle.mk_edit_language.proofs.on_line_runs.SitesFound.{site-stretch}
 use Rattle.mk_edit_language.proofs.on_lines.ClassParts.{part_units, parts-within, raw_width-append}
 use Rattle.mk_edit_language.proofs.on_renames.WordsRenamed.{renamed-old_cells}
 use Rattle.mk_edit_language.proofs.on_changes.WordsBeside.{beside-old_cells}
@@ -428,6 +431,7 @@ spans-within t (SetRecipe nth g w c) s h =
 spans-within t (RemoveLines r) s h = subst (λ (o : Option Stretch). RiseWithin s (where_found removed_span o)) (sym h) (omega arith, omega arith, omega arith)
 spans-within t (ChangeValue Every n c) s h = absurd (cc)
 spans-within t (RenameTarget o n) s h = absurd (cc)
+spans-within t (ExchangeLines q ts) s h = absurd (cc)
 
 -- so they rise within the text
 rise-touched : (t : List ℕ) (rs : List Replacement) (s : Stretch) → classed_lines t ≡ s.above ++ (s.lines ++ s.below) → RiseWithin s rs → Rise 0 (length t) rs
@@ -450,6 +454,14 @@ rise-one_place t e none = go (touched_by (classed_lines t) e) refl
     go None h = subst (Rise 0 (length t)) (sym (none h)) (omega arith)
     go (Some s) h = rise-touched t _ s (touched-stretch (classed_lines t) e s h) (spans-within t e s h)
 
+-- the span of whole lines rises within the text
+rise-exchanged : (t : List ℕ) (site : Site) (ts : List (List ℕ)) → Rise 0 (length t) (spans_of t (classed_lines t) (ExchangeLines site ts))
+rise-exchanged t site ts = go (site_found (classed_lines t) site) refl
+  where
+    go : (o : Option Stretch) → site_found (classed_lines t) site ≡ o → Rise 0 (length t) (where_found (exchange_span t ts) o)
+    go None h = omega arith
+    go (Some s) h = rise-touched t (exchange_span t ts s) s (site-stretch (classed_lines t) site s h) (omega arith, omega arith, omega arith)
+
 -- the spans of each edit rise within the text
 pub spans-rise : (t : List ℕ) (e : Edit) → Rise 0 (length t) (spans_of t (classed_lines t) e)
 spans-rise t (ChangeValue (One nth) n c) = rise-one_place t (ChangeValue (One nth) n c) (no-spans (value_spans (change_spans c)) this_line (found (classed_lines t) (Variable nth n)))
@@ -461,6 +473,7 @@ spans-rise t (SetRecipe nth g w c) = rise-one_place t (SetRecipe nth g w c) (no-
 spans-rise t (RemoveLines r) = rise-one_place t (RemoveLines r) (ap (where_found removed_span))
 spans-rise t (ChangeValue Every n c) = rise-all_lines (changed_line_spans n c) (rise-changed n c) t
 spans-rise t (RenameTarget o n) = rise-all_lines (renamed_line_spans o n) (rise-renamed o n) t
+spans-rise t (ExchangeLines s ts) = rise-exchanged t s ts
 
 -- The law: of an accepted edit the spans rise within the text, and the bytes outside them are as before.
 pub only_spans-replaced : (t : List ℕ) (e : Edit) (rs : List Replacement) → spans t e ≡ Ok rs → IsReplacedAt t (text_after t e) rs

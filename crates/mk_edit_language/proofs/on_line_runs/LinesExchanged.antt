@@ -9,49 +9,42 @@ use Rattle.mk_lines.specs.LogicalLines.{logical_lines, has_no_line_end, ends_wit
 use Rattle.mk_lines.specs.declared.ends.End.{End}
 use Rattle.mk_lines.specs.declared.ends.End.TheVariants as ends
 use Rattle.mk_lines.proofs.on_lines.LineLemmas.{Ends, EndsBefore}
-use Rattle.mk_lines.specs.Pieces.{Replacement, replaced}
+use Rattle.mk_lines.specs.Pieces.{Replacement}
 use Rattle.mk_class.specs.ListTests.{is_empty, last_passes}
 use Rattle.mk_class.specs.Arguments.{is_clean}
 use Rattle.mk_class.specs.Contexts.{Context, start, context_after, max_conditionals}
 use Rattle.mk_class.specs.ClassedLines.{ClassedLine, classed, classed_lines, context_after_lines}
 use Rattle.mk_tree.specs.Documents.{text_of, context_of, most_conditionals}
 use Rattle.mk_tree.specs.Items.{items}
+use Rattle.mk_tree.specs.Readings.{reading}
 use Rattle.mk_tree.specs.Leaning.{AgreeButForFlag}
 use Rattle.mk_tree.specs.NewLineEnds.{lacks_line_end, above_ended, missing_line_end}
 use Rattle.mk_tree.proofs.on_changes.NewLineLemmas.{file_line_end-some}
 use Rattle.mk_tree.proofs.on_changes.RunsReplaced.{text-run_replaced, run-replaced_keeping, Ends-nothing}
 use Rattle.mk_tree.proofs.on_documents.LinesInText.{bytes_of, reading-three}
+use Rattle.mk_edit_language.specs.Edits.{Site, Top, AtPlace, BeforeRun, AfterRun, OfRun, ExchangeLines}
 use Rattle.mk_edit_language.specs.Spots.{nth_of, picked}
 use Rattle.mk_edit_language.specs.Stretches.{Stretch}
-use Rattle.mk_edit_language.specs.EditSpans.{where_found}
+use Rattle.mk_edit_language.specs.EditSpans.{where_found, spans_of}
 use Rattle.mk_edit_language.specs.RisingSpans.{Rise}
 use Rattle.mk_edit_language.specs.Costs.{line_count}
-use Rattle.mk_edit_language.specs.ArgumentCauses.{first_failed, is_place}
+use Rattle.mk_edit_language.specs.Changes.{with_new_lines, change}
+use Rattle.mk_edit_language.specs.ArgumentCauses.{first_failed, is_place, exchange_tests}
 use Rattle.mk_edit_language.specs.LineCauses.{follows_open_line}
-use Rattle.mk_edit_language.specs.Refusals.{first_cause, unless_refused}
-use Rattle.mk_edit_language.specs.LineRuns.{Site, Top, AtPlace, BeforeRun, AfterRun, OfRun, is_block, site_number, site_stretches, site_found}
-use Rattle.mk_edit_language.specs.LineExchanges.{with_line_ends, last_line_end, block_text, new_lines, exchange_span, with_new_lines, block_field, exchange_tests, has_no_stretch, has_several_stretches, agree_but_for_flag, is_exchange_misread, leans_in, exchange_leans, exchange_spans, exchange_causes}
-use Rattle.mk_edit_language.specs.LineLaws.{AreLinesExchanged, LinesExchangedReadAsChanged}
-use Rattle.mk_edit_language.proofs.on_edits.Accepted.{where_holds-none, first-passed, two-passed}
+use Rattle.mk_edit_language.specs.Refusals.{first_cause, spans, text_by, text_after}
+use Rattle.mk_edit_language.specs.LineRuns.{is_block, site_number, site_stretches, site_found}
+use Rattle.mk_edit_language.specs.LineExchanges.{with_line_ends, last_line_end, block_text, new_lines, exchange_span}
+use Rattle.mk_edit_language.specs.ExchangeCauses.{has_no_stretch, has_several_stretches, agree_but_for_flag, is_exchange_misread, leans_in, exchange_leans, exchange_causes}
+use Rattle.mk_edit_language.specs.LinesExchanged.{AreLinesExchanged}
+use Rattle.mk_edit_language.proofs.on_edits.Accepted.{no-cause, unrefused, where_holds-none, first-passed, two-passed}
 use Rattle.mk_edit_language.proofs.on_line_runs.SitesFound.{site-stretch}
 use Rattle.mk_edit_language.proofs.on_line_runs.BlockEnds.{block-ends, last_line_end-some}
 use Rattle.mk_edit_language.proofs.on_line_runs.LinesAbove.{AreAboveEnded, above-ended, last-has_end}
 use Rattle.mk_edit_language.proofs.on_line_runs.BlockNumbers.{block-number, length-classed}
 use Rattle.mk_edit_language.specs.declared.refusal.Field.TheVariants as field
-use Rattle.mk_edit_language.specs.declared.refusal.Refusal.{Refusal}
 use Rattle.mk_edit_language.specs.declared.refusal.Refusal.TheVariants.{NoSuch, Ambiguous, OpenLine, Leans, Misread}
 
 -- ---- what it says that no cause holds
-
--- no cause of some causes holds
-abbrev NoCause : List (Option Refusal) → Type 0
-NoCause [] = Unit {0}
-NoCause (c ∷ cs) = (c ≡ None) × NoCause cs
-
-no_cause : (cs : List (Option Refusal)) (rs rs' : List Replacement) → unless_refused (first_cause cs) rs ≡ Ok rs' → NoCause cs × (rs ≡ rs')
-no_cause [] rs rs' h = let e : rs ≡ rs' = cc in (tt, e)
-no_cause (None ∷ cs) rs rs' h = let p = no_cause cs rs rs' h in ((refl, p.0), p.1)
-no_cause (Some r ∷ cs) rs rs' h = absurd (cc)
 
 -- the causes that the proof needs, and the spans
 record IsAccepted (t : List ℕ) (s : Site) (ts : List (List ℕ)) (found : Option Stretch) (rs : List Replacement) : Type 0 where
@@ -61,24 +54,25 @@ record IsAccepted (t : List ℕ) (s : Site) (ts : List (List ℕ)) (found : Opti
   closed : follows_open_line found ≡ false
   read : is_exchange_misread t ts found ≡ false
   free : exchange_leans t ts found ≡ false
-  spans_are : exchange_spans t ts found ≡ rs
+  spans_are : where_found (exchange_span t ts) found ≡ rs
 
-accepted : (t : List ℕ) (s : Site) (ts : List (List ℕ)) (found : Option Stretch) (rs : List Replacement)
-    → unless_refused (first_cause (exchange_causes t (classed_lines t) s ts found)) (exchange_spans t ts found) ≡ Ok rs → IsAccepted t s ts found rs
-accepted t s ts found rs h =
+accepted : (t : List ℕ) (s : Site) (ts : List (List ℕ)) (rs : List Replacement) → spans t (ExchangeLines s ts) ≡ Ok rs → IsAccepted t s ts (site_found (classed_lines t) s) rs
+accepted t s ts rs h =
     let ls = classed_lines t in
-    let p = no_cause (exchange_causes t ls s ts found) (exchange_spans t ts found) rs h in
-    let from_no_such = p.0.1.1.1 in
+    let causes = exchange_causes t ls s ts (site_found ls s) in
+    let u = unrefused (first_cause causes) (spans_of t ls (ExchangeLines s ts)) rs h in
+    let n = no-cause causes u.0 in
+    let from_no_such = n.1.1.1 in
     let from_open_line = from_no_such.1.1.1.1 in
     let from_misread = from_open_line.1.1.1 in
     record {
-      fields = p.0.0;
+      fields = n.0;
       is_there = where_holds-none _ NoSuch from_no_such.0;
       is_one = where_holds-none _ (Ambiguous (length (site_stretches ls s))) from_no_such.1.1.0;
       closed = where_holds-none _ OpenLine from_open_line.0;
       read = where_holds-none _ Misread from_misread.0;
       free = where_holds-none _ Leans from_misread.1.0;
-      spans_are = p.1;
+      spans_are = u.1;
     }
 
 -- a site that is neither missing nor one of several means a stretch
@@ -101,11 +95,11 @@ block-tested s ts h = go s h
     right false b h = h
 
     go : (s : Site) → first_failed (exchange_tests s ts) ≡ None → (is_empty ts || is_block ts) ≡ true
-    go Top h = right (is_empty ts) (is_block ts) (first-passed block_field (is_block ts) [] h).0
-    go (AtPlace p) h = right (is_empty ts) (is_block ts) (two-passed field.Place block_field (is_place p) (is_block ts) h).1
-    go (BeforeRun nth o) h = right (is_empty ts) (is_block ts) (two-passed field.Place block_field (is_block o) (is_block ts) h).1
-    go (AfterRun nth o) h = right (is_empty ts) (is_block ts) (two-passed field.Place block_field (is_block o) (is_block ts) h).1
-    go (OfRun nth o) h = (two-passed field.Old block_field (is_block o) (is_empty ts || is_block ts) h).1
+    go Top h = right (is_empty ts) (is_block ts) (first-passed field.Block (is_block ts) [] h).0
+    go (AtPlace p) h = right (is_empty ts) (is_block ts) (two-passed field.Place field.Block (is_place p) (is_block ts) h).1
+    go (BeforeRun nth o) h = right (is_empty ts) (is_block ts) (two-passed field.Place field.Block (is_block o) (is_block ts) h).1
+    go (AfterRun nth o) h = right (is_empty ts) (is_block ts) (two-passed field.Place field.Block (is_block o) (is_block ts) h).1
+    go (OfRun nth o) h = (two-passed field.Old field.Block (is_block o) (is_empty ts || is_block ts) h).1
 
 both-false : (a b : Bool) → (not a && not b) ≡ true → (a ≡ false) × (b ≡ false)
 both-false true b h = absurd (cc)
@@ -204,17 +198,24 @@ most-within m n h = omega (arith, ltb-false m n h)
 rise-one : (a n : ℕ) (v : List ℕ) → Rise a (a + n) (record { start = a; end = a + n; new = v } ∷ [])
 rise-one a n v = (omega arith, omega arith, omega arith)
 
--- ---- the law
+-- ---- the laws
+
+-- What is known of an accepted exchange of whole lines: what it leaves, and what the text after it reads as.
+pub record AreMade (site : Site) (ts : List (List ℕ)) (t : List ℕ) (rs : List Replacement) : Type 0 where
+  pub kept : AreLinesExchanged site ts t rs
+  pub reads : reading (text_after t (ExchangeLines site ts)) ≡ change t (ExchangeLines site ts)
 
 -- at a stretch of the text
 at-stretch : (t : List ℕ) (site : Site) (ts : List (List ℕ)) (above run below : List ClassedLine) → site_found (classed_lines t) site ≡ Some (record { above = above; lines = run; below = below })
+    → spans t (ExchangeLines site ts) ≡ Ok (exchange_span t ts (record { above = above; lines = run; below = below }))
     → classed_lines t ≡ above ++ (run ++ below) → (is_empty ts || is_block ts) ≡ true
     → follows_open_line (Some (record { above = above; lines = run; below = below })) ≡ false
     → is_exchange_misread t ts (Some (record { above = above; lines = run; below = below })) ≡ false
     → exchange_leans t ts (Some (record { above = above; lines = run; below = below })) ≡ false
-    → AreLinesExchanged t site ts (exchange_span t ts (record { above = above; lines = run; below = below }))
-at-stretch t site ts above run below found h block closed read free =
+    → AreMade site ts t (exchange_span t ts (record { above = above; lines = run; below = below }))
+at-stretch t site ts above run below found spans_are h block closed read free =
     let s : Stretch = record { above = above; lines = run; below = below } in
+    let edit = ExchangeLines site ts in
     let e = file_line_end t in
     let c = context_of above in
     let v = block_text t ts s in
@@ -222,39 +223,41 @@ at-stretch t site ts above run below found h block closed read free =
     let A : AreAboveEnded above run below (above_ended e above below) (missing_line_end e above below) = above-ended t above run below e h closed (file_line_end-some t) in
     let many : most_conditionals c.conditionals new ≤ max_conditionals = most-within max_conditionals (most_conditionals c.conditionals new) (or-left_false _ _ read) in
     let agree : AgreeButForFlag (context_after_lines c run) (context_after_lines c new) = agree-parts (context_after_lines c run) (context_after_lines c new) (or-right_false _ _ (or-right_false _ _ read)) in
-    let text : replaced 0 t (exchange_span t ts s) ≡ text_of above ++ ((missing_line_end e above below ++ v) ++ text_of below) = text-run_replaced t above run below (missing_line_end e above below ++ v) h in
-    let after : classed_lines (replaced 0 t (exchange_span t ts s)) ≡ above_ended e above below ++ (new ++ below) =
+    let text : text_after t edit ≡ text_of above ++ ((missing_line_end e above below ++ v) ++ text_of below) = ap (text_by t) spans_are ∙ text-run_replaced t above run below (missing_line_end e above below ++ v) h in
+    let after : classed_lines (text_after t edit) ≡ above_ended e above below ++ (new ++ below) =
     ap classed_lines text ∙ exchanged t above run below e v new (above_ended e above below) (missing_line_end e above below) A refl (new-ends t ts above run below h block) agree free in
     record {
-      stretch = s;
-      place = found;
-      before = h;
-      after = after;
+      kept = record {
+        stretch = s;
+        place = found;
+        before = h;
+        after = after;
+        within = rise-one (length (text_of above)) (length (text_of run)) (missing_line_end e above below ++ v);
+        number_new = length-classed c (logical_lines v) ∙ block-number t ts run block;
+        number_gone = sym (ap line_count found);
+        depth = λ k.
+            subst (λ (z : List ClassedLine). most_conditionals 0 z ≤ max_conditionals) (sym after)
+            (most-exchanged start (above_ended e above below) run new below max_conditionals
+            (subst (λ (z : Context). most_conditionals z.conditionals new ≤ max_conditionals) (sym A.same_context) many)
+            (subst (λ (z : Context). (context_after_lines z run).conditionals ≡ (context_after_lines z new).conditionals) (sym A.same_context) agree.conditionals)
+            (subst (λ z. z ≤ max_conditionals) (sym A.same_most) (subst (λ (z : List ClassedLine). most_conditionals 0 z ≤ max_conditionals) h k)));
+      };
       reads =
-          reading-three (replaced 0 t (exchange_span t ts s)) (above_ended e above below) new below after
+          reading-three (text_after t edit) (above_ended e above below) new below after
           ∙ (ap (λ z. z ++ (items new ++ items below)) A.same_items ∙ sym (ap (where_found (with_new_lines t ts)) found));
-      within = rise-one (length (text_of above)) (length (text_of run)) (missing_line_end e above below ++ v);
-      number_new = length-classed c (logical_lines v) ∙ block-number t ts run block;
-      number_gone = sym (ap line_count found);
-      depth = λ k.
-          subst (λ (z : List ClassedLine). most_conditionals 0 z ≤ max_conditionals) (sym after)
-          (most-exchanged start (above_ended e above below) run new below max_conditionals
-          (subst (λ (z : Context). most_conditionals z.conditionals new ≤ max_conditionals) (sym A.same_context) many)
-          (subst (λ (z : Context). (context_after_lines z run).conditionals ≡ (context_after_lines z new).conditionals) (sym A.same_context) agree.conditionals)
-          (subst (λ z. z ≤ max_conditionals) (sym A.same_most) (subst (λ (z : List ClassedLine). most_conditionals 0 z ≤ max_conditionals) h k)));
     }
 
-pub lines-exchanged : LinesExchangedReadAsChanged
-lines-exchanged t site ts rs h =
+pub lines-exchanged : (site : Site) (ts : List (List ℕ)) (t : List ℕ) (rs : List Replacement) → spans t (ExchangeLines site ts) ≡ Ok rs → AreMade site ts t rs
+lines-exchanged site ts t rs h =
     let ls = classed_lines t in
-    let A : IsAccepted t site ts (site_found ls site) rs = accepted t site ts (site_found ls site) rs h in
+    let A : IsAccepted t site ts (site_found ls site) rs = accepted t site ts rs h in
     let p = stretch-picked (site_number site) (site_stretches ls site) A.is_there A.is_one in
     let s : Stretch = p.0 in
     let found : site_found ls site ≡ Some s = p.1 in
+    let spans_are : rs ≡ exchange_span t ts s = sym A.spans_are ∙ ap (where_found (exchange_span t ts)) found in
     let block = block-tested site ts A.fields in
-    let given : AreLinesExchanged t site ts (exchange_span t ts s) =
-    at-stretch t site ts s.above s.lines s.below found (site-stretch ls site s found) block
+    subst (AreMade site ts t) (sym spans_are)
+    (at-stretch t site ts s.above s.lines s.below found (h ∙ ap Ok spans_are) (site-stretch ls site s found) block
     (subst (λ (z : Option Stretch). follows_open_line z ≡ false) found A.closed)
     (subst (λ (z : Option Stretch). is_exchange_misread t ts z ≡ false) found A.read)
-    (subst (λ (z : Option Stretch). exchange_leans t ts z ≡ false) found A.free) in
-    subst (AreLinesExchanged t site ts) (sym (ap (exchange_spans t ts) found) ∙ A.spans_are) given
+    (subst (λ (z : Option Stretch). exchange_leans t ts z ≡ false) found A.free))

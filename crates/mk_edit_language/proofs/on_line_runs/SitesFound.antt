@@ -4,11 +4,11 @@ use Rattle.std.specs.Prelude.{option_and_then}
 use Rattle.std.proofs.lemmas.List.{append-nil}
 use Rattle.mk_class.specs.ClassedLines.{ClassedLine}
 use Rattle.mk_tree.specs.LineTexts.{StandingLine}
-use Rattle.mk_edit_language.specs.Edits.{Place, Bottom, BeforeVar, AfterVar, BeforeRule}
+use Rattle.mk_edit_language.specs.Edits.{Place, Bottom, BeforeVar, AfterVar, BeforeRule, Site, Top, AtPlace, BeforeRun, AfterRun, OfRun}
 use Rattle.mk_edit_language.specs.Spots.{nth_of, picked}
 use Rattle.mk_edit_language.specs.Addresses.{Address, Variable, Rule, found, candidates, nth_meant}
 use Rattle.mk_edit_language.specs.Stretches.{Stretch, IsStretchOf, before_line, after_line}
-use Rattle.mk_edit_language.specs.LineRuns.{Site, Top, AtPlace, BeforeRun, AfterRun, OfRun, texts_of, after_texts, led_by, lower, run_in_front, before_runs, runs, before_run, after_run, place_stretches, site_number, site_stretches, site_found}
+use Rattle.mk_edit_language.specs.LineRuns.{texts_of, after_texts, led_by, lower, run_in_front, before_runs, runs, before_run, after_run, place_stretches, site_number, site_stretches, site_found}
 use Rattle.mk_edit_language.proofs.on_edits.EditPlaces.{IsSpotOf, found-spot}
 
 -- ---- what is picked of a list that is mapped

@@ -14,15 +14,16 @@ pub fn lengths_add_up()
     ensures { LengthsAddUp }
 {}
 
-/// The spans of an accepted edit, other than a rename and a change of every value of a name, stand
-/// within lines that follow one another. These are at most as many lines as the edit's size says.
+/// The spans of an accepted edit, other than a rename, a change of every value of a name and an
+/// exchange of whole lines, stand within lines that follow one another. These are at most as many
+/// lines as the edit's size says.
 pub fn spans_touch_few_lines()
     ensures { SpansTouchFewLines }
 {}
 
-/// After an accepted edit, other than a rename and a change of every value of a name, the lines are
-/// the lines above those that it touches, the edited lines with their bytes and their classes, and
-/// the lines below.
+/// After an accepted edit, other than a rename, a change of every value of a name and an exchange of
+/// whole lines, the lines are the lines above those that it touches, the edited lines with their
+/// bytes and their classes, and the lines below.
 ///
 /// If the edit takes lines out, there is no edited line. If it puts a line in, the edited line is
 /// the new line with the file's line end, and a last line above it without a line end gets one.
@@ -32,8 +33,8 @@ pub fn edited_lines_stand()
     ensures { EditedLinesStand }
 {}
 
-/// Each accepted edit, of every kind, leaves the lines that its spans do not touch, and the
-/// greatest number of conditionals open at once is as before.
+/// Each accepted edit, of every kind, leaves the lines that its spans do not touch. But for an
+/// exchange of whole lines, the greatest number of conditionals open at once is as before.
 ///
 /// An edit that sets a value or appends to it, changes a recipe line, or puts in or takes out a
 /// prerequisite touches one line. A new assignment, rule or recipe line is one line more, and a
@@ -47,6 +48,13 @@ pub fn edited_lines_stand()
 /// changes it. The contexts between lines are as before. A line that the edit does not change is the
 /// same, with its class, and at most as many lines differ as the edit costs. The spans stand within
 /// the other lines, and the greatest number of conditionals open at once is as before.
+///
+/// After whole lines were put in, taken out or exchanged, the lines are the lines above, the new
+/// lines, and the lines below. The lines above and below keep their bytes and classes, except that a
+/// last line without a line end gets one if new lines follow it. The new lines have the classes that
+/// they have below the lines above: as many are new as the edit costs, and as many are gone as its
+/// size says. The spans stand within the lines that go, and no more conditionals are open at once
+/// than a document may have, if no more were before.
 pub fn edits_keep_others()
     ensures { EditsKeepOthers }
 {}

@@ -1,18 +1,21 @@
-//! The edits of variables, of rules and of recipes, by the words of scripts.
-ghost use Rattle.std.specs.Prelude.{◌≡◌, IfOk, None, true, false};
+//! The edits of variables, of rules, of recipes and of whole lines, by the words of scripts.
+ghost use Rattle.std.specs.Prelude.{◌≡◌, [], IfOk, None, true, false};
 ghost use Rattle.mk_edit_language.specs.EditViews.{edit_of, place_of};
 ghost use Rattle.mk_edit_language.specs.Edits as edits;
+ghost use Rattle.mk_edit_language.specs.LineRuns.{block_lines};
 ghost use Rattle.mk_edit_language.specs.Numbered.{numbered};
 
-use crate::edit::{Edit, LineChange, Side, ValueChange};
+use crate::edit::{Edit, LineChange, Side, Site, ValueChange};
 use crate::making::place::number_place;
+use crate::making::site::number_site;
 use mk_class::Flavor;
 use std::alloc::{AllocError, Allocator};
 
 /// Makes edits, in a call each. The calls have the words of scripts, and docs/EDITS.md says what each
 /// edit does and when it is refused. An edit means the only line of its name or target, unless
 /// [`Edit::nth`] gives it a number. The edits that put in an assignment or a rule are made of
-/// their place, by `assign` and `rule` of [`Place`].
+/// their place, by `assign` and `rule` of [`Place`], and those that put in whole lines of their
+/// site, by `insert` of [`Site`].
 ///
 /// Each call that takes an allocator has the error [`AllocError`] if there is no memory for a text.
 /// No text is looked at: a bad one is refused when the edit is made.
@@ -367,6 +370,31 @@ impl<A: Allocator + Copy> Edit<A> {
         Ok(Edit::RenameTarget { from, to })
     }
 
+    /// Puts whole lines in the place of the only ones that say a block: `line-replace OLD BLOCK`.
+    pub fn line_replace(alloc: A, old: &[u8], block: &[u8]) -> Result<Edit<A>, AllocError>
+        ensures { IfOk result (λ e. edit_of e
+            ≡ edits.ExchangeLines (edits.OfRun None (block_lines old.now)) (block_lines block.now)) }
+    {
+        let old = Vec::from_slice(alloc, old)?;
+        let block = Vec::from_slice(alloc, block)?;
+        Ok(Edit::ExchangeLines {
+            site: Site::OfLines { nth: None, old },
+            block: Some(block),
+        })
+    }
+
+    /// Takes out the only lines that say a block: `line-remove OLD`.
+    pub fn line_remove(alloc: A, old: &[u8]) -> Result<Edit<A>, AllocError>
+        ensures { IfOk result (λ e. edit_of e
+            ≡ edits.ExchangeLines (edits.OfRun None (block_lines old.now)) []) }
+    {
+        let old = Vec::from_slice(alloc, old)?;
+        Ok(Edit::ExchangeLines {
+            site: Site::OfLines { nth: None, old },
+            block: None,
+        })
+    }
+
     /// The same edit of another line of its name or target, by its number from 1: `nth N` before
     /// a command. [`number_edit`] says which number it is, and which edits have none.
     pub fn nth(mut self, number: u32) -> Edit<A>
@@ -378,7 +406,8 @@ impl<A: Allocator + Copy> Edit<A> {
 }
 
 /// Gives an edit the number of the line that it means, from 1, among the lines of the same name or
-/// target; where it puts a line in, the number of the place. The edits that mean each line of a name,
+/// target; where it puts a line in, the number of the place; and where it means whole lines, the
+/// number of their run. The edits that mean each line of a name,
 /// those by [`Edit::rename`] and the calls that begin with `all`, have no number and stay. Takes
 /// no memory.
 pub fn number_edit<A: Allocator>(edit: &mut Edit<A>, number: u32)
@@ -402,6 +431,7 @@ pub fn number_edit<A: Allocator>(edit: &mut Edit<A>, number: u32)
         Edit::RemoveRecipeByText { nth, .. } => *nth = Some(number),
         Edit::AddAssign { place, .. } => number_place(place, number),
         Edit::AddRule { place, .. } => number_place(place, number),
+        Edit::ExchangeLines { site, .. } => number_site(site, number),
         Edit::ChangeValues { .. } | Edit::RenameTarget { .. } => {}
     }
 }

@@ -5,7 +5,7 @@ use Rattle.std.proofs.lemmas.Bool.{cases_lt}
 use Rattle.mk_tree.specs.LocatedLines.{LocatedLine}
 use Rattle.mk_edit_parts.specs.LocatedParts.{AreEachClassed, IsClassed}
 use Rattle.mk_edit_parts.proofs.on_finding.PlaceLemmas.{classed-at}
-use Rattle.mk_patch.specs.Moves.{Exchange, FitMoves, Move, PutIn, SwapEnd, TakeOut, after_moves, exchanged}
+use Rattle.mk_patch.specs.Moves.{Exchange, FitInTurn, Move, PutIn, SwapEnd, TakeOut, after_moves, exchanged}
 use Rattle.mk_index.specs.Exchanges.{AreRising, IsHeld}
 use Rattle.mk_index.specs.declared.blocks.Block.{Block}
 use Rattle.mk_index.proofs.on_blocks.ChangedLines.{with-length}
@@ -35,7 +35,7 @@ exchanged-length at l ls h = let e = with-length at 1 (l ∷ []) ls (omega (arit
 -- ---- moves from the top down
 
 -- the line at an index above all of them stays
-rising-above : (ms : List Move) (from k : ℕ) (ls : List LocatedLine) → AreRising from ms → FitMoves ms ls → k < from → slice_get (after_moves ms ls) k ≡ slice_get ls k
+rising-above : (ms : List Move) (from k : ℕ) (ls : List LocatedLine) → AreRising from ms → FitInTurn ms ls → k < from → slice_get (after_moves ms ls) k ≡ slice_get ls k
 rising-above [] from k ls rising fit above = refl
 rising-above (PutIn at x ∷ ms) from k ls rising fit above = absurd rising
 rising-above (TakeOut at ∷ ms) from k ls rising fit above = absurd rising
@@ -61,7 +61,7 @@ pub record RisingHere (ms : List Move) (i next at : ℕ) (l : LocatedLine) (ls :
   pub after : after_moves (take next ms) ls ≡ exchanged at l (after_moves (take i ms) ls)
   pub classed : IsClassed l
 
-pub rising-here : (ms : List Move) (from i next at : ℕ) (l : LocatedLine) (ls : List LocatedLine) → next ≡ suc i → Some (Exchange at l) ≡ slice_get ms i → AreRising from ms → FitMoves ms ls → AreEachClassed (after_moves ms ls) → RisingHere ms i next at l ls
+pub rising-here : (ms : List Move) (from i next at : ℕ) (l : LocatedLine) (ls : List LocatedLine) → next ≡ suc i → Some (Exchange at l) ≡ slice_get ms i → AreRising from ms → FitInTurn ms ls → AreEachClassed (after_moves ms ls) → RisingHere ms i next at l ls
 rising-here [] from i next at l ls e is rising fit classed = absurd (cc)
 rising-here (PutIn k x ∷ ms) from i next at l ls e is rising fit classed = absurd rising
 rising-here (TakeOut k ∷ ms) from i next at l ls e is rising fit classed = absurd rising

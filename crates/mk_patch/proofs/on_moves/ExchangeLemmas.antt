@@ -3,6 +3,7 @@ use Rattle.std.proofs.Common.{◌≡◌, refl, sym, ap, ◌∙◌, arith, ℕ, z
 use Rattle.mk_lines.specs.Limits.{max_text}
 use Rattle.mk_tree.specs.LocatedLines.{LocatedLine, size_of}
 use Rattle.mk_patch.specs.Moves.{Move, Exchange, IsPlain, after_moves, held_by, taken_by}
+use Rattle.mk_patch.proofs.on_moves.PlainMoves.{fit-none, fit-plain_first}
 use Rattle.mk_patch.proofs.on_moves.ShapeLemmas.{LeadTo, exchanged-between, plain-between, within-between}
 
 -- The exchanges of the chosen lines, the first line being at an index: each of them by the line that stands at its index after
@@ -24,7 +25,7 @@ DifferWhereChosen cs olds news = ⊥
 abbrev StayWithin : (above before after : List LocatedLine) → Type 0
 StayWithin above before after = (i : ℕ) → i ≤ length before → size_of (above ++ (take i after ++ drop i before)) ≤ max_text
 
-append-one : {X : Type 0} (xs : List X) (y : X) (ys : List X) → (xs ++ y ∷ []) ++ ys ≡ xs ++ y ∷ ys
+pub append-one : {X : Type 0} (xs : List X) (y : X) (ys : List X) → (xs ++ y ∷ []) ++ ys ≡ xs ++ y ∷ ys
 append-one [] y ys = refl
 append-one (x ∷ xs) y ys = ap (λ z. x ∷ z) (append-one xs y ys)
 
@@ -34,7 +35,7 @@ within-next above old new olds news w i h = rw (append-one above new (take i new
 -- The exchanges lead from the lines before them to those after, below lines that stay.
 exchanges-lead_below : (above : List LocatedLine) (cs : List Bool) (before after : List LocatedLine) (at : ℕ) → at ≡ length above → DifferWhereChosen cs before after → StayWithin above before after
     → LeadTo (exchanges at cs after) (above ++ before) (above ++ after)
-exchanges-lead_below above [] [] [] at e d w = record { fit = tt; lead = refl }
+exchanges-lead_below above [] [] [] at e d w = record { fit = fit-none _; lead = refl }
 exchanges-lead_below above [] [] (new ∷ news) at e d w = absurd d
 exchanges-lead_below above [] (old ∷ olds) news at e d w = absurd d
 exchanges-lead_below above (true ∷ cs) [] news at e d w = absurd d
@@ -47,7 +48,7 @@ exchanges-lead_below above (true ∷ cs) (old ∷ olds) (new ∷ news) at e d w 
     let r = exchanges-lead_below (above ++ new ∷ []) cs olds news (at + 1) n d.2 (within-next above old new olds news w) in
     let few : size_of (above ++ new ∷ olds) ≤ max_text = w (suc zero) (omega arith) in
     record {
-      fit = ((within-between above olds old at e, plain-between above olds old at e d.0, d.1, rw x few), rw x (rw (append-one above new olds) at r.fit));
+      fit = fit-plain_first (Exchange at new) (exchanges (at + 1) cs news) (above ++ old ∷ olds) (within-between above olds old at e, rw x few) (plain-between above olds old at e d.0, d.1) (rw x (rw (append-one above new olds) at r.fit));
       lead = ap (after_moves (exchanges (at + 1) cs news)) (x ∙ sym (append-one above new olds)) ∙ (r.lead ∙ append-one above new news);
     }
 exchanges-lead_below above (false ∷ cs) (old ∷ olds) (new ∷ news) at e d w =

@@ -1,12 +1,12 @@
 -- A move is taken back by its inverse; what moves hold and take out, and how many lines there are after them.
-use Rattle.std.proofs.Common.{◌≡◌, ℕ, zero, suc, ◌+◌, ◌<◌, ◌≤◌, false, List, [], ◌∷◌, ◌++◌, length, take, drop, Some, refl, ap, arith, suc-add, sym}
+use Rattle.std.proofs.Common.{◌≡◌, ℕ, zero, suc, ◌+◌, ◌<◌, ◌≤◌, List, [], ◌∷◌, ◌++◌, length, take, drop, Some, refl, ap, arith, suc-add, sym}
 use Rattle.std.specs.Prelude.{slice_get}
 use Rattle.std.proofs.lemmas.Grind.{common_steps}
 use Rattle.mk_lines.specs.Limits.{max_text}
-use Rattle.mk_tree.specs.LocatedLines.{LocatedLine, bytes_of_line, is_conditional_located, last_line, size_of, with_last_bytes}
+use Rattle.mk_tree.specs.LocatedLines.{LocatedLine, bytes_of_line, last_line, size_of, with_last_bytes}
 use Rattle.mk_tree.proofs.Ends.{length-with_last}
 use Rattle.mk_tree.proofs.on_changes.Sizes.{size_of-removed}
-use Rattle.mk_patch.specs.Moves.{Move, PutIn, TakeOut, Exchange, SwapEnd, FitsMove, FitMoves, IsPlainAt, after_move, after_moves, held_by, held_by_move, taken_by, taken_by_move}
+use Rattle.mk_patch.specs.Moves.{Move, PutIn, TakeOut, Exchange, SwapEnd, FitsMove, FitInTurn, FitMoves, after_move, after_moves, held_by, held_by_move, taken_by, taken_by_move}
 
 -- ---- one index of a list
 
@@ -24,11 +24,6 @@ exchanged-back : {X : Type 0} (xs : List X) (at : ℕ) (x y : X) → Some x ≡ 
 exchanged-back [] at x y h = absurd (cc)
 exchanged-back (z ∷ xs) zero x y h = cc
 exchanged-back (z ∷ xs) (suc at) x y h = rw (suc-add at 1) (ap (λ l. z ∷ l) (exchanged-back xs at x y h))
-
-get-put : {X : Type 0} (xs rest : List X) (at : ℕ) (x : X) → at ≤ length xs → slice_get (take at xs ++ x ∷ rest) at ≡ Some x
-get-put xs rest zero x h = refl
-get-put [] rest (suc at) x h = absurd (omega arith)
-get-put (y ∷ xs) rest (suc at) x h = get-put xs rest at x (omega arith)
 
 -- ---- the last line with other bytes
 
@@ -51,25 +46,21 @@ pub record TakesBack (back : Move) (before after : List LocatedLine) : Type 0 wh
   pub fits : FitsMove back after
   pub leads : after_move back after ≡ before
 
-plain_line : (ls : List LocatedLine) (at : ℕ) (l : LocatedLine) → Some l ≡ slice_get ls at → IsPlainAt at ls → is_conditional_located l.class ≡ false
-plain_line ls at l h p = rw (← h) at p
-
 pub put_in-taken_back : (before after : List LocatedLine) (at : ℕ) (l : LocatedLine) → FitsMove (PutIn at l) before → after ≡ after_move (PutIn at l) before → TakesBack (TakeOut at) before after
 put_in-taken_back before after at l f e =
-    rw e (record { fits = (grind (arith, common_steps), rw (get-put before (drop at before) at l f.0) f.1); leads = taken_out-put_in before at l f.0 })
+    rw e (record { fits = grind (arith, common_steps); leads = taken_out-put_in before at l f.0 })
 
 pub take_out-taken_back : (before after : List LocatedLine) (at : ℕ) (l : LocatedLine) → FitsMove (TakeOut at) before → after ≡ after_move (TakeOut at) before → Some l ≡ slice_get before at → size_of before ≤ max_text
     → TakesBack (PutIn at l) before after
 take_out-taken_back before after at l f e h few =
     let z = size_of-removed before at l h in
-    rw e (record { fits = (grind (arith, common_steps), plain_line before at l h f.1, omega (arith, z, few)); leads = put_in-taken_out before at l h })
+    rw e (record { fits = (grind (arith, common_steps), omega (arith, z, few)); leads = put_in-taken_out before at l h })
 
 pub exchange-taken_back : (before after : List LocatedLine) (at : ℕ) (old new : LocatedLine) → FitsMove (Exchange at new) before → after ≡ after_move (Exchange at new) before → Some old ≡ slice_get before at
     → size_of before ≤ max_text → TakesBack (Exchange at old) before after
 exchange-taken_back before after at old new f e h few =
     let r = exchanged-back before at old new h in
-    let within : at ≤ length before = omega (arith, f.0) in
-    rw e (record { fits = (grind (arith, common_steps), rw (get-put before (drop (at + 1) before) at new within) f.2, plain_line before at old h f.1, rw r few); leads = r })
+    rw e (record { fits = (grind (arith, common_steps), rw r few); leads = r })
 
 pub swap_end-taken_back : (before after : List LocatedLine) (old new : List ℕ) → FitsMove (SwapEnd new) before → after ≡ after_move (SwapEnd new) before → old ≡ bytes_of_line (last_line before) → 0 < length old
     → size_of before ≤ max_text → TakesBack (SwapEnd old) before after
@@ -84,9 +75,13 @@ pub after_moves-append : (ms ns : List Move) (ls : List LocatedLine) → after_m
 after_moves-append [] ns ls = refl
 after_moves-append (m ∷ ms) ns ls = after_moves-append ms ns (after_move m ls)
 
+in_turn-append : (ms ns : List Move) (ls : List LocatedLine) → FitInTurn ms ls → FitInTurn ns (after_moves ms ls) → FitInTurn (ms ++ ns) ls
+in_turn-append [] ns ls f g = g
+in_turn-append (m ∷ ms) ns ls f g = (f.0, in_turn-append ms ns (after_move m ls) f.1 g)
+
 pub fit-append : (ms ns : List Move) (ls : List LocatedLine) → FitMoves ms ls → FitMoves ns (after_moves ms ls) → FitMoves (ms ++ ns) ls
-fit-append [] ns ls f g = g
-fit-append (m ∷ ms) ns ls f g = (f.0, fit-append ms ns (after_move m ls) f.1 g)
+fit-append ms ns ls f g =
+    record { in_turn = in_turn-append ms ns ls f.in_turn g.in_turn; conditionals = λ h. rw (after_moves-append ms ns ls) (g.conditionals (f.conditionals h)) }
 
 pub held_by-append : (ms ns : List Move) → held_by (ms ++ ns) ≡ held_by ms + held_by ns
 held_by-append [] ns = omega arith
@@ -125,7 +120,7 @@ number-after (TakeOut at) ls f = grind (arith, common_steps)
 number-after (Exchange at l) ls f = grind (arith, common_steps)
 number-after (SwapEnd b) ls f = omega (arith, length-with_last b ls)
 
-pub number-after_moves : (ms : List Move) (ls : List LocatedLine) → FitMoves ms ls → length (after_moves ms ls) + taken_by ms ≡ length ls + held_by ms
+pub number-after_moves : (ms : List Move) (ls : List LocatedLine) → FitInTurn ms ls → length (after_moves ms ls) + taken_by ms ≡ length ls + held_by ms
 number-after_moves [] ls f = refl
 number-after_moves (m ∷ ms) ls f = omega (arith, number-after m ls f.0, number-after_moves ms (after_move m ls) f.1)
 

@@ -6,7 +6,9 @@ use Rattle.mk_lines.specs.Limits.{max_text}
 use Rattle.mk_lines.specs.PhysicalLines.{without_line_end}
 use Rattle.mk_tree.specs.LocatedLines.{LocatedLine, bytes_of_line, last_line, size_of, with_last_bytes}
 use Rattle.mk_tree.proofs.Indices.{get_middle, size_of-append}
-use Rattle.mk_patch.specs.Moves.{Move, PutIn, TakeOut, Exchange, SwapEnd, FitMoves, IsPlain, IsPlainAt, after_moves, exchanged, held_by, taken_by}
+use Rattle.mk_patch.specs.Moves.{Move, PutIn, TakeOut, Exchange, SwapEnd, FitsMove, FitMoves, IsPlain, after_moves, exchanged, held_by, taken_by}
+use Rattle.mk_patch.proofs.on_moves.MoveLemmas.{fit-append}
+use Rattle.mk_patch.proofs.on_moves.PlainMoves.{IsPlainAt, fit-none, fit-plain_first}
 
 -- moves fit some lines and lead to others
 pub record LeadTo (ms : List Move) (before after : List LocatedLine) : Type 0 where
@@ -24,11 +26,11 @@ ArePlain (l ∷ ls) = IsPlain l × ArePlain ls
 
 -- ---- an index between two runs of lines
 
-put-between : (above below : List LocatedLine) (l : LocatedLine) (at : ℕ) → at ≡ length above → take at (above ++ below) ++ l ∷ drop at (above ++ below) ≡ above ++ l ∷ below
+pub put-between : (above below : List LocatedLine) (l : LocatedLine) (at : ℕ) → at ≡ length above → take at (above ++ below) ++ l ∷ drop at (above ++ below) ≡ above ++ l ∷ below
 put-between above below l at e =
     rw e (ap (λ z. z ++ l ∷ drop (length above) (above ++ below)) (take-append_seam above below) ∙ ap (λ z. above ++ l ∷ z) (drop-append_seam above below))
 
-taken-between : (above below : List LocatedLine) (l : LocatedLine) (at : ℕ) → at ≡ length above → take at (above ++ l ∷ below) ++ drop (at + 1) (above ++ l ∷ below) ≡ above ++ below
+pub taken-between : (above below : List LocatedLine) (l : LocatedLine) (at : ℕ) → at ≡ length above → take at (above ++ l ∷ below) ++ drop (at + 1) (above ++ l ∷ below) ≡ above ++ below
 taken-between above below l at e =
     rw e (ap (λ z. z ++ drop (length above + 1) (above ++ l ∷ below)) (take-append_seam above (l ∷ below)) ∙ ap (λ z. above ++ z) (drop-append-add above (l ∷ below) 1))
 
@@ -48,13 +50,16 @@ pub put_in-leads : (above below : List LocatedLine) (l : LocatedLine) (at : ℕ)
 put_in-leads above below l at e p few =
     let z = size_of-append above below in
     let w = size_of-append above (l ∷ below) in
-    record { fit = ((omega (arith, length-append above below, e), p, omega (arith, z, w, few)), tt); lead = put-between above below l at e }
+    record { fit = fit-plain_first (PutIn at l) [] (above ++ below) (omega (arith, length-append above below, e), omega (arith, z, w, few)) p (fit-none _); lead = put-between above below l at e }
 
 pub exchange-leads : (above below : List LocatedLine) (old new : LocatedLine) (at : ℕ) → at ≡ length above → IsPlain old → IsPlain new → size_of (above ++ new ∷ below) ≤ max_text
     → LeadTo (Exchange at new ∷ []) (above ++ old ∷ below) (above ++ new ∷ below)
 exchange-leads above below old new at e p q few =
     let x = exchanged-between above below old new at e in
-    record { fit = ((within-between above below old at e, plain-between above below old at e p, q, rw x few), tt); lead = x }
+    record {
+      fit = fit-plain_first (Exchange at new) [] (above ++ old ∷ below) (within-between above below old at e, rw x few) (plain-between above below old at e p, q) (fit-none _);
+      lead = x;
+    }
 
 -- ---- a last line with another line end
 
@@ -72,7 +77,9 @@ swap_end-leads : (above : List LocatedLine) (last : LocatedLine) (b : List ℕ) 
     → LeadTo (SwapEnd b ∷ []) (above ++ last ∷ []) (above ++ record last { bytes = b } ∷ [])
 swap_end-leads above last b some same few =
     let x = last-ended above last b in
-    record { fit = ((omega (arith, length-append above (last ∷ [])), some, same ∙ ap (λ z. without_line_end (bytes_of_line z)) (sym (last-of above last)), rw x few), tt); lead = x }
+    let f : FitsMove (SwapEnd b) (above ++ last ∷ []) =
+    (omega (arith, length-append above (last ∷ [])), some, same ∙ ap (λ z. without_line_end (bytes_of_line z)) (sym (last-of above last)), rw x few) in
+    record { fit = fit-plain_first (SwapEnd b) [] (above ++ last ∷ []) f tt (fit-none _); lead = x }
 
 -- after a last line with another line end, a line is put in at the end
 pub ended-put_in-leads : (above : List LocatedLine) (last l : LocatedLine) (b : List ℕ) (at : ℕ) → at ≡ length above + 1 → 0 < length b → without_line_end b ≡ without_line_end last.bytes → IsPlain l
@@ -85,7 +92,7 @@ ended-put_in-leads above last l b at e some same p few =
     let s = swap_end-leads above last b some same (omega (arith, z, w, few)) in
     let q = put_in-leads (above ++ ended ∷ []) [] l at (omega (arith, length-append above (ended ∷ []), e)) p (rw a few) in
     let n = append-none (above ++ ended ∷ []) in
-    record { fit = (s.fit.0, rw s.lead (rw n at q.fit)); lead = rw s.lead (rw n at q.lead) ∙ a }
+    record { fit = fit-append (SwapEnd b ∷ []) (PutIn at l ∷ []) (above ++ last ∷ []) s.fit (rw s.lead (rw n at q.fit)); lead = rw s.lead (rw n at q.lead) ∙ a }
   where
     append-one : {X : Type 0} (xs : List X) (y : X) (ys : List X) → (xs ++ y ∷ []) ++ ys ≡ xs ++ y ∷ ys
     append-one [] y ys = refl
@@ -98,11 +105,14 @@ ended-put_in-leads above last l b at e some same p few =
 -- ---- a run of lines taken out, one after the other at one index
 
 pub run-leads : (above run below : List LocatedLine) (at : ℕ) → at ≡ length above → ArePlain run → LeadTo (replicate (length run) (TakeOut at)) (above ++ (run ++ below)) (above ++ below)
-run-leads above [] below at e p = record { fit = tt; lead = refl }
+run-leads above [] below at e p = record { fit = fit-none _; lead = refl }
 run-leads above (l ∷ run) below at e p =
     let x = taken-between above (run ++ below) l at e in
     let r = run-leads above run below at e p.1 in
-    record { fit = ((within-between above (run ++ below) l at e, plain-between above (run ++ below) l at e p.0), rw x r.fit); lead = ap (after_moves (replicate (length run) (TakeOut at))) x ∙ r.lead }
+    record {
+      fit = fit-plain_first (TakeOut at) (replicate (length run) (TakeOut at)) (above ++ (l ∷ run ++ below)) (within-between above (run ++ below) l at e) (plain-between above (run ++ below) l at e p.0) (rw x r.fit);
+      lead = ap (after_moves (replicate (length run) (TakeOut at))) x ∙ r.lead;
+    }
 
 pub run-held : (n at : ℕ) → held_by (replicate n (TakeOut at)) ≡ 0
 run-held zero at = refl

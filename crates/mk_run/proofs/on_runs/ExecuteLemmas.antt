@@ -94,7 +94,7 @@ module _ (k : Bool) (earlier : List Step) (c : Step) (later : List Step) (first 
       reported = refl;
       tries = subst (λ (t : Shown (List ℕ)). Tries c t g.command) did.shown g.tried;
       takes = g.takes;
-      unrefused = subst (λ (t : Shown (List ℕ)). IsUnrefused (answer g.command t)) did.shown g.unrefused;
+      unrefused = subst (λ (t : Shown (List ℕ)). IsUnrefused g.command (answer g.command t)) did.shown g.unrefused;
     };
     is_out = did.reported;
     shown = g.same ∙ did.shown;

@@ -43,10 +43,10 @@ refused-reply c e x y NoMemory told step other = absurd (other told)
 answered-err : (c : Command Edit) (e : Refusal) (x y : Seen) → IsAnswered c (Err e) x y → (e ≡ refusal.NoMemory → ⊥) → IsRefusedCall c e x.shown y.shown
 answered-err c e x y h other = refused-reply c e x y h.reply h.told h.call.step other
 
--- the machine does not refuse a call that takes memory, but perhaps as Misread, and nothing changed
+-- the machine does not refuse a call that takes memory, but perhaps for a cause that needs new lines, and nothing changed
 record IsShortCall (c : Command Edit) (before after : Shown (List ℕ)) : Type 0 where
   pub takes : takes_memory c ≡ true
-  pub unrefused : IsUnrefused (answer c before)
+  pub unrefused : IsUnrefused c (answer c before)
   pub same : after ≡ before
 
 short-reply : (c : Command Edit) (e : Refusal) (x y : Seen) (r : Reply) → IsTold (Err e) r → IsCall (c, r) x y → e ≡ refusal.NoMemory → IsShortCall c x.shown y.shown
@@ -148,10 +148,11 @@ passed-next first others e o left r x y h answered on =
     } in
     (subst (λ (s : Shown (List ℕ)). IsPassedTo first others s o left) (sym m.1) next, m.1)
 
--- an answer that is no refusal, or Misread, passes no edit over
-unrefused-stays : (a : Result (Shown (List ℕ)) (machine.Refusal Refusal)) → IsUnrefused a → is_passed a ≡ false
-unrefused-stays a (inl (new, granted)) = ap (λ b. is_passed b) granted
-unrefused-stays a (inr misread) = ap (λ b. is_passed b) misread
+-- an answer that is no refusal, or one for a cause that needs new lines, passes no edit over
+unrefused-stays : (c : Command Edit) (a : Result (Shown (List ℕ)) (machine.Refusal Refusal)) → IsUnrefused c a → is_passed a ≡ false
+unrefused-stays c a (inl (new, granted)) = ap (λ b. is_passed b) granted
+unrefused-stays c a (inr (inl misread)) = ap (λ b. is_passed b) misread
+unrefused-stays c a (inr (inr (whole, leans))) = ap (λ b. is_passed b) leans
 
 -- an answer that does not
 stays : (c : Command Edit) (r : Result (Unit {0}) Refusal) (x y : Seen) → IsAnswered c r x y → passes_over r ≡ false → is_passed (answer c x.shown) ≡ false
@@ -161,7 +162,7 @@ stays c (Err f) x y h off = go h.reply h.told h.call
     go : (r : Reply) → IsTold (Err f) r → IsCall (c, r) x y → is_passed (answer c x.shown) ≡ false
     go Granted told call = absurd told
     go (Refused q) told call = ap (λ a. is_passed a) call.step.0 ∙ subst (λ g. is_missing g ≡ false) told off
-    go NoMemory told call = unrefused-stays (answer c x.shown) (call.unrefused refl)
+    go NoMemory told call = unrefused-stays c (answer c x.shown) (call.unrefused refl)
 
 comes-to : (end other : StepEnd) (IsTried IsOther : Command Edit → Type 0) (r : Result (Unit {0}) RefusedCommand) (s t : Shown (List ℕ)) → other ≡ end → ((c : Command Edit) → IsTried c → IsOther c)
     → ComesTo end IsTried r s t → ComesTo other IsOther r s t

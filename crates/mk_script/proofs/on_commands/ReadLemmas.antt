@@ -2,15 +2,16 @@
 use Rattle.std.proofs.Common.{◌≡◌, ℕ, ◌≤◌, true, false, List, [], ◌∷◌, ◌++◌, length, refl, ap, ◌∙◌, arith, codes}
 use Rattle.std.specs.Prelude.{Option, Some, None, option_map, option_and_then}
 use Rattle.mk_class.specs.OperatorTexts.{operator_text}
-use Rattle.mk_edit_language.specs.Edits.{Place, Bottom, BeforeVar, AfterVar, BeforeRule, NewLine, NewAssign, NewRule, One, Every, ValueChange, Set, Append, Add, Remove, LineChange, Prepend, ReplaceWord, InsertWord, Substitute, SetOperator, AddPrereq, RemovePrereq, ByNumber, ByText, Last, At, OfAssign, OfRule, OfRecipe, Edit, ChangeValue, ChangeLine, ChangePrereqs, AddLine, AddRecipe, SetRecipe, RemoveLines, RenameTarget}
+use Rattle.mk_edit_language.specs.Edits.{Place, Bottom, BeforeVar, AfterVar, BeforeRule, Site, Top, AtPlace, BeforeRun, AfterRun, OfRun, NewLine, NewAssign, NewRule, One, Every, ValueChange, Set, Append, Add, Remove, LineChange, Prepend, ReplaceWord, InsertWord, Substitute, SetOperator, AddPrereq, RemovePrereq, ByNumber, ByText, Last, At, OfAssign, OfRule, OfRecipe, Edit, ChangeValue, ChangeLine, ChangePrereqs, AddLine, AddRecipe, SetRecipe, RemoveLines, RenameTarget, ExchangeLines}
 use Rattle.mk_edit_language.specs.declared.edit.Side.TheVariants.{Before, After}
+use Rattle.mk_edit_language.specs.LineRuns.{block_lines}
 use Rattle.mk_edit_language.specs.NewLines.{rule_separator_text}
 use Rattle.mk_history.specs.Machine.{Command, Apply, Undo, Redo, Begin, End, Cancel}
 use Rattle.mk_script.specs.Lines.{Plain}
 use Rattle.mk_script.specs.Numbers.{number}
-use Rattle.mk_script.specs.CommandTable.{Content, Text, Number, texts, after_nth, place_words, nth_of_place, change_words, line_change_words, command_fields, HaveContents, IsCommand}
+use Rattle.mk_script.specs.CommandTable.{Content, Text, Number, Block, texts, after_nth, place_words, nth_of_place, change_words, line_change_words, exchange_fields, command_fields, HaveContents, IsCommand}
 use Rattle.mk_script.specs.WordReading.{named, words}
-use Rattle.mk_script.specs.CommandReading.{Texts, worded, new_assign, new_rule, add_line, line_change, change_line, edit_with, edit_by, edit_after, edit_in, saying_after, saying_in}
+use Rattle.mk_script.specs.CommandReading.{Texts, worded, new_assign, new_rule, add_line, insert_lines, line_change, change_line, edit_with, edit_by, edit_after, edit_in, saying_after, saying_in}
 use Rattle.mk_script.specs.declared.table.Word.{Word}
 use Rattle.mk_script.specs.declared.table.Word.TheVariants as word
 use Rattle.mk_script.proofs.on_commands.TableLemmas.{text_of, operator-named, separator-named}
@@ -87,6 +88,60 @@ line_change-read nth name (Substitute from to) = text-read nth word.Subst (name 
 line_change-read nth name (SetOperator flavor) =
     text-read nth word.Operator (name ∷ operator_text flavor ∷ []) _ refl (λ fs. refl) (ap (λ o. option_map (λ c. ChangeLine nth name c) (option_map SetOperator o)) (operator-named flavor))
 
+-- ---- whole lines
+
+-- texts, and a block behind them
+texts-block : (fs ts : Texts) (new : List (List ℕ)) → HaveContents fs (texts ts ++ Block new ∷ []) → (b : List ℕ) × (fs ≡ ts ++ b ∷ []) × (block_lines b ≡ new)
+texts-block [] [] new h = absurd h
+texts-block [] (t ∷ ts) new h = absurd h
+texts-block (f ∷ []) [] new h = (f, refl, h.0)
+texts-block (f ∷ g ∷ fs) [] new h = absurd h.1
+texts-block (f ∷ fs) (t ∷ ts) new h = let others = texts-block fs ts new h.1 in (others.0, ap (λ z. z ∷ fs) h.0 ∙ ap (λ zs. t ∷ zs) others.1, others.2)
+
+-- an insert at a site of texts, and at one with a block of its own
+insert-read : (nth : Option ℕ) (site : Site) (ts : Texts) (new : List (List ℕ)) → ((b : List ℕ) → insert_lines nth (ts ++ b ∷ []) ≡ Some (ExchangeLines site (block_lines b)))
+    → (fs : Texts) → HaveContents fs (texts ts ++ Block new ∷ []) → insert_lines nth fs ≡ Some (ExchangeLines site new)
+insert-read nth site ts new reads fs h =
+    let b = texts-block fs ts new h in
+    ap (λ zs. insert_lines nth zs) b.1 ∙ (reads b.0 ∙ ap (λ lines. Some (ExchangeLines site lines)) b.2)
+
+beside-read : (nth : Option ℕ) (site : List (List ℕ) → Site) (t : List ℕ) (old new : List (List ℕ)) → ((o b : List ℕ) → insert_lines nth (t ∷ o ∷ b ∷ []) ≡ Some (ExchangeLines (site (block_lines o)) (block_lines b)))
+    → (fs : Texts) → HaveContents fs (Text t ∷ Block old ∷ Block new ∷ []) → insert_lines nth fs ≡ Some (ExchangeLines (site old) new)
+beside-read nth site t old new reads [] h = absurd h
+beside-read nth site t old new reads (f ∷ []) h = absurd h.1
+beside-read nth site t old new reads (f ∷ o ∷ []) h = absurd h.1.1
+beside-read nth site t old new reads (f ∷ o ∷ b ∷ []) h =
+    ap (λ (z : List ℕ). insert_lines nth (z ∷ o ∷ b ∷ [])) h.0
+    ∙ (reads o b ∙ (ap (λ lines. Some (ExchangeLines (site lines) (block_lines b))) h.1.0 ∙ ap (λ lines. Some (ExchangeLines (site old) lines)) h.1.1.0))
+beside-read nth site t old new reads (f ∷ o ∷ b ∷ g ∷ fs) h = absurd h.1.1.1
+
+replace-read : (nth : Option ℕ) (old new : List (List ℕ)) (fs : Texts) → HaveContents fs (Block old ∷ Block new ∷ []) → edit_with (One nth) word.LineReplace fs ≡ Some (ExchangeLines (OfRun nth old) new)
+replace-read nth old new [] h = absurd h
+replace-read nth old new (o ∷ []) h = absurd h.1
+replace-read nth old new (o ∷ b ∷ []) h = ap (λ lines. Some (ExchangeLines (OfRun nth lines) (block_lines b))) h.0 ∙ ap (λ lines. Some (ExchangeLines (OfRun nth old) lines)) h.1.0
+replace-read nth old new (o ∷ b ∷ g ∷ fs) h = absurd h.1.1
+
+remove-read : (nth : Option ℕ) (old : List (List ℕ)) (fs : Texts) → HaveContents fs (Block old ∷ []) → edit_with (One nth) word.LineRemove fs ≡ Some (ExchangeLines (OfRun nth old) [])
+remove-read nth old [] h = absurd h
+remove-read nth old (o ∷ []) h = ap (λ lines. Some (ExchangeLines (OfRun nth lines) [])) h.0
+remove-read nth old (o ∷ g ∷ fs) h = absurd h.1
+
+exchange-read : (site : Site) (new : List (List ℕ)) (fields : Texts) → HaveContents fields (exchange_fields site new) → edit_in fields ≡ Some (ExchangeLines site new)
+exchange-read Top new = numbered-read None word.Insert _ _ refl (λ fs. refl) (insert-read None Top (codes "top" ∷ []) new (λ b. refl))
+exchange-read (AtPlace Bottom) new = numbered-read None word.Insert _ _ refl (λ fs. refl) (insert-read None (AtPlace Bottom) (place_words Bottom) new (λ b. refl))
+exchange-read (AtPlace (BeforeVar nth name)) new =
+    numbered-read nth word.Insert _ _ refl (λ fs. refl) (insert-read nth (AtPlace (BeforeVar nth name)) (place_words (BeforeVar nth name)) new (λ b. refl))
+exchange-read (AtPlace (AfterVar nth name)) new =
+    numbered-read nth word.Insert _ _ refl (λ fs. refl) (insert-read nth (AtPlace (AfterVar nth name)) (place_words (AfterVar nth name)) new (λ b. refl))
+exchange-read (AtPlace (BeforeRule nth target)) new =
+    numbered-read nth word.Insert _ _ refl (λ fs. refl) (insert-read nth (AtPlace (BeforeRule nth target)) (place_words (BeforeRule nth target)) new (λ b. refl))
+exchange-read (BeforeRun nth old) new = numbered-read nth word.Insert _ _ refl (λ fs. refl) (beside-read nth (λ lines. BeforeRun nth lines) (codes "before-line") old new (λ o b. refl))
+exchange-read (AfterRun nth old) new = numbered-read nth word.Insert _ _ refl (λ fs. refl) (beside-read nth (λ lines. AfterRun nth lines) (codes "after-line") old new (λ o b. refl))
+exchange-read (OfRun nth old) [] = numbered-read nth word.LineRemove _ _ refl (λ fs. refl) (remove-read nth old)
+exchange-read (OfRun nth old) (line ∷ lines) = numbered-read nth word.LineReplace _ _ refl (λ fs. refl) (replace-read nth old (line ∷ lines))
+
+-- ---- and each edit
+
 pub edit-read : (fields : Texts) (e : Edit) → IsCommand fields (Apply e) → edit_in fields ≡ Some e
 edit-read fields (ChangeValue (One nth) name change) h = change-read nth name change fields h
 edit-read fields (ChangeValue Every name change) h = ap edit_in (texts-are fields (codes "all" ∷ change_words name change) h) ∙ all-read name change
@@ -114,6 +169,7 @@ edit-read fields (RemoveLines (OfRecipe nth target (ByNumber n))) h =
     numbered-read nth word.RecipeDel (Text target ∷ Number n ∷ []) _ refl (λ fs. refl) (number-read nth word.RecipeDel target n [] _ (λ d k. rw k refl)) fields h
 edit-read fields (RemoveLines (OfRecipe nth target (ByText old))) h = text-read nth word.RecipeRemove (target ∷ old ∷ []) _ refl (λ fs. refl) refl fields h
 edit-read fields (RenameTarget old new) h = ap edit_in (texts-are fields (codes "rename" ∷ old ∷ new ∷ []) h)
+edit-read fields (ExchangeLines site new) h = exchange-read site new fields h
 
 -- ---- each command
 
@@ -180,6 +236,17 @@ place-few (BeforeVar nth name) x a b c = omega arith
 place-few (AfterVar nth name) x a b c = omega arith
 place-few (BeforeRule nth target) x a b c = omega arith
 
+exchange-few : (site : Site) (new : List (List ℕ)) → length (exchange_fields site new) ≤ 8
+exchange-few Top new = omega arith
+exchange-few (AtPlace Bottom) new = omega arith
+exchange-few (AtPlace (BeforeVar nth name)) new = nth-few nth _ (omega arith)
+exchange-few (AtPlace (AfterVar nth name)) new = nth-few nth _ (omega arith)
+exchange-few (AtPlace (BeforeRule nth target)) new = nth-few nth _ (omega arith)
+exchange-few (BeforeRun nth old) new = nth-few nth _ (omega arith)
+exchange-few (AfterRun nth old) new = nth-few nth _ (omega arith)
+exchange-few (OfRun nth old) [] = nth-few nth _ (omega arith)
+exchange-few (OfRun nth old) (line ∷ lines) = nth-few nth _ (omega arith)
+
 few : (c : Command Edit) → length (command_fields c) ≤ 8
 few (Apply (ChangeValue (One nth) name change)) = let k = change-few name change in nth-few nth _ (omega (arith, k))
 few (Apply (ChangeValue Every name change)) = let k = change-few name change in omega (arith, k)
@@ -197,6 +264,7 @@ few (Apply (AddRecipe nth target (At n) line)) = nth-few nth _ (omega arith)
 few (Apply (SetRecipe nth target (ByNumber n) line)) = nth-few nth _ (omega arith)
 few (Apply (SetRecipe nth target (ByText old) line)) = nth-few nth _ (omega arith)
 few (Apply (RenameTarget old new)) = omega arith
+few (Apply (ExchangeLines site new)) = exchange-few site new
 few Undo = omega arith
 few Redo = omega arith
 few Begin = omega arith

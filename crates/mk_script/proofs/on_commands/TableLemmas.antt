@@ -87,6 +87,9 @@ text_of word.RecipeSet = codes "recipe-set"
 text_of word.RecipeDel = codes "recipe-del"
 text_of word.RecipeReplace = codes "recipe-replace"
 text_of word.RecipeRemove = codes "recipe-remove"
+text_of word.Insert = codes "insert"
+text_of word.LineReplace = codes "line-replace"
+text_of word.LineRemove = codes "line-remove"
 text_of word.Rename = codes "rename"
 text_of word.Nth = codes "nth"
 text_of word.All = codes "all"
@@ -99,10 +102,13 @@ text_of word.Try = codes "try"
 text_of word.Or = codes "or"
 
 abbrev pub place_text : PlaceWord → List ℕ
+place_text place.Top = codes "top"
 place_text place.Bottom = codes "bottom"
 place_text place.BeforeVar = codes "before-var"
 place_text place.AfterVar = codes "after-var"
 place_text place.BeforeRule = codes "before-rule"
+place_text place.BeforeLine = codes "before-line"
+place_text place.AfterLine = codes "after-line"
 
 -- a text under which a table has something whose text is known
 named-text : {K : Type 0} (texts : K → List ℕ) (table : List (K × List ℕ)) → list_all (λ (e : K × List ℕ). bytes_eq e.1 (texts e.0)) table ≡ true

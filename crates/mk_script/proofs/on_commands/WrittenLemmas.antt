@@ -5,14 +5,16 @@ use Rattle.std.proofs.lemmas.List.{take-append-drop}
 use Rattle.mk_class.specs.declared.assignment.Flavor.{Flavor}
 use Rattle.mk_class.specs.OperatorTexts.{operator_text}
 use Rattle.mk_edit_language.specs.declared.edit.RuleSeparator.{RuleSeparator}
-use Rattle.mk_edit_language.specs.Edits.{Place, Bottom, BeforeVar, AfterVar, BeforeRule, NewLine, NewAssign, NewRule, Which, One, Every, ValueChange, Set, Append, Add, Remove, LineChange, Prepend, ReplaceWord, InsertWord, Substitute, SetOperator, AddPrereq, RemovePrereq, ByNumber, ByText, Last, At, OfAssign, OfRule, OfRecipe, Edit, ChangeValue, ChangeLine, ChangePrereqs, AddLine, AddRecipe, SetRecipe, RemoveLines, RenameTarget}
+use Rattle.mk_edit_language.specs.Edits.{Place, Bottom, BeforeVar, AfterVar, BeforeRule, Site, Top, AtPlace, BeforeRun, AfterRun, OfRun, NewLine, NewAssign, NewRule, Which, One, Every, ValueChange, Set, Append, Add, Remove, LineChange, Prepend, ReplaceWord, InsertWord, Substitute, SetOperator, AddPrereq, RemovePrereq, ByNumber, ByText, Last, At, OfAssign, OfRule, OfRecipe, Edit, ChangeValue, ChangeLine, ChangePrereqs, AddLine, AddRecipe, SetRecipe, RemoveLines, RenameTarget, ExchangeLines}
 use Rattle.mk_edit_language.specs.declared.edit.Side.TheVariants.{Before, After}
+use Rattle.mk_edit_language.specs.LineRuns.{block_lines}
 use Rattle.mk_edit_language.specs.NewLines.{rule_separator_text}
+use Rattle.mk_edit_language.proofs.on_line_runs.BlockTexts.{block-some}
 use Rattle.mk_history.specs.Machine.{Command, Apply, Undo, Redo, Begin, End, Cancel}
 use Rattle.mk_script.specs.Numbers.{number}
-use Rattle.mk_script.specs.CommandTable.{Content, Text, Number, texts, after_nth, place_words, nth_of_place, change_words, line_change_words, command_fields, HaveContents, IsCommand}
+use Rattle.mk_script.specs.CommandTable.{Content, Text, Number, Block, texts, after_nth, place_words, nth_of_place, change_words, line_change_words, exchange_fields, command_fields, HaveContents, IsCommand}
 use Rattle.mk_script.specs.WordReading.{named, words, places, operators, separators}
-use Rattle.mk_script.specs.CommandReading.{Texts, one, two, three, numbered, worded, place_with, place_in, new_assign, new_rule, before_three, last_three, line_change, change_line, edit_with, edit_by, edit_after, edit_in, alone, command_after}
+use Rattle.mk_script.specs.CommandReading.{Texts, one, two, three, numbered, worded, place_with, place_in, site_with, site_in, before_last, last_fields, new_assign, new_rule, insert_lines, line_change, change_line, edit_with, edit_by, edit_after, edit_in, alone, command_after}
 use Rattle.mk_script.specs.declared.table.Word.{Word}
 use Rattle.mk_script.specs.declared.table.Word.TheVariants as word
 use Rattle.mk_script.specs.declared.word.PlaceWord.{PlaceWord}
@@ -53,6 +55,9 @@ numbered-is fields p h =
 
 place-with : (nth : Option ℕ) (w : PlaceWord) (f : List ℕ) (fs : Texts) (place : Place) → f ≡ place_text w → place_with nth w fs ≡ Some place
     → (nth ≡ nth_of_place place) × (f ∷ fs ≡ place_words place)
+place-with nth spot.Top f fs place is h = absurd (cc)
+place-with nth spot.BeforeLine f fs place is h = absurd (cc)
+place-with nth spot.AfterLine f fs place is h = absurd (cc)
 place-with None spot.Bottom f [] place is h = let same : Bottom ≡ place = cc in (ap nth_of_place same, ap (λ z. z ∷ []) is ∙ ap place_words same)
 place-with None spot.Bottom f (g ∷ fs) place is h = absurd (cc)
 place-with (Some n) spot.Bottom f fs place is h = absurd (cc)
@@ -140,14 +145,14 @@ recipe_del-written nth fields e h =
     }
 
 -- a new line behind its place
-add_line-written : (nth : Option ℕ) (w : Word) (fields ts : Texts) (e : Edit) (l : NewLine) → last_three fields ≡ ts
-    → option_map (λ p. AddLine p l) (place_in nth (before_three fields)) ≡ Some e
+add_line-written : (nth : Option ℕ) (w : Word) (fields ts : Texts) (e : Edit) (l : NewLine) → last_fields 3 fields ≡ ts
+    → option_map (λ p. AddLine p l) (place_in nth (before_last 3 fields)) ≡ Some e
     → ((p : Place) → command_fields (Apply (AddLine p l)) ≡ after_nth (nth_of_place p) (Text (text_of w) ∷ texts (place_words p ++ ts))) → IsWrittenEdit (One nth) w fields e
 add_line-written nth w fields ts e l is h command =
-    let m = mapped (λ (p : Place). AddLine p l) (place_in nth (before_three fields)) e h in
-    let p = place-is nth (before_three fields) m.0 m.1 in
+    let m = mapped (λ (p : Place). AddLine p l) (place_in nth (before_last 3 fields)) e h in
+    let p = place-is nth (before_last 3 fields) m.0 m.1 in
     let whole : fields ≡ place_words m.0 ++ ts =
-    sym (take-append-drop (length fields - 3) fields) ∙ (ap (λ z. z ++ last_three fields) p.1 ∙ ap (λ z. place_words m.0 ++ z) is) in
+    sym (take-append-drop (length fields - 3) fields) ∙ (ap (λ z. z ++ last_fields 3 fields) p.1 ∙ ap (λ z. place_words m.0 ++ z) is) in
     text-written (One nth) w fields (place_words m.0 ++ ts) e (AddLine m.0 l) whole m.2
     (command m.0 ∙ ap (λ n. after_nth n (Text (text_of w) ∷ texts (place_words m.0 ++ ts))) (sym p.0))
 
@@ -179,23 +184,109 @@ change_line-written nth w (name ∷ ts) e h =
     text-written (One nth) w (name ∷ ts) (name ∷ ts) e (ChangeLine nth name m.0) refl m.2
     (ap (λ zs. after_nth nth (texts zs)) (line_change-is w name ts m.0 m.1))
 
+-- whole lines behind their site
+with-block : (fs : Texts) (contents : List Content) (b : List ℕ) → HaveContents fs contents → HaveContents (fs ++ b ∷ []) (contents ++ Block (block_lines b) ∷ [])
+with-block [] [] b h = (refl, tt)
+with-block [] (c ∷ contents) b h = absurd h
+with-block (f ∷ fs) [] b h = absurd h
+with-block (f ∷ fs) (c ∷ contents) b h = (h.0, with-block fs contents b h.1)
+
+-- The fields have contents that are those of a site.
+record IsWrittenSite (nth : Option ℕ) (fields : Texts) (site : Site) : Type 0 where
+  contents : List Content
+  have : HaveContents fields contents
+  fields_are : (new : List (List ℕ)) → exchange_fields site new ≡ after_nth nth (Text (codes "insert") ∷ (contents ++ Block new ∷ []))
+
+-- a site that has a block of its own
+beside-written : (nth : Option ℕ) (t f : List ℕ) (fs : Texts) (site : Site) (make : List (List ℕ) → Site) → f ≡ t → option_map (λ (old : List ℕ). make (block_lines old)) (one fs) ≡ Some site
+    → ((old new : List (List ℕ)) → exchange_fields (make old) new ≡ after_nth nth (Text (codes "insert") ∷ Text t ∷ Block old ∷ Block new ∷ [])) → IsWrittenSite nth (f ∷ fs) site
+beside-written nth t f fs site make is h are =
+    let m = mapped (λ (old : List ℕ). make (block_lines old)) (one fs) site h in
+    let contents : List Content = Text t ∷ Block (block_lines m.0) ∷ [] in
+    record {
+      contents = contents;
+      have = (is, subst (λ z. HaveContents z (Block (block_lines m.0) ∷ [])) (sym (one-is fs m.0 m.1)) (refl, tt));
+      fields_are = λ new. ap (λ s. exchange_fields s new) (sym m.2) ∙ are (block_lines m.0) new;
+    }
+
+site-with : (nth : Option ℕ) (w : PlaceWord) (f : List ℕ) (fs : Texts) (site : Site) → f ≡ place_text w → site_with nth w fs ≡ Some site → IsWrittenSite nth (f ∷ fs) site
+site-with None spot.Top f [] site is h = let same : Top ≡ site = cc in record { contents = Text (codes "top") ∷ []; have = (is, tt); fields_are = λ new. ap (λ s. exchange_fields s new) (sym same) }
+site-with None spot.Top f (g ∷ fs) site is h = absurd (cc)
+site-with (Some n) spot.Top f fs site is h = absurd (cc)
+site-with nth spot.BeforeLine f fs site is h = beside-written nth (codes "before-line") f fs site (λ old. BeforeRun nth old) is h (λ old new. refl)
+site-with nth spot.AfterLine f fs site is h = beside-written nth (codes "after-line") f fs site (λ old. AfterRun nth old) is h (λ old new. refl)
+site-with nth w f fs site is h =
+    let m = mapped AtPlace (place_with nth w fs) site h in
+    let p = place-with nth w f fs m.0 is m.1 in
+    record {
+      contents = texts (place_words m.0);
+      have = subst (λ z. HaveContents z (texts (place_words m.0))) (sym p.1) (texts-have (place_words m.0));
+      fields_are = λ new.
+          ap (λ s. exchange_fields s new) (sym m.2) ∙ ap (λ n. after_nth n (Text (codes "insert") ∷ (texts (place_words m.0) ++ Block new ∷ []))) (sym p.0);
+    }
+
+site-is : (nth : Option ℕ) (fields : Texts) (site : Site) → site_in nth fields ≡ Some site → IsWrittenSite nth fields site
+site-is nth [] site h = absurd (cc)
+site-is nth (f ∷ fs) site h =
+    let c = chained (λ (w : PlaceWord). site_with nth w fs) (named places f) site h in
+    site-with nth c.0 f fs site (named-place f c.0 c.1) c.2
+
+insert-written : (nth : Option ℕ) (fields : Texts) (e : Edit) → insert_lines nth fields ≡ Some e → IsWrittenEdit (One nth) word.Insert fields e
+insert-written nth fields e h =
+    let site = before_last 1 fields in
+    let c = chained (λ (b : List ℕ). option_map (λ s. ExchangeLines s (block_lines b)) (site_in nth site)) (one (last_fields 1 fields)) e h in
+    let m = mapped (λ (s : Site). ExchangeLines s (block_lines c.0)) (site_in nth site) e c.2 in
+    let s = site-is nth site m.0 m.1 in
+    let contents = s.contents ++ Block (block_lines c.0) ∷ [] in
+    let whole : fields ≡ site ++ c.0 ∷ [] = sym (take-append-drop (length fields - 1) fields) ∙ ap (λ z. site ++ z) (one-is (last_fields 1 fields) c.0 c.1) in
+    record {
+      contents = contents;
+      have = subst (λ z. HaveContents z contents) (sym whole) (with-block site s.contents c.0 s.have);
+      command = ap (λ x. command_fields (Apply x)) (sym m.2) ∙ s.fields_are (block_lines c.0);
+    }
+
+-- lines in the place of others, and lines that go
+pub replace-fields : (nth : Option ℕ) (old new : List (List ℕ)) → (new ≡ [] → ⊥) → exchange_fields (OfRun nth old) new ≡ after_nth nth (Text (codes "line-replace") ∷ Block old ∷ Block new ∷ [])
+replace-fields nth old [] some = absurd (some refl)
+replace-fields nth old (line ∷ lines) some = refl
+
+line_replace-written : (nth : Option ℕ) (fields : Texts) (e : Edit) → edit_with (One nth) word.LineReplace fields ≡ Some e → IsWrittenEdit (One nth) word.LineReplace fields e
+line_replace-written nth fields e h =
+    let m = mapped (λ (p : List ℕ × List ℕ). ExchangeLines (OfRun nth (block_lines p.0)) (block_lines p.1)) (two fields) e h in
+    let contents : List Content = Block (block_lines m.0.0) ∷ Block (block_lines m.0.1) ∷ [] in
+    record {
+      contents = contents;
+      have = subst (λ z. HaveContents z contents) (sym (two-is fields m.0 m.1)) (refl, (refl, tt));
+      command = ap (λ x. command_fields (Apply x)) (sym m.2) ∙ replace-fields nth (block_lines m.0.0) (block_lines m.0.1) (block-some m.0.1);
+    }
+
+line_remove-written : (nth : Option ℕ) (fields : Texts) (e : Edit) → edit_with (One nth) word.LineRemove fields ≡ Some e → IsWrittenEdit (One nth) word.LineRemove fields e
+line_remove-written nth fields e h =
+    let m = mapped (λ (old : List ℕ). ExchangeLines (OfRun nth (block_lines old)) []) (one fields) e h in
+    let contents : List Content = Block (block_lines m.0) ∷ [] in
+    record {
+      contents = contents;
+      have = subst (λ z. HaveContents z contents) (sym (one-is fields m.0 m.1)) (refl, tt);
+      command = ap (λ x. command_fields (Apply x)) (sym m.2);
+    }
+
 assign-written : (nth : Option ℕ) (fields : Texts) (e : Edit) → edit_with (One nth) word.Assign fields ≡ Some e → IsWrittenEdit (One nth) word.Assign fields e
 assign-written nth fields e h =
-    let c = chained (λ (l : NewLine). option_map (λ p. AddLine p l) (place_in nth (before_three fields))) (new_assign (last_three fields)) e h in
-    let t = chained (λ (q : List ℕ × List ℕ × List ℕ). option_map (λ (f : Flavor). NewAssign q.0 f q.2) (named operators q.1)) (three (last_three fields)) c.0 c.1 in
+    let c = chained (λ (l : NewLine). option_map (λ p. AddLine p l) (place_in nth (before_last 3 fields))) (new_assign (last_fields 3 fields)) e h in
+    let t = chained (λ (q : List ℕ × List ℕ × List ℕ). option_map (λ (f : Flavor). NewAssign q.0 f q.2) (named operators q.1)) (three (last_fields 3 fields)) c.0 c.1 in
     let f = mapped (λ (f : Flavor). NewAssign t.0.0 f t.0.2) (named operators t.0.1) c.0 t.2 in
-    let is = three-is (last_three fields) t.0 t.1 ∙ ap (λ z. t.0.0 ∷ z ∷ t.0.2 ∷ []) (named-operator t.0.1 f.0 f.1) in
+    let is = three-is (last_fields 3 fields) t.0 t.1 ∙ ap (λ z. t.0.0 ∷ z ∷ t.0.2 ∷ []) (named-operator t.0.1 f.0 f.1) in
     add_line-written nth word.Assign fields (t.0.0 ∷ operator_text f.0 ∷ t.0.2 ∷ []) e (NewAssign t.0.0 f.0 t.0.2) is
-    (subst (λ (l : NewLine). option_map (λ p. AddLine p l) (place_in nth (before_three fields)) ≡ Some e) (sym f.2) c.2) (λ p. refl)
+    (subst (λ (l : NewLine). option_map (λ p. AddLine p l) (place_in nth (before_last 3 fields)) ≡ Some e) (sym f.2) c.2) (λ p. refl)
 
 rule-written : (nth : Option ℕ) (fields : Texts) (e : Edit) → edit_with (One nth) word.Rule fields ≡ Some e → IsWrittenEdit (One nth) word.Rule fields e
 rule-written nth fields e h =
-    let c = chained (λ (l : NewLine). option_map (λ p. AddLine p l) (place_in nth (before_three fields))) (new_rule (last_three fields)) e h in
-    let t = chained (λ (q : List ℕ × List ℕ × List ℕ). option_map (λ (s : RuleSeparator). NewRule q.0 s q.2) (named separators q.1)) (three (last_three fields)) c.0 c.1 in
+    let c = chained (λ (l : NewLine). option_map (λ p. AddLine p l) (place_in nth (before_last 3 fields))) (new_rule (last_fields 3 fields)) e h in
+    let t = chained (λ (q : List ℕ × List ℕ × List ℕ). option_map (λ (s : RuleSeparator). NewRule q.0 s q.2) (named separators q.1)) (three (last_fields 3 fields)) c.0 c.1 in
     let s = mapped (λ (s : RuleSeparator). NewRule t.0.0 s t.0.2) (named separators t.0.1) c.0 t.2 in
-    let is = three-is (last_three fields) t.0 t.1 ∙ ap (λ z. t.0.0 ∷ z ∷ t.0.2 ∷ []) (named-separator t.0.1 s.0 s.1) in
+    let is = three-is (last_fields 3 fields) t.0 t.1 ∙ ap (λ z. t.0.0 ∷ z ∷ t.0.2 ∷ []) (named-separator t.0.1 s.0 s.1) in
     add_line-written nth word.Rule fields (t.0.0 ∷ rule_separator_text s.0 ∷ t.0.2 ∷ []) e (NewRule t.0.0 s.0 t.0.2) is
-    (subst (λ (l : NewLine). option_map (λ p. AddLine p l) (place_in nth (before_three fields)) ≡ Some e) (sym s.2) c.2) (λ p. refl)
+    (subst (λ (l : NewLine). option_map (λ p. AddLine p l) (place_in nth (before_last 3 fields)) ≡ Some e) (sym s.2) c.2) (λ p. refl)
 
 change-fields : (which : Which) (name : List ℕ) (change : ValueChange) → command_fields (Apply (ChangeValue which name change)) ≡ behind which (texts (change_words name change))
 change-fields (One nth) name change = refl
@@ -219,6 +310,9 @@ with-written (One nth) word.RecipeSet fields e h = numbered-written (One nth) wo
 with-written (One nth) word.RecipeDel fields e h = recipe_del-written nth fields e h
 with-written (One nth) word.RecipeReplace fields e h = three-written (One nth) word.RecipeReplace fields e (λ a b c. SetRecipe nth a (ByText b) c) h (λ a b c. refl)
 with-written (One nth) word.RecipeRemove fields e h = two-written (One nth) word.RecipeRemove fields e (λ a b. RemoveLines (OfRecipe nth a (ByText b))) h (λ a b. refl)
+with-written (One nth) word.Insert fields e h = insert-written nth fields e h
+with-written (One nth) word.LineReplace fields e h = line_replace-written nth fields e h
+with-written (One nth) word.LineRemove fields e h = line_remove-written nth fields e h
 with-written (One None) word.Rename fields e h = two-written (One None) word.Rename fields e (λ a b. RenameTarget a b) h (λ a b. refl)
 with-written (One (Some n)) word.Rename fields e h = absurd (cc)
 with-written (One nth) w fields e h = change_line-written nth w fields e h

@@ -6,16 +6,18 @@ use Rattle.std.proofs.lemmas.Option.{some_pair_parts}
 use Rattle.mk_lines.specs.Lists.{Each}
 use Rattle.mk_lines.specs.Bytes.{is_blank_byte}
 use Rattle.mk_edit_language.specs.Edits.{Edit}
+use Rattle.mk_edit_language.specs.LineRuns.{block_lines}
 use Rattle.mk_history.specs.Machine.{Command, Apply}
 use Rattle.mk_script.specs.Fields.{quoted, HasFields}
-use Rattle.mk_script.specs.CommandTable.{Content, Text, Number, command_fields, HaveContents}
+use Rattle.mk_script.specs.CommandTable.{Content, Text, Number, Block, command_fields, HaveContents}
 use Rattle.mk_script.specs.Lines.{HasCommand, Plain, Try, Or, HasEditAfter}
 use Rattle.mk_script.specs.ScriptLaws.{line_of, CanBeWritten, FieldsAreOne, WrittenFieldsAreRead, EachSayingHasALine}
-use Rattle.mk_script.specs.WrittenEdits.{content_text}
+use Rattle.mk_script.specs.WrittenEdits.{block_text, content_text}
 use Rattle.mk_script.specs.FieldReading.{first_field, field_at_front, after_blanks}
 use Rattle.mk_script.proofs.on_fields.BlankLemmas.{over-blanks}
 use Rattle.mk_script.proofs.on_fields.FirstLemmas.{begins-read}
 use Rattle.mk_script.proofs.on_fields.NumberLemmas.{decimal-number}
+use Rattle.mk_script.proofs.on_commands.BlockLemmas.{block-text}
 
 -- ---- fields
 
@@ -62,6 +64,8 @@ pub contents-had : (contents : List Content) → CanBeWritten contents → HaveC
 contents-had [] h = tt
 contents-had (Text t ∷ contents) h = (refl, contents-had contents h)
 contents-had (Number n ∷ contents) h = (decimal-number n h.0, contents-had contents h.1)
+contents-had (Block lines ∷ contents) h =
+    (ap (λ ls. block_lines (block_text ls)) (sym h.0.1) ∙ (ap block_lines (block-text h.0.0) ∙ h.0.1), contents-had contents h.1)
 
 command-line : (c : Command Edit) → CanBeWritten (command_fields c) → (line : List ℕ) × HasCommand line c
 command-line c h =

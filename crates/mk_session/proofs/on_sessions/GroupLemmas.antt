@@ -227,6 +227,11 @@ group-step es h new_h group back old new s seen shut some made pushed =
     (rw (closed h group old s seen shut, pushed) (whole-made es (shown_stored h None old) (located_text new) some refl made.texts
     ∙ edit-steps (λ _ _. Unit {0}) after_patches located_text act tt h back old new refl made.leads_back))
 
+-- no edits make nothing
+pub group-of_none : (es : List Edit) (h : Stacks Patches) (group : Option Patches) (doc : List LocatedLine) (s : Shown (List ℕ)) → es ≡ [] → shown_stored h group doc ≡ s → is_some s.begun ≡ false → answers (as_group es) s ≡ Ok s
+group-of_none es h group doc s none seen shut =
+    subst (λ (x : Shown (List ℕ)). answers (as_group es) x ≡ Ok x) seen (rw (none, closed h group doc s seen shut) refl)
+
 pub group-stored : (es : List Edit) (h new_h : Stacks Patches) (group : Option Patches) (back : Patches) (old new : List LocatedLine) (s : Shown (List ℕ)) → shown_stored h group old ≡ s → is_some s.begun ≡ false → IsStored h group old → AreMade es old new back
     → new_h ≡ record h { done = take h.depth (back ∷ h.done); undone = [] } → IsStored new_h group new
 group-stored es h new_h group back old new s seen shut kept made pushed =

@@ -1,5 +1,5 @@
 -- The machine refuses nothing for want of memory.
-use Rattle.std.proofs.Common.{◌≡◌, refl, ap, ◌∙◌, ℕ, Bool, true, false, List, [], ◌∷◌, Option, Some, None, Ok, Err}
+use Rattle.std.proofs.Common.{◌≡◌, refl, ap, ◌∙◌, ℕ, Bool, true, false, List, [], ◌∷◌, take, drop, Option, Some, None, Ok, Err}
 use Rattle.std.specs.Prelude.{Result, if◌then◌else◌, nat_lt}
 use Rattle.mk_lines.specs.Pieces.{Replacement}
 use Rattle.mk_lines.specs.Cells.{Cell}
@@ -11,9 +11,10 @@ use Rattle.mk_history.specs.Machine as machine
 use Rattle.mk_history.specs.Machine.{Command, Apply, Undo, Redo, Begin, End, Cancel}
 use Rattle.mk_history.specs.Shown.{Shown, shown_edited, shown_ended, shown_back, shown_forward}
 use Rattle.mk_session.specs.Sessions.{answer, edited, text_with, session_refusal}
-use Rattle.mk_edit_language.specs.Edits.{Place, Bottom, Every, Add, Remove, AddPrereq, RemovePrereq, RecipeLine, ByNumber, ByText, At, OfRule, OfRecipe, LineChange, InsertWord, Edit, ChangeValue, ChangeLine, ChangePrereqs, AddLine, AddRecipe, SetRecipe, RemoveLines, RenameTarget}
+use Rattle.mk_edit_language.specs.Edits.{Place, Bottom, Site, AtPlace, Every, Add, Remove, AddPrereq, RemovePrereq, RecipeLine, ByNumber, ByText, At, OfRule, OfRecipe, LineChange, InsertWord, Edit, ChangeValue, ChangeLine, ChangePrereqs, AddLine, AddRecipe, SetRecipe, RemoveLines, RenameTarget, ExchangeLines}
 use Rattle.mk_tree.specs.LineTexts.{StandingLine}
 use Rattle.mk_edit_language.specs.Addresses.{Address, Variable, address}
+use Rattle.mk_edit_language.specs.Stretches.{Stretch}
 use Rattle.mk_edit_language.specs.ValueChanges.{has_value_word}
 use Rattle.mk_edit_language.specs.EditSpans.{spans_of}
 use Rattle.mk_edit_language.specs.Causes.{where_holds}
@@ -21,7 +22,9 @@ use Rattle.mk_edit_language.specs.ArgumentCauses.{FieldTest, Tested, first_faile
 use Rattle.mk_edit_language.specs.AddressCauses.{unread_prefix, no_such, no_such_line, ambiguous, ambiguous_line, prefix_led}
 use Rattle.mk_edit_language.specs.RuleCauses.{class_meant, not_one, no_recipe, absent, count_of_word, not_beside, not_inserted, already, taken, shared_rule, straddles}
 use Rattle.mk_edit_language.specs.LineCauses.{open_value, open_line, open_define, open_define_at, leaning, too_long, misread}
-use Rattle.mk_edit_language.specs.Refusals.{first_cause, unless_refused, causes, spans}
+use Rattle.mk_edit_language.specs.LineRuns.{site_found}
+use Rattle.mk_edit_language.specs.ExchangeCauses.{exchange_causes}
+use Rattle.mk_edit_language.specs.Refusals.{first_cause, unless_refused, item_causes, causes, spans}
 use Rattle.mk_edit_language.specs.declared.refusal.Refusal.{Refusal}
 use Rattle.mk_edit_language.specs.declared.refusal.Refusal.TheVariants.{Reserved, RecipePrefix, NoSuch, Ambiguous, Absent, Already, Taken, SharedRule, Straddles, OpenValue, OpenLine, OpenDefine, Leans, TooLong, NoMemory, Misread}
 
@@ -135,8 +138,8 @@ first_cause-other : (o : Option Refusal) (cs : List (Option Refusal)) → IsOthe
 first_cause-other None cs first rest h = rest h
 first_cause-other (Some r) cs first rest h = first h
 
-causes-other : (t : List ℕ) (ls : List ClassedLine) (e : Edit) → IsOther (first_cause (causes t ls e))
-causes-other t ls e =
+item_causes-other : (t : List ℕ) (ls : List ClassedLine) (e : Edit) → IsOther (first_cause (item_causes t ls e))
+item_causes-other t ls e =
     first_cause-other (bad_argument e) _ (first_failed-other (field_tests e))
     (first_cause-other (reserved e) _ (where_holds-other _ Reserved (λ k. absurd (cc)))
     (first_cause-other (unread_prefix ls) _ (where_holds-other _ RecipePrefix (λ k. absurd (cc)))
@@ -155,6 +158,43 @@ causes-other t ls e =
     (first_cause-other (too_long t (spans_of t ls e)) _ (where_holds-other _ TooLong (λ k. absurd (cc)))
     (first_cause-other (misread ls e) [] (misread-other ls e)
     nothing-other))))))))))))))))
+
+-- causes, none of which is want of memory
+abbrev AreOther : List (Option Refusal) → Type 0
+AreOther [] = Unit {0}
+AreOther (c ∷ cs) = IsOther c × AreOther cs
+
+first-other : (cs : List (Option Refusal)) → AreOther cs → IsOther (first_cause cs)
+first-other [] h = nothing-other
+first-other (c ∷ cs) h = first_cause-other c cs h.0 (first-other cs h.1)
+
+-- of the causes of whole lines, the ninth is that of a place
+place-other : (t : List ℕ) (ls : List ClassedLine) (s : Site) (ts : List (List ℕ)) (found : Option Stretch) → AreOther (take 1 (drop 8 (exchange_causes t ls s ts found)))
+place-other t ls (AtPlace p) ts found = (open_define_at-other ls p, tt)
+place-other t ls s ts found = (nothing-other, tt)
+
+and : {A B : Type 0} → A → B → A × B
+and x y = (x, y)
+
+exchange_causes-other : (t : List ℕ) (ls : List ClassedLine) (s : Site) (ts : List (List ℕ)) (found : Option Stretch) → AreOther (exchange_causes t ls s ts found)
+exchange_causes-other t ls s ts found =
+    and (first_failed-other (field_tests (ExchangeLines s ts)))
+    (and (where_holds-other _ Reserved (λ k. absurd (cc)))
+    (and (where_holds-other _ RecipePrefix (λ k. absurd (cc)))
+    (and (where_holds-other _ NoSuch (λ k. absurd (cc)))
+    (and (where_holds-other _ Already (λ k. absurd (cc)))
+    (and (where_holds-other _ (Ambiguous _) (λ k. absurd (cc)))
+    (and (where_holds-other _ Already (λ k. absurd (cc)))
+    (and (where_holds-other _ OpenLine (λ k. absurd (cc)))
+    (and (place-other t ls s ts found).0
+    (and (where_holds-other _ TooLong (λ k. absurd (cc)))
+    (and (where_holds-other _ Misread (λ k. absurd (cc)))
+    (and (where_holds-other _ Leans (λ k. absurd (cc)))
+    tt)))))))))))
+
+causes-other : (t : List ℕ) (ls : List ClassedLine) (e : Edit) → IsOther (first_cause (causes t ls e))
+causes-other t ls (ExchangeLines s ts) = first-other (exchange_causes t ls s ts (site_found ls s)) (exchange_causes-other t ls s ts (site_found ls s))
+causes-other t ls e = item_causes-other t ls e
 
 unless_refused-other : (o : Option Refusal) (rs : List Replacement) → IsOther o → unless_refused o rs ≡ Err NoMemory → ⊥
 unless_refused-other None rs other h = absurd (cc)

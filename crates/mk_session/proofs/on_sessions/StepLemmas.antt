@@ -7,7 +7,7 @@ use Rattle.mk_tree.proofs.on_documents.DocumentLemmas.{faithful-text}
 use Rattle.mk_edit_language.specs.Edits.{Edit}
 use Rattle.mk_edit_language.specs.Refusals.{spans, text_by, text_after}
 use Rattle.mk_edit_language.specs.declared.refusal.Refusal.{Refusal}
-use Rattle.mk_edit_language.specs.declared.refusal.Refusal.TheVariants.{NoMemory, Misread}
+use Rattle.mk_edit_language.specs.declared.refusal.Refusal.TheVariants.{NoMemory, Misread, Leans}
 use Rattle.mk_edit.specs.Planned.{IsPlanned, IsRefusal}
 use Rattle.mk_patch.specs.Moves.{Move, after_moves}
 use Rattle.mk_history.specs.Machine.{Apply, End, EditRefused}
@@ -71,7 +71,8 @@ answer-accepted e s t rs text h =
 pub refused-there : (e : Edit) (s : Shown (List ℕ)) (t : List ℕ) (r : Refusal) → s.text ≡ t → IsRefusal t e r → IsEditRefusal e s r
 refused-there e s t r text (inl refused) = inl (answer-refused e s t r text refused)
 refused-there e s t r text (inr (none, inl (rs, accepted))) = inr (none, inl (shown_edited (text_after t e) s, answer-accepted e s t rs text accepted))
-refused-there e s t r text (inr (none, inr misread)) = inr (none, inr (answer-refused e s t Misread text misread))
+refused-there e s t r text (inr (none, inr (inl misread))) = inr (none, inr (inl (answer-refused e s t Misread text misread)))
+refused-there e s t r text (inr (none, inr (inr (whole, leans)))) = inr (none, inr (inr (whole, answer-refused e s t Leans text leans)))
 
 -- a refusal of planning is one of the session
 pub edit-refused : (e : Edit) (h : Stacks Patches) (group : Option Patches) (doc : List LocatedLine) (s : Shown (List ℕ)) (r : Refusal) → shown_stored h group doc ≡ s → IsRefusal (located_text doc) e r → IsEditRefusal e s r

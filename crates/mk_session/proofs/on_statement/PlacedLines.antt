@@ -15,7 +15,7 @@ use Rattle.mk_tree.specs.LineTexts.{context_of, bytes_of}
 use Rattle.mk_tree.specs.NewLineEnds.{lacks_line_end, line_ended, last_ended, above_ended}
 use Rattle.mk_tree.proofs.on_documents.LinesInText.{bytes_of-classed, run-in_text}
 use Rattle.mk_tree.proofs.on_changes.NewLineLemmas.{file_line_end-some, line-ended}
-use Rattle.mk_edit_language.specs.Edits.{Edit, ChangeValue, ChangeLine, ChangePrereqs, AddLine, AddRecipe, SetRecipe, RemoveLines, RenameTarget}
+use Rattle.mk_edit_language.specs.Edits.{Edit, ChangeValue, ChangeLine, ChangePrereqs, AddLine, AddRecipe, SetRecipe, RemoveLines, RenameTarget, ExchangeLines}
 use Rattle.mk_edit_language.specs.Stretches.{Stretch, between, insertion, touched_by}
 use Rattle.mk_edit_language.specs.LineCauses.{follows_open_line}
 use Rattle.mk_edit_language.specs.KeptLines.{edited_bytes, edited_lines, above_after}
@@ -24,6 +24,7 @@ use Rattle.mk_edit_language.specs.declared.refusal.Refusal.TheVariants.{OpenLine
 use Rattle.mk_edit_language.proofs.on_edits.Accepted.{accepted, where_holds-none}
 use Rattle.mk_edit_language.proofs.on_edits.EditPlaces.{touched-stretch}
 use Rattle.mk_edit_language.proofs.on_edits.EditedLineLemmas.{edited}
+use Rattle.mk_edit_language.proofs.on_line_runs.LinesAbove.{last-has_end}
 use Rattle.mk_session.specs.Statement.{Lines, Become}
 
 -- ---- a last line that gets a line end
@@ -58,18 +59,21 @@ last-line t front l w o = go (lacks_line_end l) refl (line-ended t front l (file
     go true n h = inr (h ∙ no_line_end l.bytes n)
     go false n h = inl (rw n refl)
 
-passes-last : (front : List ClassedLine) (l : ClassedLine) → last_passes (λ k. is_open k.bytes) (front ++ l ∷ []) ≡ is_open l.bytes
-passes-last [] l = refl
-passes-last (x ∷ []) l = refl
-passes-last (x ∷ y ∷ front) l = passes-last (y ∷ front) l
+passes-last : (test : ClassedLine → Bool) (front : List ClassedLine) (l : ClassedLine) → last_passes test (front ++ l ∷ []) ≡ test l
+passes-last test [] l = refl
+passes-last test (x ∷ []) l = refl
+passes-last test (x ∷ y ∷ front) l = passes-last test (y ∷ front) l
 
--- the lines above a new line
-above-new : (t : List ℕ) (above below : List ClassedLine) → classed_lines t ≡ above ++ below → (is_empty below && last_passes (λ k. is_open k.bytes) above) ≡ false
+-- the lines above new ones, which may stand in the place of others
+pub above-new : (t : List ℕ) (above run below : List ClassedLine) → classed_lines t ≡ above ++ (run ++ below) → (is_empty below && last_passes (λ k. is_open k.bytes) above) ≡ false
     → AllZip IsEnded (bytes_of above) (bytes_of (above_ended (file_line_end t) above below))
-above-new t above (b ∷ below) w o = same-lines (bytes_of above)
-above-new t above [] w o =
+above-new t above run (b ∷ below) w o = same-lines (bytes_of above)
+above-new t above (k ∷ run) [] w o =
+    let ended : last_passes lacks_line_end above ≡ false = last-has_end t [] above k (run ++ []) w in
+    above-last (file_line_end t) above (λ front l q. let n : lacks_line_end l ≡ false = sym (passes-last lacks_line_end front l) ∙ (ap (last_passes lacks_line_end) (sym q) ∙ ended) in inl (rw n refl))
+above-new t above [] [] w o =
     above-last (file_line_end t) above
-    (λ front l q. last-line t front l (w ∙ (append-nil above ∙ q)) (sym (passes-last front l) ∙ (ap (last_passes (λ k. is_open k.bytes)) (sym q) ∙ o)))
+    (λ front l q. last-line t front l (w ∙ (append-nil above ∙ q)) (sym (passes-last (λ k. is_open k.bytes) front l) ∙ (ap (last_passes (λ k. is_open k.bytes)) (sym q) ∙ o)))
 
 -- the lines above those that an edit touches
 put-above : (t : List ℕ) (e : Edit) (rs : List Replacement) (s : Stretch) → option_map between (insertion (classed_lines t) e) ≡ Some s → touched_by (classed_lines t) e ≡ Some s → spans t e ≡ Ok rs
@@ -82,7 +86,7 @@ put-above t e rs s m p h = go (insertion (classed_lines t) e) m (where_holds-non
         let same : between n ≡ s = cc in
         let whole : classed_lines t ≡ s.above ++ s.below = touched-stretch (classed_lines t) e s p ∙ ap (λ z. s.above ++ (z ++ s.below)) (ap (λ (z : Stretch). z.lines) (sym same)) in
         let not_open : (is_empty s.below && last_passes (λ k. is_open k.bytes) s.above) ≡ false = subst (λ (z : Stretch). (is_empty z.below && last_passes (λ k. is_open k.bytes) z.above) ≡ false) same f in
-        above-new t s.above s.below whole not_open
+        above-new t s.above [] s.below whole not_open
 
 above-ended : (t : List ℕ) (e : Edit) (rs : List Replacement) (s : Stretch) → touched_by (classed_lines t) e ≡ Some s → spans t e ≡ Ok rs
     → AllZip IsEnded (bytes_of s.above) (bytes_of (above_after t (insertion (classed_lines t) e) s))
@@ -94,6 +98,7 @@ above-ended t (ChangePrereqs nth g c) rs s h k = same-lines (bytes_of s.above)
 above-ended t (SetRecipe nth g w c) rs s h k = same-lines (bytes_of s.above)
 above-ended t (RemoveLines r) rs s h k = same-lines (bytes_of s.above)
 above-ended t (RenameTarget o n) rs s h k = same-lines (bytes_of s.above)
+above-ended t (ExchangeLines a ts) rs s h k = absurd (cc)
 
 -- ---- lines that become others
 

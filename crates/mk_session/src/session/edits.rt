@@ -1,18 +1,20 @@
 //! The edits of a session, in a call each.
-ghost use Rattle.std.specs.Prelude.{◌≡◌, IfOk, None, false, true};
-ghost use Rattle.mk_edit_language.specs.EditViews.{edit_of, place_of};
+ghost use Rattle.std.specs.Prelude.{◌≡◌, [], IfOk, None, false, true};
+ghost use Rattle.mk_edit_language.specs.EditViews.{edit_of, place_of, site_of};
 ghost use Rattle.mk_edit_language.specs.Edits as edits;
+ghost use Rattle.mk_edit_language.specs.LineRuns.{block_lines};
 ghost use Rattle.mk_edit_language.specs.declared.edit.Side.TheVariants.{Before, After};
 ghost use Rattle.mk_session.specs.Applied.{IsApplied};
 
 use super::Session;
 use mk_class::Flavor;
 use mk_edit::{Edit, Place, Refusal, RuleSeparator};
+use mk_edit_language::Site;
 use std::alloc::{AllocError, Allocator};
 
 /// Makes edits, in a call each. A call copies its texts, makes the edit that the call of the same name of
-/// [`Edit`] or [`Place`] makes, and hands it to [`Session::apply`]. An edit of a line by its number is a
-/// value for `apply`, since [`Edit::nth`] gives it the number.
+/// [`Edit`], [`Place`] or [`Site`] makes, and hands it to [`Session::apply`]. An edit of a line by its
+/// number is a value for `apply`, since [`Edit::nth`] gives it the number.
 ///
 /// Each call has the errors of [`Session::apply`], and [`Refusal::NoMemory`] if there is no memory for
 /// the copy of a text. No cause of a refusal is looked for then.
@@ -257,6 +259,31 @@ impl<A: Allocator + Copy> Session<A> {
             result self.old self.new }
     {
         self.apply_made(Edit::rename(self.alloc, old, new))
+    }
+
+    /// `insert PLACE BLOCK`: makes the edit of [`Site::insert`].
+    pub fn insert(&mut self, site: Site<A>, block: &[u8]) -> Result<(), Refusal>
+        ensures { IsApplied (edits.ExchangeLines (site_of site) (block_lines block.now))
+            result self.old self.new }
+    {
+        self.apply_made(site.insert(self.alloc, block))
+    }
+
+    /// `line-replace OLD BLOCK`: makes the edit of [`Edit::line_replace`].
+    pub fn line_replace(&mut self, old: &[u8], block: &[u8]) -> Result<(), Refusal>
+        ensures { IsApplied
+            (edits.ExchangeLines (edits.OfRun None (block_lines old.now)) (block_lines block.now))
+            result self.old self.new }
+    {
+        self.apply_made(Edit::line_replace(self.alloc, old, block))
+    }
+
+    /// `line-remove OLD`: makes the edit of [`Edit::line_remove`].
+    pub fn line_remove(&mut self, old: &[u8]) -> Result<(), Refusal>
+        ensures { IsApplied (edits.ExchangeLines (edits.OfRun None (block_lines old.now)) [])
+            result self.old self.new }
+    {
+        self.apply_made(Edit::line_remove(self.alloc, old))
     }
 
     // Makes an edit, if there was memory to make it of its texts.

@@ -38,7 +38,7 @@ impl<A: Allocator + Copy> Session<A> {
     /// - The first edit that is refused, with its first [`Refusal`] whose cause holds, as
     ///   [`Session::apply`] tells it.
     /// - An edit and [`Refusal::NoMemory`] if a growth was refused and no edit up to this one has a
-    ///   cause, but perhaps this one [`Refusal::Misread`].
+    ///   cause, but perhaps this one [`Refusal::Misread`], or [`Refusal::Leans`] of whole lines.
     pub fn group(&mut self, edits: &[Edit<A>]) -> Result<(), (usize, Refusal)>
         ensures done { OnOk result
             (answers (as_group (map edit_of edits.now)) self.old.shown ≡ Ok self.new.shown) }
@@ -102,8 +102,8 @@ pub(super) fn make_all<A: Allocator + Copy>(
     Ok(back)
 }
 
-// Why an edit is not made for which there is no room: for its cause, if it has one (of Misread it may
-// tell NoMemory).
+// Why an edit is not made for which there is no room: for its cause, if it has one (of Misread, and of
+// Leans of whole lines, it may tell NoMemory).
 fn refusal_without_room<A: Allocator + Copy>(
     alloc: A,
     doc: &mut IndexedDoc<A>,

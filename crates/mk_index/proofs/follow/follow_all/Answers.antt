@@ -5,6 +5,9 @@ use Rattle.mk_index.specs.Blocks.{AreBlocks}
 use Rattle.mk_index.proofs.on_blocks.FollowedLemmas.{move-here}
 use Rattle.mk_index.proofs.follow.follow_all.Goals as goal
 
+pub steps-init : goal.steps-init
+steps-init g c = λ s ms n o lines end h fit. (h, fit.in_turn)
+
 pub steps-preserved : goal.steps-preserved
 steps-preserved g c = λ s ms n o lines end h fit.
     let before = c.steps.invariant s ms n o lines end h fit in

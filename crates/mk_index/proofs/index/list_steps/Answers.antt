@@ -14,7 +14,7 @@ use Rattle.mk_index.proofs.index.list_steps.Goals as goal
 pub line-requires : goal.line-requires
 line-requires g c =
     let there = ap (λ s. Some (move_of s)) (sym c.in-Some-Exchange.field-0-is) ∙ c.in-Some-Exchange.ensures in
-    let h = rising-here c.args.patch.now 0 c.steps.number (c.steps.number + 1) c.in-Some-Exchange.at (line_view c.in-Some-Exchange.line) c.args.doc.now (omega arith) there (c.is_rising.ensures (search rules)) c.requires.fit (faithful-each (after_moves c.args.patch.now c.args.doc.now) c.requires.faithful_after) in
+    let h = rising-here c.args.patch.now 0 c.steps.number (c.steps.number + 1) c.in-Some-Exchange.at (line_view c.in-Some-Exchange.line) c.args.doc.now (omega arith) there (c.is_rising.ensures (search rules)) c.requires.fit.in_turn (faithful-each (after_moves c.args.patch.now c.args.doc.now) c.requires.faithful_after) in
     h.within
 
 pub list_exchanged-requires-clause-old : goal.list_exchanged-requires-clause-old
@@ -23,7 +23,7 @@ list_exchanged-requires-clause-old g c = classed-at c.args.doc.now c.in-Some-Exc
 pub list_exchanged-requires-clause-new : goal.list_exchanged-requires-clause-new
 list_exchanged-requires-clause-new g c =
     let there = ap (λ s. Some (move_of s)) (sym c.in-Some-Exchange.field-0-is) ∙ c.in-Some-Exchange.ensures in
-    let h = rising-here c.args.patch.now 0 c.steps.number (c.steps.number + 1) c.in-Some-Exchange.at (line_view c.in-Some-Exchange.line) c.args.doc.now (omega arith) there (c.is_rising.ensures (search rules)) c.requires.fit (faithful-each (after_moves c.args.patch.now c.args.doc.now) c.requires.faithful_after) in
+    let h = rising-here c.args.patch.now 0 c.steps.number (c.steps.number + 1) c.in-Some-Exchange.at (line_view c.in-Some-Exchange.line) c.args.doc.now (omega arith) there (c.is_rising.ensures (search rules)) c.requires.fit.in_turn (faithful-each (after_moves c.args.patch.now c.args.doc.now) c.requires.faithful_after) in
     h.classed
 
 pub returns-then-not-branch : goal.returns-then-not-branch
@@ -48,7 +48,7 @@ steps-preserved g c = λ ms end h b.
     let bs = c.args.blocks.now in
     let new = c.list_exchanged.new.chains in
     let there = ap (λ s. Some (move_of s)) (sym c.in-Some-Exchange.field-0-is) ∙ c.in-Some-Exchange.ensures in
-    let here = rising-here moves 0 c.steps.number (c.steps.number + 1) at l doc (omega arith) there (c.is_rising.ensures (search rules)) c.requires.fit (faithful-each (after_moves moves doc) c.requires.faithful_after) in
+    let here = rising-here moves 0 c.steps.number (c.steps.number + 1) at l doc (omega arith) there (c.is_rising.ensures (search rules)) c.requires.fit.in_turn (faithful-each (after_moves moves doc) c.requires.faithful_after) in
     let kept : c.in_ok-list_exchanged.field-0 ≡ true = c.if-not-branch.false in
     subst (λ (ls : List LocatedLine). Keeping s doc ls new bs end) (sym here.after)
     (keeping-next s doc now c.steps.chains new bs end at c.in-Some.block k l (c.steps.invariant ms end h b) (c.line.ensures ∙ sym here.same) c.in-Some.ensures

@@ -1,15 +1,15 @@
 -- What waits leads to the end, and what was taken back leads to the start.
 use Rattle.std.proofs.Common.{◌≡◌, ◌≤◌, ◌+◌, length}
-use Rattle.mk_patch.specs.Moves.{FitMoves, after_moves, held_by, taken_by}
+use Rattle.mk_patch.specs.Moves.{FitInTurn, after_moves, held_by, taken_by}
 use Rattle.mk_patch.specs.StepMoves.{moves_of}
 use Rattle.mk_patch.proofs.patch.make_all.Given as goal
 
 abbrev pub invariant-loop-step : goal.invariant-loop-step
 invariant-loop-step g l = record {
-  fit : FitMoves (moves_of l.waiting.items) l.doc;
-  ahead : after_moves (moves_of l.waiting.items) l.doc ≡ after_moves (moves_of l.fn.waiting.items) l.fn.doc;
-  fits_back : FitMoves (moves_of l.inverses.items) l.doc;
-  leads_back : after_moves (moves_of l.inverses.items) l.doc ≡ l.fn.doc;
+  fit : FitInTurn (moves_of l.waiting.items) l.draft;
+  ahead : after_moves (moves_of l.waiting.items) l.draft ≡ after_moves (moves_of l.fn.waiting.items) l.fn.draft;
+  fits_back : FitInTurn (moves_of l.inverses.items) l.draft;
+  leads_back : after_moves (moves_of l.inverses.items) l.draft ≡ l.fn.draft;
   held : held_by (moves_of l.inverses.items) + taken_by (moves_of l.waiting.items) ≡ taken_by (moves_of l.fn.waiting.items);
   takes : taken_by (moves_of l.inverses.items) + held_by (moves_of l.waiting.items) ≡ held_by (moves_of l.fn.waiting.items);
   count : length l.waiting.items + length l.inverses.items ≡ length l.fn.waiting.items;

@@ -1,4 +1,6 @@
-use Rattle.std.proofs.Common.{map, sym, subst}
+use Rattle.std.proofs.Common.{◌∙◌, ap, map, sym, subst, inr}
+use Rattle.std.specs.Prelude.{is_ok}
+use Rattle.mk_lines.specs.Device.{count_if}
 use Rattle.mk_run.specs.RunSteps.{StopsScript}
 use Rattle.mk_run.specs.declared.outcome.Outcome.{Outcome}
 use Rattle.mk_script.specs.Scripts.{step_of}
@@ -30,3 +32,9 @@ returns-in-Err-NotACommand-clause-stops g c = (
 
 pub returns-clause-stops : goal.returns-clause-stops
 returns-clause-stops g c = c.in-Ok.ensures.works (λ no. absurd (cc))
+
+pub returns-in-Ok-parse_script-clause-script : goal.returns-in-Ok-parse_script-clause-script
+returns-in-Ok-parse_script-clause-script g c = record {
+  taken = c.read_all.ensures.taken;
+  ends_once = inr (c.read_all.ensures.ends ∙ ap (λ r. count_if (is_ok r) (g.S.ByteSource.ends c.args.script.now)) c.in-Ok.is);
+}

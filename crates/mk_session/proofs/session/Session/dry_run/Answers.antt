@@ -7,7 +7,7 @@ use Rattle.mk_session.specs.Groups.{costs_in_turn}
 use Rattle.mk_session.specs.StoredSessions.{IsStored, shown_stored}
 use Rattle.mk_session.proofs.on_sessions.StepLemmas.{text-shown}
 use Rattle.mk_session.proofs.on_sessions.StoredLemmas.{some-if-counted, none-if-counted}
-use Rattle.mk_session.proofs.on_sessions.GroupLemmas.{none-counted, group-step, group-refused}
+use Rattle.mk_session.proofs.on_sessions.GroupLemmas.{none-counted, group-step, group-of_none, group-refused}
 use Rattle.mk_session.proofs.session.Session.dry_run.Goals as goal
 
 pub returns-in-Err-clause-refused : goal.returns-in-Err-clause-refused
@@ -51,3 +51,9 @@ pub returns-then-is_empty-clause-counted : goal.returns-then-is_empty-clause-cou
 returns-then-is_empty-clause-counted g c =
     let s = c.args.self.now in
     subst (λ es. AreCounted s.rereads (costs_in_turn (map edit_of es) s.shown.text) s.rereads) (sym (none-if-counted c.args.edits.now c.if-is_empty.ensures)) (none-counted s.rereads)
+
+pub returns-then-is_empty-clause-granted : goal.returns-then-is_empty-clause-granted
+returns-then-is_empty-clause-granted g c =
+    ap is_ok
+    (group-of_none (map edit_of c.args.edits.now) c.self.inside.history c.self.inside.group c.self.inside.doc c.args.self.now.shown (ap (map edit_of) (none-if-counted c.args.edits.now c.if-is_empty.ensures)) (ap (λ s. s.shown) c.self.view_is)
+    (sym c.if-has_open_group.ensures))

@@ -1,15 +1,7 @@
-use Rattle.std.proofs.Common.{arith, ap, length, ◌+◌, []}
-use Rattle.mk_tree.specs.LocatedLines.{size_of}
 use Rattle.mk_tree.proofs.Changes.{fit-remove_steps}
-use Rattle.mk_tree.proofs.OriginLemmas.{untouched-kept}
 use Rattle.mk_tree.proofs.document.Doc.remove.Goals as goal
 
-pub invariant_of-self : goal.invariant_of-self
-invariant_of-self g c =
-    let fit = fit-remove_steps c.self.inside.tree.0 c.replace-tree.result.0 c.args.self.now _ c.args.at (ap (λ t. t.0) c.replace-tree.ensures.value) c.self.view_is c.requires.plain c.self.invariant.0 c.remove-tree.ensures.lines in
-    let untouched = untouched-kept _ _ _ _ _ _ c.args.at (c.args.at + 1) c.len.result _ c.self.inside.tree.0 c.replace-tree.result.0 [] _ (ap (λ t. t.0) c.replace-tree.ensures.value) c.len.ensures.len (omega (arith, c.requires.in_range, ap length c.self.view_is)) (omega (arith, c.requires.in_range, ap length c.self.view_is)) (omega arith) c.keep.ensures.text c.keep.ensures.first c.keep.ensures.last c.self.invariant.2 c.remove-tree.ensures.lines in
-    (fit, omega (arith, c.remove-tree.ensures.size, c.self.invariant.1, ap (λ t. size_of t.0) c.replace-tree.ensures.value, ap length c.bytes.ensures.bytes), untouched)
-
-pub overflow_sub-self : goal.overflow_sub-self
-overflow_sub-self g c =
-    omega (arith, c.remove-tree.ensures.size, c.self.invariant.1, ap (λ t. size_of t.0) c.replace-tree.ensures.value, ap length c.bytes.ensures.bytes)
+pub into_doc-requires : goal.into_doc-requires
+into_doc-requires g c =
+    let d = c.take_draft-draft.ensures in
+    fit-remove_steps c.args.self.now c.take_draft-draft.result _ c.args.at d.lines c.requires.plain d.conditionals c.remove-line.ensures.lines

@@ -1,17 +1,7 @@
-use Rattle.std.proofs.Common.{ap, length, arith, refl, ◌+◌, [], ◌∷◌}
-use Rattle.mk_tree.specs.Trees.{line_view}
-use Rattle.mk_tree.proofs.Changes.{fit-replace_steps, size-replace_steps}
-use Rattle.mk_tree.proofs.OriginLemmas.{untouched-kept}
+use Rattle.mk_tree.proofs.Changes.{fit-replace_steps}
 use Rattle.mk_tree.proofs.document.Doc.replace.Goals as goal
 
-pub invariant_of-self : goal.invariant_of-self
-invariant_of-self g c =
-    let fit = fit-replace_steps _ c.self.inside.tree.0 c.args.self.now _ c.args.at c.self.view_is c.requires.old_plain c.requires.plain c.self.invariant.0 c.replace-old.ensures.lines in
-    let size = size-replace_steps c.self.inside.size (line_view c.args.line) (line_view c.replace-old.result) c.self.inside.tree.0 c.replace-old.new.self.0 c.args.at c.self.invariant.1 c.replace-old.ensures.line c.replace-old.ensures.size in
-    let untouched = untouched-kept _ _ _ _ _ _ c.args.at (c.args.at + 1) c.len.result _ c.self.inside.tree.0 c.self.inside.tree.0 (line_view c.args.line ∷ []) _ refl c.len.ensures.len (omega (arith, c.requires.in_range, ap length c.self.view_is)) (omega (arith, c.requires.in_range, ap length c.self.view_is)) (omega arith) c.keep.ensures.text c.keep.ensures.first c.keep.ensures.last c.self.invariant.2 c.replace-old.ensures.lines in
-    (fit, omega (arith, size.1, ap length c.bytes.ensures.bytes, ap length c.bytes-2.ensures.bytes), untouched)
-
-pub overflow_sub-self : goal.overflow_sub-self
-overflow_sub-self g c =
-    let size = size-replace_steps c.self.inside.size (line_view c.args.line) (line_view c.replace-old.result) c.self.inside.tree.0 c.replace-old.new.self.0 c.args.at c.self.invariant.1 c.replace-old.ensures.line c.replace-old.ensures.size in
-    omega (arith, size.0, ap length c.bytes.ensures.bytes, ap length c.bytes-2.ensures.bytes)
+pub into_doc-requires : goal.into_doc-requires
+into_doc-requires g c =
+    let d = c.take_draft-draft.ensures in
+    fit-replace_steps _ c.args.self.now c.take_draft-draft.result _ c.args.at d.lines c.requires.old_plain c.requires.plain d.conditionals c.replace-old.ensures.lines

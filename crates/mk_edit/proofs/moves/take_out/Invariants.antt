@@ -1,7 +1,0 @@
--- The steps that are gathered so far are all the same.
-use Rattle.std.proofs.Common.{◌≡◌, replicate}
-use Rattle.mk_patch.specs.Moves.{TakeOut}
-use Rattle.mk_edit.proofs.moves.take_out.Given as goal
-
-abbrev pub invariant-lines : goal.invariant-lines
-invariant-lines g l = record { moves : l.patch.moves ≡ replicate l.taken (TakeOut l.at); room : l.patch.room ≡ l.count }
