@@ -4,7 +4,7 @@ from collections.abc import Callable
 from functools import partial
 from typing import NamedTuple, Optional
 
-from jobs import QUERIES, assigns, checked, no_command, query, rename, sets
+from jobs import QUERIES, assigns, checked, no_command, query, recipes_subst, rename, sets, values_subst
 from shared import GREATEST_RATIO, LARGE, QUARTER, SED, best, text_of
 
 SIZES = (1_000_000, 2_000_000, QUARTER, 8_000_000, LARGE)
@@ -21,11 +21,13 @@ class Case(NamedTuple):
     sizes: tuple = (QUARTER, LARGE)
     edits: int = 0
     beside: str = "sed"
+    # the kind of text that sed runs over
+    kind: str = "makefile"
 
     def words_beside(self, program, size):
         """The command that it is compared with."""
         if self.beside == "sed":
-            return [*SED, text_of("makefile", size)]
+            return [*SED, text_of(self.kind, size)]
         return no_command("makefile", size).command(program)
 
 
@@ -58,10 +60,12 @@ BLANK = Case("empty lines", partial(no_command, "blank"), 8, SIZES, beside="make
 ONE, MANY = case_of_sets(1, 2.1, SIZES), case_of_sets(10_000, 3, (QUARTER, LARGE))
 ASSIGNS = Case("1,000 `assign bottom`", partial(assigns, 1_000), 2.3, edits=1_000)
 RENAME = Case("`rename`", rename, 2.5)
+VALUES = Case("`values-subst`", values_subst, 4, kind="settings")
+RECIPES = Case("`recipes-subst`", recipes_subst, 4, kind="pairs")
 ASKED = [Case(f"`{it}`", partial(query, it), 2.7) for it in QUERIES]
 BETWEEN = [case_of_sets(it) for it in (10, 100, 1_000)]
 # Those in between have no aim.
-CASES = (EMPTY, ONE, *BETWEEN, MANY, ASSIGNS, RENAME, *ASKED, BLANK)
+CASES = (EMPTY, ONE, *BETWEEN, MANY, ASSIGNS, RENAME, VALUES, RECIPES, *ASKED, BLANK)
 
 
 def measure(program, case, jobs, firsts, rounds):

@@ -77,6 +77,16 @@ def rename(size):
     return edit("rename", "makefile", size, commands, of_sed)
 
 
+def values_subst(size):
+    """A text replaced in the values of some 120,000 lines of 16 MB."""
+    return edit("values-subst", "settings", size, [b"values-subst -W -w"], [b"/^#/!s/-W/-w/g"])
+
+
+def recipes_subst(size):
+    """A text replaced in some 160,000 recipe lines of 16 MB."""
+    return edit("recipes-subst", "pairs", size, [b'recipes-subst "-c -o" -o'], [b"/^\t/s/-c -o/-o/g"])
+
+
 def many(kind, count, size):
     """A script of commands of a kind, whose names stand all over a makefile of pairs; or of one edit of so many lines.
 

@@ -46,6 +46,10 @@ OF_EVERY_LINE = {
     "all set": "all set ALL value",
     "all append": "all append ALL -DNEW",
     "all drop": "all drop ALL -X",
+    "all prepend": "all prepend ALL -DNEW",
+    "all replace": "all replace ALL -X -DNEW",
+    "all subst": "all subst ALL -X -DNEW",
+    "all operator": "all operator ALL ::=",
 }
 # Edits that count lines, each with a number from all over them.
 OF_COUNTED = {

@@ -13,37 +13,24 @@ pub fn obey(document: &mut Document, command: &Command<'_>) -> Option<()> {
         _ => document.begin(),
     }
     match fields[..] {
-        [kind @ (b"set" | b"append" | b"drop"), name, text] => {
-            change(document, variable(document, name)?, kind, text)?;
-        }
-        [b"all", kind, name, text] => {
-            let lines: Vec<u32> = variables(document, name).collect();
+        [b"all", ref command @ ..] => {
+            let lines: Vec<u32> = variables(document, command.get(1)?).collect();
             for line in &lines {
-                change(document, *line, kind, text)?;
+                change(document, *line, command)?;
             }
             lines.first()?;
         }
-        [b"nth", number, kind, name, text] => {
+        [b"nth", number, ref command @ ..] => {
             // (the table has the last line first)
-            let lines: Vec<u32> = variables(document, name).collect();
-            change(document, *lines.iter().rev().nth(index_of(number)?)?, kind, text)?;
+            let lines: Vec<u32> = variables(document, command.get(1)?).collect();
+            change(document, *lines.iter().rev().nth(index_of(number)?)?, command)?;
         }
-        [b"prepend", name, text] => prepend(document, variable(document, name)?, text)?,
-        [b"replace", name, word, text] => {
-            let number = variable(document, name)?;
-            exchange_places(document, number, text, |line, value| {
-                let all = words(&line[..value.end], value.start);
-                all.filter(|it| line[it.clone()] == *word).collect()
-            })?;
+        [b"set" | b"append" | b"drop" | b"prepend" | b"replace" | b"subst" | b"operator", name, ..] => {
+            change(document, variable(document, name)?, &fields)?;
         }
         [kind @ (b"add-before" | b"add-after"), name, word, new] => {
             put_beside(document, variable(document, name)?, kind == b"add-after", word, new)?;
         }
-        [b"subst", name, old, new] => {
-            let number = variable(document, name)?;
-            exchange_places(document, number, new, |line, value| occurrences(line, value, old))?;
-        }
-        [b"operator", name, text] => set_operator(document, variable(document, name)?, text)?,
         [b"unset", name] => document.take_out(variable(document, name)?),
         [b"assign", ref place @ .., name, operator, value] => {
             let gap: &[u8] = if value.is_empty() { b"" } else { b" " };
@@ -127,11 +114,20 @@ fn place_of(document: &Document, place: &[&[u8]]) -> Option<u32> {
     })
 }
 
-/// Changes the value of a variable in one of its lines.
-fn change(document: &mut Document, number: u32, kind: &[u8], text: &[u8]) -> Option<()> {
-    match kind {
-        b"set" | b"append" => give(document, number, text, kind == b"append"),
-        b"drop" => drop_word(document, number, text),
+/// Changes one of the lines of a variable as a command says, whose name is passed over.
+fn change(document: &mut Document, number: u32, command: &[&[u8]]) -> Option<()> {
+    match command {
+        [kind @ (b"set" | b"append"), _, text] => give(document, number, text, *kind == b"append"),
+        [b"drop", _, word] => drop_word(document, number, word),
+        [b"prepend", _, text] => prepend(document, number, text),
+        [b"replace", _, word, text] => exchange_places(document, number, text, |line, value| {
+            let all = words(&line[..value.end], value.start);
+            all.filter(|it| line[it.clone()] == **word).collect()
+        }),
+        [b"subst", _, old, new] => {
+            exchange_places(document, number, new, |line, value| occurrences(line, value, old))
+        }
+        [b"operator", _, text] => set_operator(document, number, text),
         _ => None,
     }
 }

@@ -49,7 +49,10 @@ REFUSALS = dict(
 )
 REFUSALS[21] = "Misread"
 # The edits that are checked by reading.
-CHECKED = ("PrependValue", "ReplaceWord", "InsertBefore", "InsertAfter", "SubstituteValue", "SetOperator")
+CHECKED = (
+    "PrependValue ReplaceWord InsertBefore InsertAfter SubstituteValue SetOperator"
+    " ChangeEach SubstValues SubstRecipe SubstRecipes"
+).split()
 
 
 def antt_refusal(report):

@@ -35,7 +35,7 @@ import sys
 from pathlib import Path
 
 from row_tables import bytes_of, rows_of_table, unescape
-from script_rows import command_lines_of, meaning_of
+from script_rows import commands_of, meaning_of
 
 CASES = Path(__file__).resolve().parent.parent / "cases"
 TABLES = {
@@ -73,12 +73,17 @@ def escape(text):
     return "\\x2d" if text == b"-" else "".join(map(escaped, text))
 
 
+def above_others(line):
+    """A line of a script with its line end; one that closes with a return has one more, which is no part of it."""
+    return line + (b"\r\n" if line.endswith(b"\r") else b"\n")
+
+
 def command_columns(row, goes_on):
     """The replies and the commands of a row, up to the refusal that ended the run."""
     refused = {int(number): reply for number, reply in REPORT.findall(unescape(row["stderr"]))}
     columns = []
-    for number, line in command_lines_of(bytes_of(row, "script")):
-        columns += [refused.pop(number, "done"), escape(line)]
+    for number, (*lines, last), _ in commands_of(bytes_of(row, "script")):
+        columns += [refused.pop(number, "done"), escape(b"".join(map(above_others, lines)) + last)]
         if columns[-2] != "done" and not goes_on:
             break
     if refused:

@@ -53,11 +53,24 @@ EDITS = {
     b"recipe": ("AddRecipe", [], 2),
     b"recipe-replace": ("SetRecipeByText", [], 3),
     b"recipe-remove": ("RemoveRecipeByText", [], 2),
+    b"recipe-subst": ("SubstRecipe", [], 3),
     b"line-replace": ("ReplaceLines", [], 2),
     b"line-remove": ("RemoveLines", [], 1),
 }
-# The changes of every value of a name, by their word.
-CHANGES = {b"set": "Set", b"append": "Append", b"add": "Add", b"drop": "Remove"}
+# The edits before which no number stands, by their word: their names.
+UNNUMBERED = {b"rename": "RenameTarget", b"values-subst": "SubstValues", b"recipes-subst": "SubstRecipes"}
+# The edits of each assignment of a name, by the word behind `all`: their names, and the change with the
+# number of its texts.
+EVERY = {
+    b"set": ("ChangeValues", "Set", 1),
+    b"append": ("ChangeValues", "Append", 1),
+    b"add": ("ChangeValues", "Add", 1),
+    b"drop": ("ChangeValues", "Remove", 1),
+    b"prepend": ("ChangeEach", "Prepend", 1),
+    b"replace": ("ChangeEach", "ReplaceWord", 2),
+    b"subst": ("ChangeEach", "Substitute", 2),
+    b"operator": ("ChangeEach", "SetOperator", 1),
+}
 # The places of a new line, by their word: those without an address, and those with one; and the same for whole lines.
 ENDS = {b"bottom": "Bottom"}
 PLACES = {b"before-var": "BeforeVar", b"after-var": "AfterVar", b"before-rule": "BeforeRule"}
@@ -65,25 +78,25 @@ TEXT_PLACES = {b"before-line": "BeforeRun", b"after-line": "AfterRun"}
 SITE_ENDS = {**ENDS, b"top": "Top"}
 SITES = {**PLACES, **TEXT_PLACES}
 CALLS = {b"undo": "Undo", b"redo": "Redo", b"begin": "Begin", b"end": "End", b"cancel": "Cancel"}
+# What marks the lines of a block, in a field without quotes.
+MARK = re.compile(rb"<<([A-Za-z0-9_]+)")
 
 
 class NoCommand(Exception):
     """A line is no command."""
 
 
+class Bare(bytes):
+    """A field that has no quotes."""
+
+
 def lines_of(script):
-    """The lines of a script without their ends, each with its number."""
-    at, number = 0, 0
+    """The lines of a script without their ends."""
+    at = 0
     while at < len(script):
-        number += 1
         found = LINE.match(script, at)
-        yield number, found.group(1)
+        yield found.group(1)
         at = found.end()
-
-
-def command_lines_of(script):
-    """The lines of a script that are neither blank nor comments, each with its number."""
-    return ((number, line) for number, line in lines_of(script) if line.strip(b" \t") and not line.startswith(b"#"))
 
 
 def fields_of(line):
@@ -94,9 +107,53 @@ def fields_of(line):
         if found is None:
             raise NoCommand
         quoted, bare = found.groups()
-        fields.append(bare if quoted is None else re.sub(rb"\\(.)", rb"\1", quoted, flags=re.DOTALL))
+        fields.append(Bare(bare) if quoted is None else re.sub(rb"\\(.)", rb"\1", quoted, flags=re.DOTALL))
         at = found.end()
     return fields
+
+
+def first_block(fields):
+    """Where the fields that may be blocks begin among those of a line."""
+    at = 1 if fields[0] in (b"try", b"or") else 0
+    at += 2 if fields[at : at + 1] == [b"nth"] else 0
+    word, place, *_ = [*fields[at : at + 2], b"", b""]
+    if word in (b"line-replace", b"line-remove"):
+        return at + 1
+    if word == b"insert" and place in PLACES:
+        return at + 3
+    return at + 2 if word == b"insert" and (place in SITE_ENDS or place in TEXT_PLACES) else len(fields)
+
+
+def with_blocks(fields, below):
+    """The fields of a line with the lines of their blocks, and how many lines below it these take with their words.
+
+    There are no fields where a block has no line or does not end; it takes all lines then.
+    """
+    first, passed, texts, is_whole = first_block(fields), 0, [], True
+    for at, field in enumerate(fields):
+        mark = MARK.fullmatch(field) if at >= first and isinstance(field, Bare) else None
+        if mark:
+            ends = mark.group(1) in below[passed:]
+            end = below.index(mark.group(1), passed) if ends else len(below)
+            is_whole = is_whole and ends and end > passed
+            field, passed = b"\n".join(below[passed:end]), min(end + 1, len(below))
+        texts.append(bytes(field))
+    return texts if is_whole else [], passed
+
+
+def commands_of(script):
+    """The commands of a script: the number of each line, the line with those of its blocks, and the fields; no fields if
+    the line is no command by them."""
+    lines, passed = list(lines_of(script)), 0
+    for number, line in enumerate(lines, 1):
+        if number <= passed or not line.strip(b" \t") or line.startswith(b"#"):
+            continue
+        try:
+            fields, count = with_blocks(fields_of(line), lines[number:])
+        except NoCommand:
+            fields, count = [], 0
+        passed = number + count
+        yield number, lines[number - 1 : passed], fields
 
 
 def number_of(field):
@@ -129,6 +186,17 @@ def known(table, field):
     return field
 
 
+def every_of(fields):
+    """The edit of each assignment of a name, by the fields behind `all`."""
+    if len(fields) < 2:
+        raise NoCommand
+    word, name, *texts = fields
+    edit, kind, count = EVERY[known(EVERY, word)]
+    if kind == "SetOperator":
+        known(FLAVORS, *taken(texts, 1))
+    return (edit, name, (kind, *taken(texts, count)))
+
+
 def edit_of(nth, word, fields):
     """The edit of a word and the fields after it."""
     if word in EDITS:
@@ -155,8 +223,8 @@ def edit_of(nth, word, fields):
     if word == b"recipe-insert":
         target, number, text = taken(fields, 3)
         return ("InsertRecipe", nth, target, number_of(number), text)
-    if word == b"rename" and nth is None:
-        return ("RenameTarget", *taken(fields, 2))
+    if word in UNNUMBERED and nth is None:
+        return (UNNUMBERED[word], *taken(fields, 2))
     raise NoCommand
 
 
@@ -166,8 +234,7 @@ def command_of(fields):
     if not rest and word in CALLS:
         return (CALLS[word],)
     if word == b"all":
-        change, name, text = taken(rest, 3)
-        return ("ChangeValues", name, (CHANGES[known(CHANGES, change)], text))
+        return every_of(rest)
     if word == b"nth" and len(rest) > 1:
         nth, (word, *rest) = number_of(rest[0]), rest[1:]
     return edit_of(nth, word, rest)
@@ -187,6 +254,8 @@ def is_edit(step):
 
 def add_step(steps, number, fields):
     """Adds to the steps what the fields of a line say."""
+    if not fields:
+        raise NoCommand
     if fields[0] == b"try":
         steps.append(("try", (number, *edit_command_of(fields[1:]))))
     elif fields[0] != b"or":
@@ -202,9 +271,9 @@ def add_step(steps, number, fields):
 def meaning_of(script):
     """The steps of a script with the numbers of their lines, or the first line that is no command."""
     steps = []
-    for number, line in command_lines_of(script):
+    for number, _, fields in commands_of(script):
         try:
-            add_step(steps, number, fields_of(line))
+            add_step(steps, number, fields)
         except NoCommand:
             return number
     return steps
@@ -250,6 +319,12 @@ def antt_change(kind, text):
     return f"(edits.{kind} {text})"
 
 
+def antt_change_of(kind, *texts):
+    """A change of each assignment of a name as a term."""
+    terms = [FLAVORS[it] for it in texts] if kind == "SetOperator" else [antt_text(it) for it in texts]
+    return antt_change(kind, " ".join(terms))
+
+
 def antt_block(text):
     """The lines of a block as a term."""
     return f"(block_lines {antt_text(text)})"
@@ -271,8 +346,8 @@ def antt_site(place):
 
 def antt_argument(name, part):
     """An argument of an edit as a term."""
-    if name == "ChangeValues" and isinstance(part, tuple):
-        return antt_change(part[0], antt_text(part[1]))
+    if name in ("ChangeValues", "ChangeEach") and isinstance(part, tuple):
+        return antt_change_of(*part)
     if isinstance(part, tuple):
         return antt_site(part) if name == "InsertLines" else antt_place(part)
     if isinstance(part, bool):
@@ -309,11 +384,16 @@ FORMS = {
     "InsertLines": "ExchangeLines {0} (block_lines {1})",
     "ReplaceLines": "ExchangeLines (OfRun {0} (block_lines {1})) (block_lines {2})",
     "RemoveLines": "ExchangeLines (OfRun {0} (block_lines {1})) []",
+    "ChangeEach": "EachLine (ChangeEach {0} {1})",
+    "SubstValues": "EachLine (SubstValues {0} {1})",
+    "SubstRecipe": "EachLine (SubstRecipe {0} {1} {2} {3})",
+    "SubstRecipes": "EachLine (SubstRecipes {0} {1})",
 }
 # The words of the forms.
 FORM_WORDS = (
     "One Every NewAssign NewRule AddPrereq RemovePrereq ByNumber ByText Last At OfAssign OfRule OfRecipe AtPlace OfRun"
-    " ChangeValue ChangeLine ChangePrereqs AddLine AddRecipe SetRecipe RemoveLines RenameTarget ExchangeLines"
+    " ChangeEach SubstValues SubstRecipe SubstRecipes ChangeValue ChangeLine ChangePrereqs AddLine AddRecipe SetRecipe"
+    " RemoveLines RenameTarget ExchangeLines EachLine"
 ).split()
 
 

@@ -3,7 +3,7 @@
 import re
 
 import tests.soak  # noqa: F401  (it says where script_rows is)
-from script_rows import CALLS, EDITS, SITE_ENDS, SITES
+from script_rows import CALLS, EDITS, SITE_ENDS, SITES, UNNUMBERED
 from tests.lib.reading import CONDITIONALS as CONDITIONAL_WORDS
 from tests.lib.reading import PREFIX_NAME
 from tests.lib.tables import rows, unescape
@@ -19,13 +19,13 @@ MAKEFILES = ("queries", "corner-queries", "readings/worked")
 TEXT = b"X = 1\na: b\n\tc\n"
 LONGEST = 60
 OTHER_COMMANDS = (
-    b"operator assign rule recipe-set recipe-del recipe-insert recipe-replace recipe-remove rename insert nth all".split()
+    b"operator assign rule recipe-set recipe-del recipe-insert recipe-replace recipe-remove insert nth all".split()
 )
-COMMANDS = [*EDITS, *SITE_ENDS, *SITES, *CALLS, *OTHER_COMMANDS]
+COMMANDS = [*EDITS, *UNNUMBERED, *SITE_ENDS, *SITES, *CALLS, *OTHER_COMMANDS]
 WORDS = [
     *(it + b" " for it in COMMANDS if it not in CALLS),
     *(it + b"\n" for it in CALLS),
-    *(PREFIX_NAME, PREFIX_NAME + b" = ", b"\n%%\n", b"nth 2 ", b"%%1\n", b"\n\t", b"4294967295"),
+    *(PREFIX_NAME, PREFIX_NAME + b" = ", b"\n%%\n", b"nth 2 ", b"%%1\n", b"\n\t", b"4294967295", b"<<E\n", b"\nE\n"),
     *(b"\n%%%%!%d\n" % it for it in (0, 3, 6, 9, 12, 15, 18, 24)),
     *(it + b" " for it in CONDITIONAL_WORDS),
     *(b"else\n", b"endif\n", b"define ", b"endef\n", b"export", b"include ", b"undefine "),
@@ -49,9 +49,10 @@ def runs():
             depth = int(flags[flags.index("-d") + 1]) if "-d" in flags else USUAL_DEPTH
             case = Case(unescape(row["makefile"]), script, depth, True, QUERIES[0])
             yield (commands_of(script), re.sub(r"\d+", "", row["stderr"])), input_of(case)
-    for _, row in rows("scripts/corners"):
-        case = Case(TEXT, unescape(row["script"]), USUAL_DEPTH, True, QUERIES[0])
-        yield (commands_of(case.script), ""), input_of(case)
+    for table in ("scripts/corners", "scripts/blocks"):
+        for _, row in rows(table):
+            case = Case(TEXT, unescape(row["script"]), USUAL_DEPTH, True, QUERIES[0])
+            yield (commands_of(case.script), ""), input_of(case)
 
 
 def inputs():

@@ -49,6 +49,7 @@ def value(name, unit, closing=b"", shown=None, is_closed=True):
             ("set it", b"set LONG two", [(b"LONG = two\n", 1)]),
             ("put a text before it", b"prepend LONG two", [(b"LONG = two ", 1), *values, (b"\n", 1)]),
             ("replace a text in it", b"subst LONG x y", [(b"LONG = ", 1), *other]),
+            ("replace a text in all values", b"values-subst x y", [(b"LONG = ", 1), *other]),
             ("its operator", b"operator LONG :=", [(b"LONG := ", 1), *values, (b"\n", 1)]),
             ("unset it", b"unset LONG", []),
         ]
@@ -164,6 +165,8 @@ def one_name(size):
     edits = (
         ("set the last", b"nth %d set A 2" % count, [(b"A = 1\n", count - 1), (b"A = 2\n", 1)]),
         ("set all", b"all set A 2", [(b"A = 2\n", count)]),
+        ("replace a word of all", b"all replace A 1 2", [(b"A = 2\n", count)]),
+        ("replace a text of all", b"all subst A 1 2", [(b"A = 2\n", count)]),
         ("replace the last", b'nth %d line-replace "A = 1" B' % count, [(b"A = 1\n", count - 1), (b"B\n", 1)]),
         ("insert before the last", b'nth %d insert before-line "A = 1" B' % count, [(b"A = 1\n", count - 1), (b"B\nA = 1\n", 1)]),
     )
@@ -232,6 +235,8 @@ def recipe_lines(size):
         ("recipe-set", b"recipe-set many %d new" % count, [*without, (b"\tnew\n", 1)]),
         ("recipe-del", b"recipe-del many %d" % count, without),
         ("recipe-insert", b"recipe-insert many 1 new", [(b"many:\n\tnew\n", 1), (line, count)]),
+        ("recipe-subst", b"recipe-subst many 9 0", [(b"many:\n", 1), (line.replace(b"9", b"0"), count)]),
+        ("recipes-subst", b"recipes-subst echo :", [(b"many:\n", 1), (line.replace(b"echo", b":"), count)]),
         ("unrule", b"unrule many", []),
         ("rename", b"rename many new", [(b"new:\n", 1), (line, count)]),
         ("line-remove", b'nth %d line-remove "%s"' % (count, line[:-1]), without),
@@ -246,6 +251,7 @@ def one_recipe_line(size):
     edits = (
         ("recipe-set", b"recipe-set many 1 new", [(b"many:\n\tnew\n", 1)]),
         ("recipe-del", b"recipe-del many 1", [(b"many:\n", 1)]),
+        ("recipe-subst", b"recipe-subst many a x", [(b"many:\n", 1), (b"\tx\\\n", size // 4), (b"\tb\n", 1)]),
         ("unrule", b"unrule many", []),
     )
     recipes = [(b"1:0: many:\n2:0: [1] ", 1), (b"a ", size // 4), (b"b\n", 1)]

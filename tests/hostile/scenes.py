@@ -36,6 +36,11 @@ EDITS = {
     "all append": (b"all append LAST two", b"= one", b"= one two"),
     "all add": (b"all add LAST two", b"= one", b"= one two"),
     "all drop": (b"all drop LAST one", b"one # c\n", b"# c\n"),
+    "all prepend": (b"all prepend LAST two", b"= one", b"= two one"),
+    "all replace": (b"all replace LAST one two", b"= one", b"= two"),
+    "all subst": (b"all subst LAST ne ld", b"= one", b"= old"),
+    "all operator": (b"all operator LAST :=", b"LAST =", b"LAST :="),
+    "values-subst": (b"values-subst one two", b"= one", b"= two"),
     "unset": (b"unset LAST", b"LAST = one # c\n", b""),
     "assign": (b"assign after-var LAST NEW = 1", b"last:", b"NEW = 1@last:"),
     "rule": (b'rule before-rule last new : "a b"', b"last:", b"new: a b@last:"),
@@ -49,10 +54,14 @@ EDITS = {
     "recipe-insert": (b"recipe-insert last 2 third", b"\tsecond", b"\tthird@\tsecond"),
     "recipe-replace": (b"recipe-replace last second third", b"second", b"third"),
     "recipe-remove": (b"recipe-remove last first", b"\tfirst\n", b""),
+    "recipe-subst": (b"recipe-subst last second third", b"second", b"third"),
+    "recipes-subst": (b"recipes-subst first third", b"first", b"third"),
     "rename": (b"rename last final", b"last:", b"final:"),
     "insert": (b'insert after-line "LAST = one # c" "# new"', b"last:", b"# new@last:"),
     "line-replace": (b'line-replace "END = 1" "END = 2"', b"END = 1", b"END = 2"),
     "line-remove": (b'line-remove "\tfirst"', b"\tfirst\n", b""),
+    "insert lines": (b"insert before-rule last <<E\n# 1\n# 2\nE", b"last:", b"# 1@# 2@last:"),
+    "replace lines": (b"line-replace <<O <<N\n\tfirst\n\tsecond\nO\n\tthird\nN", b"first\n\tsecond", b"third"),
 }
 BOTTOM = {
     "assign bottom": (b"assign bottom NEW = 1", b"NEW = 1"),
@@ -64,10 +73,13 @@ ALL = (
     b"set LAST two\nappend LAST three\nadd LAST four\ndrop LAST three\n"
     b'prepend LAST five\nreplace LAST five six\nsubst LAST "six " ""\noperator LAST :=\n'
     b"add-before LAST four six\nadd-after LAST six seven\n"
-    b"all append LAST five\nall drop LAST four\nassign after-var LAST NEW = 1\n"
+    b"all append LAST five\nall drop LAST four\nall prepend LAST eight\nall replace LAST eight nine\n"
+    b'all subst LAST "nine " ""\nall operator LAST =\nvalues-subst seven ten\n'
+    b"assign after-var LAST NEW = 1\n"
     b'rule before-rule last new : "a b"\ndepend last c\ndepend-order last d\nundepend last a\n'
     b"recipe last third\nrecipe-set last 2 fourth\nrecipe-del last 1\n"
     b"recipe-insert last 2 fifth\nrecipe-replace last fourth sixth\nrecipe-remove last third\n"
+    b"recipe-subst last sixth seventh\nrecipes-subst seventh eighth\n"
     b"rename last final\n"
     b'insert before-line "END = 1" "# new"\nline-replace "# new" "# newer"\nline-remove "# newer"\n'
     b"unrule final\nunset LAST\n"

@@ -78,6 +78,22 @@ def long_fields(size):
     yield job("a long new name", [(b"rename all ", 1), (b"x", size)], out)
 
 
+def blocks(size):
+    """Blocks of many lines, of long lines or without an end, and very many blocks."""
+    head, half = (b"insert bottom <<E\n", 1), size // 2
+    yield job("lines of a block", [head, (b"#\n", half), (b"E\n", 1)], [(MAKEFILE, 1), (b"#\n", half)])
+    yield job("empty lines of a block", [head, (b"\n", size), (b"E\n", 1)], [(MAKEFILE, 1), (b"\n", size)])
+    yield job("a long line of a block", [head, (b"#", size), (b"\nE\n", 1)], [(MAKEFILE, 1), (b"#", size), (b"\n", 1)])
+    yield job("lines nearly the word", [head, (b"E \n", size // 3), (b"E", 1)], [(MAKEFILE, 1), (b"E \n", size // 3)])
+    word = [(b"E", half), (b"\n", 1)]
+    yield job("a long word", [(b"insert top <<", 1), *word, (b"#\n", 1), *word], b"#\n" + MAKEFILE)
+    yield no_command("a block without an end", head, (b"#\n", half))
+    mark = [(b"<", size), (b"\n", 1)]  # (no word behind `<<`: this is a line as any other)
+    yield job("marks without words", [(b"insert top ", 1), *mark], [*mark, (MAKEFILE, 1)])
+    yield no_command("marks", (b"line-remove", 1), (b" <<E", size // 4), (b"\n", 1))
+    yield job("blocks", [(b"insert bottom <<E\n#\nE\nundo\n", size // 27)])
+
+
 def no_undo(at):
     """The report of the refused `undo` of a line."""
     return b"%d: refused 16 NothingToUndo\n" % (at + 1)
@@ -98,6 +114,6 @@ def commands(size):
 
 def scenes(size):
     """A scene for each script of about so many bytes."""
-    for jobs in (quotes, words, lines, long_fields, commands):
+    for jobs in (quotes, words, lines, long_fields, blocks, commands):
         for it in jobs(size):
             yield Scene(f"script: {it.name}", [(MAKEFILE, 1)], [it])

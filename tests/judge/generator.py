@@ -59,6 +59,8 @@ VALUES += [b"$(subst #,-,a)"]
 NEW_WORDS = b"export override private define endef else endif ifdef vpath undefine".split()
 NEW_WORDS += b"a, & * [a] 'x' a(b) %x% -x @x a$(NONE) $(NONE) .PHONY .DEFAULT .x $(R)$(Z) {} ! ^".split()
 NEW_WORDS += b".SUFFIXES .SECONDARY".split()
+# The edits before which no number stands.
+UNNUMBERED = ("rename", "values-subst", "recipes-subst", *OF_EVERY_LINE)
 LINES = [b" ", b"\t", b"define x", b"endif", b"else", b"a  ", b": ;", b"\\ ", b"a # b", b"$(NONE)", b"a$"]
 
 
@@ -307,7 +309,7 @@ class Editor:
         fields = FIELDS[command](self)
         if fields is None:
             return None
-        is_counted = command not in ("rename", *OF_EVERY_LINE) and fields[0] not in (b"top", b"bottom")
+        is_counted = command not in UNNUMBERED and fields[0] not in (b"top", b"bottom")
         return (command, self.nth(command, fields[0]) if is_counted else None, *fields)
 
     def nth(self, command, address):
@@ -355,14 +357,18 @@ class Editor:
         words = [it for of, value in self.values if of == name for it in reading.texts(reading.units(value))]
         return self.one(words) if words and self.source.random() < 0.9 else self.word()
 
+    def part_of(self, texts):
+        """A part of one of these texts, most often."""
+        texts = [it for it in texts if it]
+        if not texts or self.source.random() < 0.1:
+            return self.word()
+        text = self.one(texts)
+        at = self.source.randrange(len(text))
+        return text[at : at + self.one([1, 1, 2, 3, len(text)])]
+
     def part(self, name):
         """A part of a value of a variable, most often."""
-        values = [value for of, value in self.values if of == name and value]
-        if not values or self.source.random() < 0.1:
-            return self.word()
-        value = self.one(values)
-        at = self.source.randrange(len(value))
-        return value[at : at + self.one([1, 1, 2, 3, len(value)])]
+        return self.part_of(value for of, value in self.values if of == name)
 
     def new_part(self):
         """What stands in the place of a part."""
@@ -394,6 +400,18 @@ class Editor:
         target = self.one(list(self.recipes))
         return (target, self.one(self.recipes[target]), *(it(target) for it in rest))
 
+    def values_subst(self):
+        return self.part_of(value for _, value in self.values), self.new_part()
+
+    def recipe_subst(self):
+        if not self.recipes:
+            return None
+        target = self.one(list(self.recipes))
+        return target, self.part_of(self.recipes[target]), self.new_part()
+
+    def recipes_subst(self):
+        return self.part_of(it for of in self.recipes.values() for it in of), self.new_part()
+
     def assign(self):
         name = self.one(VARIABLES)
         return self.place(), name, self.one(OPERATORS), self.value(name)
@@ -413,23 +431,36 @@ class Editor:
     def insert(self):
         line = self.one_line()
         if line is None or self.source.random() < 0.3:
-            return self.one([b"top", self.place()]), self.new_line()
+            return self.one([b"top", self.place()]), self.new_lines()
         side = self.one([b"before-line ", b"after-line "])
         if line.kind == "Header" and side == b"after-line " or line.kind == "Recipe":
             new = line.context.prefix + self.command()
         elif line.kind in ("Body", "DefineHead" if side == b"after-line " else "Endef"):
             new = self.one(BODIES)
         else:
-            new = self.new_line()
+            new = self.new_lines()
         return side + text_of(line), new
 
     def line_replace(self):
         line = self.one_line()
+        if line and line.kind in ("Assign", "Header", "Recipe") and self.source.random() < 0.3:
+            return text_of(line), self.writer.condition() + b"\n" + text_of(line) + b"\nendif"
         return line and (text_of(line), self.instead_of(line))
 
     def line_remove(self):
         line = self.one_line()
+        if line and self.source.random() < 0.3:
+            at = self.lines.index(line)
+            return (b"\n".join(map(text_of, self.lines[at : at + 2])),)
         return line and (text_of(line),)
+
+    def new_lines(self):
+        """A line that may stand anywhere, or several."""
+        if self.source.random() < 0.7:
+            return self.new_line()
+        if self.source.random() < 0.5:
+            return self.writer.condition() + b"\n" + self.new_line() + b"\nendif"
+        return b"n2: " + self.word() + b"\n" + self.new_line()
 
     def instead_of(self, line):
         """A line that may stand in the place of one."""
@@ -475,6 +506,11 @@ FIELDS = {
     "all append": lambda it: it.for_every_line(lambda name: it.value(name) or b"more"),
     "all add": lambda it: it.for_every_line(lambda _: it.word()),
     "all drop": lambda it: it.for_every_line(it.held),
+    "all prepend": lambda it: it.for_every_line(lambda name: it.value(name) or b"more"),
+    "all replace": lambda it: it.for_every_line(it.held, lambda name: it.value(name) or b"more"),
+    "all subst": lambda it: it.for_every_line(it.part, lambda _: it.new_part()),
+    "all operator": lambda it: it.for_every_line(lambda _: it.one(OPERATORS)),
+    "values-subst": Editor.values_subst,
     "unset": lambda it: it.for_name(),
     "assign": Editor.assign,
     "rule": Editor.rule,
@@ -488,6 +524,8 @@ FIELDS = {
     "recipe-insert": lambda it: it.for_target(it.number, lambda _: it.command()),
     "recipe-replace": lambda it: it.for_recipe_line(lambda _: it.command()),
     "recipe-remove": lambda it: it.for_recipe_line(),
+    "recipe-subst": Editor.recipe_subst,
+    "recipes-subst": Editor.recipes_subst,
     "rename": Editor.rename,
     "insert": Editor.insert,
     "line-replace": Editor.line_replace,

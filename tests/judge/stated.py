@@ -1,8 +1,9 @@
 """Edits over the items of a makefile, as docs/EDITS.md states their changes.
 
 An edit is a tuple: its command, with `all` if that stands before it, the number N of `nth N` or None, and
-the command's fields as bytes. A place is one of its fields, as b"after-var X". after() gives the items after an accepted edit, and
-touched() what of make's data base the edit is about.
+the command's fields as bytes. A place is one of its fields, as b"after-var X", and a block has line feeds
+between its lines. after() gives the items after an accepted edit, and touched() what of make's data base
+the edit is about.
 """
 
 import itertools
@@ -15,26 +16,28 @@ from .expected import Expected, Item, items
 from .values import shown
 
 OF_LINES = ("insert", "line-replace", "line-remove")
-OF_EVERY_LINE = ("all set", "all append", "all add", "all drop")
+OF_EVERY_LINE = tuple("all " + it for it in "set append add drop prepend replace subst operator".split())
+OF_RECIPES = ("recipe-subst", "recipes-subst")
 CHECKED_BY_READING = ("prepend", "replace", "add-before", "add-after", "subst", "operator")
-OF_VARIABLES = ("set", "append", "add", "drop", *CHECKED_BY_READING, "unset", "assign", *OF_EVERY_LINE)
+OF_VARIABLES = ("set", "append", "add", "drop", *CHECKED_BY_READING, "unset", "assign", "values-subst", *OF_EVERY_LINE)
 
 
 def field(text):
-    """A field as a script has it."""
+    """A field as a script has it: for several lines what marks those below."""
+    if b"\n" in text:
+        return b"<<E"
     if text and not re.search(rb'[ \t]|\A"', text):
         return text
     return b'"' + text.replace(b"\\", b"\\\\").replace(b'"', b'\\"') + b'"'
 
 
 def line_of(edit):
-    """The line of a script for an edit."""
+    """The line of a script for an edit, with the lines of its blocks below it."""
     command, nth, *fields = edit
-    words = [b"nth %d" % nth] if nth else []
-    words.append(command.encode())
     if command in ("assign", "rule", "insert"):
-        words += map(field, fields.pop(0).split(b" ", 1))
-    return b" ".join(words + list(map(field, fields)))
+        fields[:1] = fields[0].split(b" ", 1)
+    words = [*([b"nth %d" % nth] if nth else []), command.encode(), *map(field, fields)]
+    return b"\n".join([b" ".join(words), *(it + b"\nE" for it in fields if b"\n" in it)])
 
 
 def addressed(of, nth, is_it):
@@ -50,17 +53,20 @@ def has_target(target):
     return lambda item: item.kind == "Header" and target in item.parts[0]
 
 
-def says(text):
-    return lambda item: reading.without_line_end(item.raw) == text
+def said(of):
+    """What lines say, with line feeds between them."""
+    return reading.without_line_end(b"".join(it.raw for it in of)).replace(b"\r\n", b"\n")
 
 
-ADDRESSES = {
-    b"before-var": assigns,
-    b"after-var": assigns,
-    b"before-rule": has_target,
-    b"before-line": says,
-    b"after-line": says,
-}
+def run_of(of, nth, old):
+    """Where the lines begin and end that say a block and that an edit means."""
+    most = old.count(b"\n") + 1
+    places = ((first, first + count) for first in range(len(of)) for count in range(1, most + 1))
+    found = [(first, end) for first, end in places if end <= len(of) and said(of[first:end]) == old]
+    return found[(nth or 1) - 1]
+
+
+ADDRESSES = {b"before-var": assigns, b"after-var": assigns, b"before-rule": has_target}
 
 
 def place_of(of, nth, place):
@@ -68,6 +74,8 @@ def place_of(of, nth, place):
     word, _, field = place.partition(b" ")
     if word in (b"top", b"bottom"):
         return 0 if word == b"top" else len(of)
+    if word in (b"before-line", b"after-line"):
+        return run_of(of, nth, field)[word == b"after-line"]
     return addressed(of, nth, ADDRESSES[word](field)) + word.startswith(b"after")
 
 
@@ -165,14 +173,30 @@ def add_after(of, nth, name, word, new):
     return with_value(of, nth, name, change)
 
 
-def substitute(of, nth, name, old, new):
-    """The value with a text in the place of another; blanks at its end are then blanks after it."""
-    at = addressed(of, nth, assigns(name))
-    *front, value = of[at].parts
+def substituted(item, old, new):
+    """An assignment with a text in the place of another in its value; blanks at its end are then blanks after it."""
+    *front, value = item.parts
     units = reading.units(value.replace(old, new))
     blanks = b"".join(itertools.takewhile(reading.is_blank, reversed(units)))[::-1]
     value = b"".join(reading.trimmed(units))
-    of[at] = Item("Assign", (*front, value), blanks + of[at].tail if value else b"")
+    return Item("Assign", (*front, value), blanks + item.tail if value else b"")
+
+
+def substitute(of, nth, name, old, new):
+    at = addressed(of, nth, assigns(name))
+    of[at] = substituted(of[at], old, new)
+    return of
+
+
+def values_with(of, old):
+    """The places of the assignments in whose value a text occurs, but of those of the recipe prefix."""
+    found = [at for at, item in enumerate(of) if item.kind == "Assign" and old in item.parts[-1]]
+    return [at for at in found if of[at].parts[1] != reading.PREFIX_NAME]
+
+
+def values_substitute(of, _, old, new):
+    for at in values_with(of, old):
+        of[at] = substituted(of[at], old, new)
     return of
 
 
@@ -186,10 +210,10 @@ def operator(of, nth, name, sign):
 def at_every_line(command):
     """The edit of every assignment of a name, by that of one; `add` leaves alone those that have the word."""
 
-    def change(of, _, name, text):
+    def change(of, _, name, *texts):
         for nth, item in enumerate([it for it in of if assigns(name)(it)], 1):
-            if command != "add" or text not in words_of(item.parts[-1]):
-                of = CHANGES[command](of, nth, name, text)
+            if command != "add" or texts[0] not in words_of(item.parts[-1]):
+                of = CHANGES[command](of, nth, name, *texts)
         return of
 
     return change
@@ -218,7 +242,7 @@ def unrule(of, nth, target):
 
 
 def with_line(of, first, end, line):
-    """The items with a line in the place of those from one to another, as it is read there."""
+    """The items with a line, or a block, in the place of those from one to another, as it is read there."""
     _, context = reading.read(b"".join(it.raw for it in of[:first]))
     of[first:end] = items(line + b"\n", context)
     return of
@@ -230,12 +254,12 @@ def insert(of, nth, place, line):
 
 
 def line_replace(of, nth, old, line):
-    at = addressed(of, nth, says(old))
-    return with_line(of, at, at + 1, line)
+    return with_line(of, *run_of(of, nth, old), line)
 
 
 def line_remove(of, nth, old):
-    del of[addressed(of, nth, says(old))]
+    first, end = run_of(of, nth, old)
+    del of[first:end]
     return of
 
 
@@ -302,6 +326,28 @@ def recipe_insert(of, nth, target, number, line):
     return of
 
 
+def recipes_with(of, nth, target, old):
+    """The rules for a target, or that of a number, or all where there is no target: the place of each in whose recipe a
+    text occurs, and those of the lines."""
+    is_it = has_target(target) if target else lambda item: item.kind == "Header"
+    rules = [at for at, item in enumerate(of) if is_it(item)]
+    for at in rules[nth - 1 : nth] if nth else rules:
+        found = [it for it in recipe_places(of, at) if old in of[it].parts[0]]
+        if found:
+            yield at, found
+
+
+def recipe_substitute(of, nth, target, old, new):
+    for _, places in list(recipes_with(of, nth, target, old)):
+        for at in places:
+            of[at] = Item("Recipe", (of[at].parts[0].replace(old, new),))
+    return of
+
+
+def recipes_substitute(of, _, old, new):
+    return recipe_substitute(of, None, None, old, new)
+
+
 def rename(of, _, old, new):
     def renamed(words):
         return tuple(new if it == old else it for it in words)
@@ -341,6 +387,9 @@ CHANGES = {
     "recipe-insert": recipe_insert,
     "recipe-replace": recipe_replace,
     "recipe-remove": recipe_remove,
+    "recipe-subst": recipe_substitute,
+    "recipes-subst": recipes_substitute,
+    "values-subst": values_substitute,
     "rename": rename,
     "insert": insert,
     "line-replace": line_replace,
@@ -349,31 +398,42 @@ CHANGES = {
 }
 
 
-def edited_targets(of, edit):
-    """The targets of the rule that an edit is about: both names of a renaming, none for a variable or for whole lines."""
+def edited_rules(of, edit):
+    """The targets of each rule that an edit is about: one time both names of a renaming, none for a variable or for whole lines."""
     command, nth, *fields = edit
     if command in (*OF_VARIABLES, *OF_LINES):
-        return ()
+        return []
     if command == "rename":
-        return tuple(fields)
+        return [tuple(fields)]
     if command == "rule":
-        return words_of(fields[1])
-    return of[addressed(of, nth, has_target(fields[0]))].parts[0]
+        return [words_of(fields[1])]
+    if command in OF_RECIPES:
+        *target, old, _ = fields
+        return [of[at].parts[0] for at, _ in recipes_with(of, nth, *(target or [None]), old)]
+    return [of[addressed(of, nth, has_target(fields[0]))].parts[0]]
+
+
+def edited_names(of, edit):
+    """The names of the variables that an edit of variables is about."""
+    command, _, *fields = edit
+    if command == "values-subst":
+        return {shown(of[at].parts[1]) for at in values_with(of, fields[0])}
+    return {shown(fields[command == "assign"])}
 
 
 def touched(of, edit, expected, database):
-    """The keys of make's data base that an edit is about: a variable, the targets of a rule, or, of a
+    """The keys of make's data base that an edit is about: variables, the targets of rules, or, of a
     renaming, both names and whatever has the old one as a prerequisite; of whole lines, all that these
     lead to."""
-    command, _, *fields = edit
+    command = edit[0]
     if command in OF_LINES:
         return changed_keys(Expected(of), expected)
-    targets = expected.values.final_words(edited_targets(of, edit))
-    if not targets:
-        return {("variables", shown(fields[command == "assign"]))}
+    if command in OF_VARIABLES:
+        return {("variables", name) for name in edited_names(of, edit)}
+    rules = [expected.values.final_words(it) for it in edited_rules(of, edit)]
     if command == "rename":
-        return renamed_keys(database, *targets) if len(targets) == 2 else set()
-    return {("patterns", tuple(targets)), *(("targets", it) for it in targets)}
+        return renamed_keys(database, *rules[0]) if len(rules[0]) == 2 else set()
+    return {("patterns", tuple(it)) for it in rules} | {("targets", target) for it in rules for target in it}
 
 
 def changed_keys(before, after):

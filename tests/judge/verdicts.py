@@ -15,7 +15,7 @@ from tests.lib.tables import ESCAPES
 from . import groups, stated
 from .database import is_safe
 from .expected import Expected, items, known_keys
-from .values import UNKNOWN, shown
+from .values import UNKNOWN
 
 # The kinds of a verdict. EQUAL: make's data base differs in exactly what the edit is about, as expected.
 # FOLLOWS: it differs, as expected, also in what has come of that by references. NOT_FOLLOWED: it differs
@@ -97,8 +97,8 @@ class Judge:
         if edit[0] in stated.OF_LINES:
             is_unread = any(it.kind == "Opaque" for it in stated.after(items(text), edit))
         else:
-            is_unread = edit[0] in stated.OF_VARIABLES and depends(text, edit)
-        is_cut = edit[0] == "subst" and any(it in fault for it in CUT_REFERENCES)
+            is_unread = edit[0] in stated.OF_VARIABLES and depends(text, stated.edited_names(items(text), edit))
+        is_cut = edit[0].endswith("subst") and any(it in fault for it in CUT_REFERENCES)
         is_stop = any(it in fault for it in UNREAD_LINES)
         if any(it in fault for it in NOT_ASKED) or is_unread and is_stop or is_cut:
             return Verdict(GROUP, "make_stops_at_what_mkedit_does_not_ask")
@@ -140,10 +140,11 @@ def why_changed(key, first, then, texts, edit, of):
         return FOLLOWS if first.content(key) != then.content(key) else None
     if edit[0] in stated.OF_LINES:
         return NOT_FOLLOWED
-    targets = stated.edited_targets(of, edit)
-    if not targets:
-        is_for_target = key[0] == "target_variables" and key[1][1] == edited_name(edit)
-        return NOT_FOLLOWED if is_for_target or depends(texts, edit) else None
+    if edit[0] in stated.OF_VARIABLES:
+        names = stated.edited_names(of, edit)
+        is_for_target = key[0] == "target_variables" and key[1][1] in names
+        return NOT_FOLLOWED if is_for_target or depends(texts, names) else None
+    targets = [target for it in stated.edited_rules(of, edit) for target in it]
     is_of_suffixes = key[0] == "patterns" and (first.has_suffixes or then.has_suffixes)
     is_free = is_of_suffixes or any(it == b".PHONY" or b"$" in it for it in targets)
     return NOT_FOLLOWED if is_free else None
@@ -161,17 +162,13 @@ def difference(key, wanted, got):
     return f"{section[:-1].replace('_', ' ')} {name}: make has {got}, expected {wanted}"
 
 
-def edited_name(edit):
-    """The name of the variable that is edited."""
-    command, _, *fields = edit
-    return shown(fields[command == "assign"])
-
-
-def depends(text, edit):
-    """Whether the makefile refers to the edited variable, or to one whose name is made of parts."""
-    name = re.escape(edited_name(edit).encode("latin-1"))
+def depends(text, names):
+    """Whether the makefile refers to one of these variables, or to one whose name is made of parts."""
     end = rb"(?![A-Za-z0-9_.-])"
-    return bool(re.search(rb"\$[({]?" + name + rb"|n?def\s+" + name + end + rb"|\$[({][^(){}]*\$", text))
+    for name in (re.escape(it.encode("latin-1")) for it in names):
+        if re.search(rb"\$[({]?" + name + rb"|n?def\s+" + name + end, text):
+            return True
+    return bool(re.search(rb"\$[({][^(){}]*\$", text))
 
 
 def escaped(text):

@@ -92,6 +92,12 @@ class CommandLine(RoomCase):
         words = ("-e", "# a\nundo", "-e", "redo\nset CC clang")
         self.assert_run(Outcome(EDITED.stdout, report, 1), "edit", "-k", *words, "Makefile")
 
+    def test_the_lines_of_a_block_may_be_of_the_next_words(self):
+        words = ("-e", "insert top <<E", "-e", "# a\nset CC tcc\nE", "-e", "set CC clang")
+        self.assert_run(Outcome(b"# a\nset CC tcc\n" + EDITED.stdout, b"", 0), "edit", *words, "Makefile")
+        fault = Outcome(b"", b"mkedit: script line 1 is not a command\n", 2)
+        self.assert_run(fault, "edit", *words[:2], "-e", "# a", "Makefile")
+
     def test_what_is_no_command_is_told_by_its_line(self):
         fault = Outcome(b"", b"mkedit: script line 2 is not a command\n", 2)
         self.assert_run(fault, "edit", "-e", "set CC clang", "-e", "frobnicate", "Makefile")

@@ -27,11 +27,13 @@ TWICE = (
     "Change a variable that several lines assign",
     "Replace a flag in a value",
     "Add a file to a list",
-    "Change a path inside a value",
+    "Change a path in all values",
     "Change the operator of an assignment",
     "Make install honour DESTDIR",
     "Remove a prerequisite",
     "Replace a whole rule",
+    "Drop a flag in all recipes",
+    "Put a conditional round lines",
     "Write a script that can be run twice",
 )
 

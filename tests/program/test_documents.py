@@ -28,9 +28,9 @@ QUOTED = (
 )
 LAST_CHAPTER = "## 8. Where make reads otherwise\n"
 COMMANDS = (
-    "nth all set append add drop prepend replace add-before add-after subst operator unset assign rule unrule depend "
-    "depend-order undepend recipe recipe-set recipe-del recipe-insert recipe-replace recipe-remove rename insert "
-    "line-replace line-remove"
+    "nth all set append add drop prepend replace add-before add-after subst operator values-subst unset assign rule "
+    "unrule depend depend-order undepend recipe recipe-set recipe-del recipe-insert recipe-replace recipe-remove "
+    "recipe-subst recipes-subst rename insert line-replace line-remove"
 )
 EXAMPLE = re.compile(
     rf"^    (\S.*?⏎|X=1) {{2,}}((?:{COMMANDS.replace(' ', '|')}) .*?) {{2,}}(\S.*⏎)$", re.M
@@ -81,7 +81,7 @@ def check_notes(room, document):
         notes, examples = row.strip("| ").split(" | ")
         begins = tuple(it.removesuffix("..").rstrip() for it in spans(notes))
         for example in spans(re.sub(r"\(.*?\)", "", examples)):
-            room.write("script", example.encode() + b"\n")
+            room.write("script", text_of(example) + b"\n")
             note = room.run("edit", "--notes", "script", "Makefile").stderr.decode().rpartition(" note: ")[2]
             yield example, [] if note.startswith(begins) else [f"the note is {note}"]
 

@@ -31,6 +31,11 @@ LONG_LINES = {
     "all append": (b"all append CC @", b"CC = gcc # c\n", b"CC = gcc @ # c\n"),
     "all add": (b"all add CC @", b"CC = gcc # c\n", b"CC = gcc @ # c\n"),
     "all drop": (b"all drop CC gcc", b"CC = gcc @ # c\n", b"CC = @ # c\n"),
+    "all prepend": (b"all prepend CC @", b"CC = gcc # c\n", b"CC = @ gcc # c\n"),
+    "all replace": (b"all replace CC gcc @", b"CC = gcc # c\n", b"CC = @ # c\n"),
+    "all subst": (b"all subst CC gcc @", b"CC = gcc # c\n", b"CC = @ # c\n"),
+    "all operator": (b"all operator CC :=", b"CC = @ # c\n", b"CC := @ # c\n"),
+    "values-subst": (b"values-subst gcc @", b"CC = gcc # c\n", b"CC = @ # c\n"),
     "unset": (b"unset CC", b"CC = @\n", b""),
     "assign": (b"assign bottom CC = @", b"", b"CC = @\n"),
     "rule": (b"rule bottom all : @", b"", b"all: @\n"),
@@ -44,6 +49,8 @@ LONG_LINES = {
     "recipe-insert": (b"recipe-insert all 1 @", b"all:\n\tcc\n", b"all:\n\t@\n\tcc\n"),
     "recipe-replace": (b"recipe-replace all cc @", b"all:\n\tcc\n", b"all:\n\t@\n"),
     "recipe-remove": (b"recipe-remove all @", b"all:\n\t@\n", b"all:\n"),
+    "recipe-subst": (b"recipe-subst all cc @", b"all:\n\tcc -g\n", b"all:\n\t@ -g\n"),
+    "recipes-subst": (b"recipes-subst @ cc", b"all:\n\t@ -g\n", b"all:\n\tcc -g\n"),
     "rename": (b"rename all @", b"all: a\n", b"@: a\n"),
     "insert": (b"insert bottom #@", b"", b"#@\n"),
     "line-replace": (b"line-replace CC=gcc CC=@", b"CC=gcc\n", b"CC=@\n"),
@@ -102,8 +109,22 @@ class LargeEdits(RoomCase):
         self.assert_edit(b"all set A 12", b"A = 1\n" * MANY, b"A = 12\n" * MANY)
         self.assert_edit(b"all add A c", b"A = b\nA = b c\n" * MANY, b"A = b c\n" * 2 * MANY)
         self.assert_edit(b"all drop A c", b"A = b\nA = b c\n" * MANY, b"A = b\n" * 2 * MANY)
+        self.assert_edit(b"all prepend A c", b"A = b\n" * MANY, b"A = c b\n" * MANY)
+        self.assert_edit(b"all operator A :=", b"A = b\n" * MANY, b"A := b\n" * MANY)
+        self.assert_edit(b"values-subst b cd", b"A = b\nB = c\n" * MANY, b"A = cd\nB = c\n" * MANY)
+        self.assert_edit(b"recipe-subst a b cd", b"a:\n" + b"\tb\n" * MANY, b"a:\n" + b"\tcd\n" * MANY)
+        self.assert_edit(b"recipes-subst b cd", b"a:\n\tb\n\tc\n" * MANY, b"a:\n\tcd\n\tc\n" * MANY)
+
+    def test_a_block_may_have_a_million_lines(self):
+        lines = b"".join(b"A%d = 1\n" % at for at in range(MANY))
+        self.assert_edit(b"insert top <<E\n" + lines + b"E", b"#\n", lines + b"#\n")
+        self.assert_edit(b"line-replace <<E #\n" + lines + b"E", lines, b"#\n")
+        self.assert_edit(b"line-replace # <<E\n" + lines + b"E", b"#\n", lines)
+        self.assert_edit(b"line-remove <<E\n" + lines + b"E", b"#\n" + lines + b"#\n", b"#\n#\n")
 
     def test_a_long_value_may_have_a_million_occurrences(self):
+        self.assert_edit(b"recipe-subst t a bc", b"t:\n\t" + b"a" * MANY, b"t:\n\t" + b"bc" * MANY)
+        self.assert_edit(b"recipes-subst a bc", b"t:\n\t" + b"a\\\n" * MANY, b"t:\n\t" + b"bc\\\n" * MANY)
         for command, before, after in (
             (b"subst A a b", b"a" * MANY, b"b" * MANY),
             (b"subst A a bc", b"a" * MANY, b"bc" * MANY),
@@ -127,13 +148,15 @@ class LargeEdits(RoomCase):
 
         To compare the text at each place of the value would take sixteen times as long.
         """
-        few, many = (self.seconds_of_a_text(size) for size in (MANY // 10, 4 * MANY // 10))
-        self.assertLess(many, 10 * max(few, 0.01), "a text is compared at each place")
+        for head, command in ((b"A = ", b"subst A "), (b"A = ", b"values-subst "), (b"t:\n\t", b"recipe-subst t ")):
+            few, many = (self.seconds_of_a_text(head, command, size) for size in (MANY // 10, 4 * MANY // 10))
+            with self.subTest(command):
+                self.assertLess(many, 10 * max(few, 0.01), "a text is compared at each place")
 
-    def seconds_of_a_text(self, size):
-        """The seconds to replace a text of this size that stands at the end of a value twice as long."""
-        self.room.write("large", b"A = " + b"a" * 2 * size + b"b\n")
-        return self.seconds(b"subst A " + b"a" * size + b"b c\n", b"A = " + b"a" * size + b"c\n")
+    def seconds_of_a_text(self, head, command, size):
+        """The seconds to replace a text of this size that stands at the end of another one twice as long."""
+        self.room.write("large", head + b"a" * 2 * size + b"b\n")
+        return self.seconds(command + b"a" * size + b"b c\n", head + b"a" * size + b"c\n")
 
     def test_a_value_of_many_folds_is_soon_changed(self):
         """Four times the lines take at most ten times as long, where each has a word and an occurrence, or the last is meant."""

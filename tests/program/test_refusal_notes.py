@@ -121,6 +121,34 @@ CASES = (
     )),
     # OpenValue
     ("append VAL x", "11 OpenValue", ("config.mk:17: note: VAL = $(",)),
+    # edits that are checked by reading
+    ("prepend CFLAGS x", "5 Ambiguous 2", (
+        "config.mk:1: note: CFLAGS = -O2",
+        "config.mk:2: note: CFLAGS += -g",
+        "-e 1: note: `nth 1`, `nth 2` or `all` before the command says which",
+    )),
+    ("recipe-subst cleen rm q", "4 NoSuch", (
+        "config.mk:18: note: clean:",
+        "-e 1: note: did you mean one of these?",
+    )),
+    ("all replace CFLAGS q r", "6 Absent", (
+        "config.mk:1: note: CFLAGS = -O2",
+        "config.mk:2: note: CFLAGS += -g",
+    )),
+    ("recipe-subst clean q r", "6 Absent", ("config.mk:18: note: clean:",)),
+    ("recipes-subst q r", "6 Absent", ()),
+    ('subst PREFIX /usr "#"', "21 Misread", (
+        "config.mk:21: note: PREFIX ?= /usr",
+        "-e 1: note: it would become `PREFIX ?= #`",
+    )),
+    ('values-subst -g "-g # x"', "21 Misread", (
+        "config.mk:2: note: CFLAGS += -g",
+        "-e 1: note: it would become `CFLAGS += -g # x`",
+    )),
+    ('recipe-subst clean rm "rm \\\\"', "21 Misread", (
+        "config.mk:19: note: rm   (in a recipe)",
+        "-e 1: note: it would become `rm \\`",
+    )),
     # whole lines
     ('line-remove "\trm"', "5 Ambiguous 2", (
         "config.mk:19: note: rm   (in a recipe)",

@@ -206,17 +206,99 @@ class Session(RoomCase):
             ("nth 1 insert top x", "fault not a command"),
             ("all line-remove X", "fault not a command"),
             ("undo", "ok"),
-            ("insert bottom <<E", "ok"),
+            ('insert bottom "<<E"', "ok"),
         )
         wanted = b"# ours\ninclude a.mk\n-include b.mk\nifndef A\nX = 1\nendif\n# c\n# c\n<<E\n"
         self.assertEqual(talk.answer("print"), wanted)
-        wanted = b'undo insert bottom <<E\nundo line-replace "ifdef A" "ifndef A"\n'
+        wanted = b'undo insert bottom "<<E"\nundo line-replace "ifdef A" "ifndef A"\n'
         wanted += b'undo insert after-line "include a.mk" "-include b.mk"\nundo insert top "# ours"\n'
         self.assertEqual(talk.answer("history"), wanted)
 
+    def test_one_reply_follows_the_lines_of_blocks(self):
+        self.room.write("lines", b"X = 1\n# c\nX = 1\n# c\n")
+        talk = self.talk("lines")
+        self.assert_replies(
+            talk,
+            ("insert top <<E\n# 1\n\nset X 1\nE", "ok"),
+            ("try line-replace <<OLD <<NEW\n# 1\n\nOLD\n# 2\nNEW", "ok"),
+            ("line-remove <<E\nX = 1\n# c\nE", "refused 5 Ambiguous 2"),
+            ("nth 2 line-remove <<E \r\nX = 1\r\n# c\r\nE\r", "ok"),
+            ("insert before-line <<E <<E\n# 2\nset X 1\nE\n# 0\n# 1\nE", "ok"),
+            ("insert bottom <<E\nifdef A\nX = 2\nE", "refused 21 Misread"),
+            ("insert bottom <<E\n# c\\\nE", "refused 1 BadArgument block"),
+            ("insert bottom <<E\nE", "fault not a command"),
+            ("insert bottom <<E x\n# d\nE", "fault not a command"),
+            ("insert nowhere <<E", "fault not a command"),
+            ("set X <<E", "ok"),
+            ("or line-remove <<E\n# 0\n# 1\nE", "fault not a command"),
+            ("line-replace # <<E\nquit\nE", "refused 4 NoSuch"),
+            ("undo", "ok"),
+        )
+        wanted = b"# 0\n# 1\n# 2\nset X 1\nX = 1\n# c\n"
+        self.assertEqual(talk.answer("print"), wanted)
+
+    def test_history_has_the_lines_of_blocks_below_their_commands(self):
+        talk = self.talk("Makefile")
+        self.assert_replies(
+            talk,
+            (" insert top <<E \r\n# 1 \r\n\r\nE\r", "ok"),
+            ("begin", "ok"),
+            ("line-replace <<A <<B\n# 1 \n\nA\n# 2\nB", "ok"),
+            ("set CC clang", "ok"),
+            ("insert bottom <<E\nendif\nE", "ok"),
+        )
+        group = b"begin; line-replace <<A <<B; set CC clang; insert bottom <<E"
+        lines, first = b"# 1 \n\nA\n# 2\nB\nendif\nE\n", b"undo insert top <<E\n# 1 \n\nE\n"
+        self.assertEqual(talk.answer("history"), b"open " + group + b"\n" + lines + first)
+        self.assert_replies(talk, ("end", "ok"), ("undo", "ok"))
+        self.assertEqual(talk.answer("history"), first + b"redo " + group + b"; end\n" + lines)
+
+    def test_an_input_that_ends_within_a_block_is_no_command(self):
+        self.assert_talk(b"insert top <<E\n# a\n", b"fault not a command\n", "Makefile")
+        self.assert_talk(b"set CC clang\nline-remove <<E\nquit", b"ok\nfault not a command\n", "Makefile")
+
+    def test_an_edit_of_several_lines_is_one_edit(self):
+        recipes = b"all: x\n\tcc one; \\\n\tld one\nall: y\n\trm one\nother:\n\trm two\n"
+        self.room.write("several", b"A = one two # c\nA += one\nB = two\n" + recipes)
+        talk = self.talk("several")
+        self.assert_replies(
+            talk,
+            ("all prepend A zero", "ok"),
+            ("all replace A one 1", "ok"),
+            ("all replace A one 1", "refused 6 Absent"),
+            ("try all replace A one 1", "ok"),
+            ("all subst A two 2", "ok"),
+            ("all subst C two 2", "refused 4 NoSuch"),
+            ("all operator A :=", "ok"),
+            ("all operator A ==", "fault not a command"),
+            ("all prepend .RECIPEPREFIX x", "refused 2 Reserved"),
+            ("all add-after A zero x", "fault not a command"),
+            ("nth 1 all prepend A x", "fault not a command"),
+            ("values-subst two 2", "ok"),
+            ('values-subst 2 "x # y"', "refused 21 Misread"),
+            ("values-subst two 2", "refused 6 Absent"),
+            ("nth 1 values-subst 2 3", "fault not a command"),
+            ("nth 2 recipe-subst all one 1", "ok"),
+            ("nth 2 recipe-subst all one 1", "refused 6 Absent"),
+            ("nth 3 recipe-subst all one 1", "refused 4 NoSuch"),
+            ('recipe-subst all "; \\\\" " && \\\\"', "ok"),
+            ("recipe-subst include a b", "refused 2 Reserved"),
+            ('recipe-subst "a b" a b', "refused 1 BadArgument target"),
+            ('recipes-subst one "one \\\\"', "refused 21 Misread"),
+            ('recipes-subst "" x', "refused 1 BadArgument from"),
+            ('recipes-subst rm "rm -f"', "ok"),
+            ("try recipes-subst q z", "ok"),
+            ("undo", "ok"),
+            ("redo", "ok"),
+        )
+        recipes = b"all: x\n\tcc one && \\\n\tld one\nall: y\n\trm -f 1\nother:\n\trm -f two\n"
+        wanted = b"A := zero 1 2 # c\nA := zero 1\nB = 2\n" + recipes
+        self.assertEqual(talk.answer("print"), wanted)
+        self.assertTrue(talk.answer("history").startswith(b'undo recipes-subst rm "rm -f"\nundo recipe-subst all '))
+
     def test_help_says_what_the_program_says(self):
         talk = self.talk("Makefile")
-        for word in ("set", "recipe-insert", "add-after", "line-replace", "or"):
+        for word in ("set", "recipe-insert", "add-after", "line-replace", "values-subst", "or"):
             self.assertEqual(talk.answer(f"help {word}"), self.room.run("help", word).stdout)
         for word in ("vars", "Set", "\udcff"):
             line = f"help {word}".encode("utf-8", "surrogateescape")

@@ -99,6 +99,23 @@ class Terminal(RoomCase):
         )
         self.assert_holds("Makefile", b"CC = clang # c\n")
 
+    def test_the_lines_of_blocks_have_a_prompt_of_their_own(self):
+        user = self.at_terminal("Makefile")
+        user.shown(b"> ")
+        self.assert_said(
+            user,
+            (b"insert top <<E\n", b"> "),
+            (b"# a\n", b"> "),
+            (b"\n", b"> "),
+            (b"E\n", b"+# a\n+\nMakefile*> "),
+            (b"line-replace <<A <<B\n", b"> "),
+            (b"# a\n", b"> "),
+            (b"A\n", b"> "),
+            (b"# b\n", b"> "),
+            (b"B\n", b"-# a\n+# b\nMakefile*> "),
+        )
+        self.assertEqual(user.types(b"history\n"), b"undo line-replace <<A <<B\n# a\nA\n# b\nB\nundo insert top <<E\n# a\n\nE\nMakefile*> ")
+
     def test_a_makefile_that_cannot_be_opened_is_told_with_its_cause(self):
         with terminal(lines=False) as (user, program):
             got = self.room.run("session", "none", stderr=program)

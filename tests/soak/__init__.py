@@ -5,6 +5,7 @@ arguments by the programs of tests/definitions, which were written from the rule
 
     document.py    a makefile: its lines with their places, and the parts that edits mean
     edits.py       the edits: when they are refused, what they replace, their stated change
+    each_line.py   the edits of several lines that are checked by reading
     whole_lines.py the edits of whole lines
     session.py     undo, redo and groups
     judge.py       what a run and a query have to print

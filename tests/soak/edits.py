@@ -248,33 +248,60 @@ class ChangeValues(Edit):
         return changed(doc, changing, self.of_one)
 
 
-class CheckedByReading(OfVariable):
-    """An edit of an assignment's line that is refused where the new line does not read as it is stated to."""
+class CheckedByReading(Edit):
+    """An edit that is refused where a line that it changes does not read afterwards as it is stated to."""
 
-    def parts_in(self, line):
-        """The spans in the line, and the parts of its item afterwards."""
+    def changes_in(self, doc):
+        """Of each line that it changes: the index, the spans, and the item afterwards."""
         raise NotImplementedError
 
     def plan_in(self, doc):
-        at, items = self.find(doc), items_of(doc.lines)
-        spans, parts = self.parts_in(doc.lines[at])
-        items[at] = ("Assign", *parts)
+        items, spans = items_of(doc.lines), []
+        for at, its_spans, items[at] in self.changes_in(doc):
+            spans += its_spans
         return spans, items
 
     def plan(self, text, limit=LIMIT):
         plan = super().plan(text, limit)
         doc = document.read(text)
-        at = self.find(doc)
-        line = doc.lines[at]
-        raw = replaced(line.raw, [Span(it.start - line.start, it.end - line.start, it.new) for it in plan.spans])
-        lines = document.read(replaced(text, plan.spans)).lines
-        refuse(21, len(lines) <= at or lines[at].raw != raw)
-        refuse(21, lines[at].item != ("Assign", *self.parts_in(line)[1]))
-        refuse(21, is_open(raw) and not is_open(line.raw))
+        for at, spans, item in self.changes_in(doc):
+            refuse_misread(doc, at, spans, item)
         return plan
 
 
-class PrependValue(CheckedByReading):
+def refuse_misread(doc, at, spans, item):
+    """Refuses where the line with this index, with its spans replaced, is not one line with this item, or is open anew."""
+    line = doc.lines[at]
+    raw = replaced(line.raw, [Span(it.start - line.start, it.end - line.start, it.new) for it in spans])
+    below = doc.lines[at + 1].raw if at + 1 < len(doc.lines) else b""
+    first = document.read(raw + below, line.context).lines[0]
+    refuse(21, first.raw != raw or first.item != item)
+    refuse(21, is_open(raw) and not is_open(line.raw))
+
+
+class ChangeLine(CheckedByReading, OfVariable):
+    """An edit of the line of one assignment that is checked by reading."""
+
+    def is_in(self, line):
+        """Whether the value has what the edit looks for."""
+        return True
+
+    def parts_in(self, line):
+        """The spans in a line, and the parts of its item afterwards."""
+        raise NotImplementedError
+
+    def change_in(self, line):
+        """The spans in a line, and its item afterwards."""
+        spans, parts = self.parts_in(line)
+        return spans, ("Assign", *parts)
+
+    def changes_in(self, doc):
+        at = self.find(doc)
+        refuse(6, not self.is_in(doc.lines[at]))
+        return [(at, *self.change_in(doc.lines[at]))]
+
+
+class PrependValue(ChangeLine):
     def fields(self):
         return [("name", self.name, is_name), ("value", self.value, lambda it: it and is_value(it))]
 
@@ -285,7 +312,7 @@ class PrependValue(CheckedByReading):
         return [Span(start, start, new)], (*others, new + old)
 
 
-class ReplaceWord(CheckedByReading):
+class ReplaceWord(ChangeLine):
     def __init__(self, nth, name, word, value):
         super().__init__(nth, name, value)
         self.word = word
@@ -294,17 +321,19 @@ class ReplaceWord(CheckedByReading):
         value = ("value", self.value, lambda it: it and is_value(it))
         return [("name", self.name, is_name), ("word", self.word, is_value_word), value]
 
+    def is_in(self, line):
+        return self.word in reading.texts(reading.units(line.parts[-1]))
+
     def parts_in(self, line):
         *others, old = line.parts
         found = [it for it in document.value_words(line) if it.text == self.word]
-        refuse(6, not found)
         groups = itertools.groupby(reading.units(old), reading.is_blank)
         pieces = [b"".join(group) for _, group in groups]
         value = b"".join(self.value if it == self.word else it for it in pieces)
         return [Span(it.start, it.end, self.value) for it in found], (*others, value)
 
 
-class InsertWord(CheckedByReading):
+class InsertWord(ChangeLine):
     def __init__(self, nth, name, word, new):
         super().__init__(nth, name, new)
         self.word = word
@@ -372,7 +401,7 @@ def is_text(text):
     return text != b"" and is_clean(text)
 
 
-class SubstituteValue(CheckedByReading):
+class SubstituteValue(ChangeLine):
     def __init__(self, nth, name, old, new):
         super().__init__(nth, name, new)
         self.old = old
@@ -380,17 +409,19 @@ class SubstituteValue(CheckedByReading):
     def fields(self):
         return [("name", self.name, is_name), ("from", self.old, is_text), ("to", self.value, is_clean)]
 
+    def is_in(self, line):
+        return self.old in line.parts[-1]
+
     def parts_in(self, line):
         *others, value = line.parts
         places = document.cell_places(line)
         found = [it.start() for it in re.finditer(re.escape(self.old), value)]
-        refuse(6, not found)
         spans = [Span(places[at], places[at + len(self.old)], self.value) for at in found]
         new = reading.trimmed(reading.units(value.replace(self.old, self.value)))
         return spans, (*others, b"".join(new))
 
 
-class SetOperator(CheckedByReading):
+class SetOperator(ChangeLine):
     def fields(self):
         return [("name", self.name, is_name)]
 

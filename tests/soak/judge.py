@@ -7,13 +7,13 @@ from tests.lib import reading
 from tests.lib.checks import Outcome
 from tests.lib.rooms import TOO_DEEP, TOO_LONG
 
-from . import edits, whole_lines
+from . import each_line, edits, whole_lines
 from .document import MOST_CONDITIONALS
 from .edits import LIMIT, Plan, Refused, replaced
 from .session import Session
 
 # The edits by the names that script_rows.py gives them, and the calls.
-EDITS = {it.__name__: it for it in (*edits.KINDS, *whole_lines.KINDS)}
+EDITS = {it.__name__: it for it in (*edits.KINDS, *each_line.KINDS, *whole_lines.KINDS)}
 CALLS = {
     "Undo": Session.undo,
     "Redo": Session.redo,

@@ -4,6 +4,8 @@ Most fields are names, targets, words and numbers that stand in the makefile as 
 is reached, so that many edits are accepted.
 """
 
+import re
+
 from argument_rows import is_command, is_name, is_target, is_word
 from tests.lib.reading import PREFIX_NAME, texts, units
 
@@ -14,7 +16,9 @@ from .judge import EDITS, MISSING, meaning_of_line, obey
 from .session import Session
 from .vocabulary import (
     BAD_FIELDS,
+    BLOCKS,
     COMMANDS,
+    END_WORDS,
     HOSTILE,
     NAMES,
     NO_COMMANDS,
@@ -41,6 +45,7 @@ OF_NAMES = {
     b"subst": 8,
     b"operator": 6,
     b"unset": 9,
+    b"values-subst": 8,
 }
 OF_RULES = {
     b"unrule": 10,
@@ -50,10 +55,27 @@ OF_RULES = {
     b"recipe": 9,
     b"rename": 9,
 }
-OF_RECIPES = {b"recipe-set": 8, b"recipe-del": 8, b"recipe-insert": 8, b"recipe-replace": 7, b"recipe-remove": 7}
+OF_RECIPES = {
+    b"recipe-set": 8,
+    b"recipe-del": 8,
+    b"recipe-insert": 8,
+    b"recipe-replace": 7,
+    b"recipe-remove": 7,
+    b"recipe-subst": 9,
+    b"recipes-subst": 8,
+}
 NEW_LINES = {b"assign": 10, b"rule": 9, b"insert": 12}
 OF_LINES = {b"line-replace": 12, b"line-remove": 9}
 GREATEST = 4294967295
+
+
+class Block(bytes):
+    """A field that may have several lines."""
+
+
+def said_by(lines):
+    """What some lines say, with LF between them."""
+    return b"\n".join(it for line in lines for it in line.said)
 
 
 class Scripts(Drawing):
@@ -120,13 +142,25 @@ class Scripts(Drawing):
     # ---- lines
 
     def line(self, fields):
+        """The line of a command, with the lines of its blocks below it."""
         gap = b" " if self.chance(0.9) else self.one([b"  ", b"\t", b" \t"])
-        line = gap.join(map(self.field, fields))
-        return self.one([b" ", b"\t"]) + line + b" " if self.chance(0.05) else line
+        written = [self.written(it) for it in fields]
+        line = gap.join(field for field, _ in written)
+        line = self.one([b" ", b"\t"]) + line + b" " if self.chance(0.05) else line
+        return self.end.join([line, *(it for _, lines in written for it in lines)])
+
+    def written(self, text):
+        """A field as a script writes it, and the lines that stand below for it."""
+        if isinstance(text, Block) and (b"\n" in text or self.chance(0.15)):
+            lines = text.split(b"\n")
+            word = self.one([it for it in END_WORDS if it not in lines])
+            return b"<<" + word, [*lines, word]
+        return self.field(text), []
 
     def field(self, text):
-        """A field as a script writes it."""
-        needs_quotes = not text or text[:1] == b'"' or b" " in text or b"\t" in text
+        """A field in a script's line."""
+        is_mark = isinstance(text, Block) and text[:2] == b"<<" and self.chance(0.9)
+        needs_quotes = not text or text[:1] == b'"' or b" " in text or b"\t" in text or is_mark
         if needs_quotes or self.chance(0.1):
             return b'"' + text.replace(b"\\", b"\\\\").replace(b'"', b'\\"') + b'"'
         return text
@@ -235,16 +269,18 @@ class Scripts(Drawing):
         return self.number(len(self.document.assignments(name))), [kind, name]
 
     def old_lines(self):
-        """The lines that a command can name by what they say: those of one physical line that a field can have."""
-        lines = [it for it in self.document.lines if len(it.said) == 1 and is_block(it.said[0])]
+        """The lines that a command can name by what they say."""
+        lines = [it for it in self.document.lines if is_block(said_by([it]))]
         return [it for it in lines if it.said != self.document.lines[0].said] if self.is_part else lines
 
-    def old_line(self):
-        """The words `nth N`, or nothing, a line that stands in the makefile, where there is one, and what the field says."""
-        lines = self.old_lines()
-        line = self.one(lines) if lines and self.chance(0.95) else None
-        said = line.said[0] if line else self.fresh(self.new_line())
-        return self.number(len(self.document.runs([said]))), line, said
+    def old_run(self):
+        """The words `nth N`, or nothing; lines that stand in the makefile, where there are any; and what they say."""
+        lines, run = self.old_lines(), []
+        if lines and self.chance(0.95):
+            first = self.document.lines.index(self.one(lines))
+            run = self.document.lines[first : first + (1 if self.is_part else self.one([1, 1, 1, 2, 3]))]
+        said = said_by(run) if run else self.fresh(self.new_line())
+        return self.number(len(self.document.runs(said.split(b"\n")))), run, Block(said)
 
     def new_line(self):
         """A line to put in, which seldom stands there already."""
@@ -254,16 +290,22 @@ class Scripts(Drawing):
         usual = [b"# %d" % self.source.randrange(100), b"N := a", b"include a.mk", b"\ty"]
         return self.bad_or(self.one([*usual, self.one(WHOLE_LINES)]))
 
-    def fresh(self, line):
-        """The line, or a longer one that stands nowhere, where the program gets more lines: these may stand between neighbours."""
-        while self.is_part and self.document.runs([line]):
-            line += b"#"
-        return line
+    def new_block(self):
+        """Lines to put in: most often one."""
+        if self.chance(0.15):
+            return self.fresh(self.one(BLOCKS))
+        return self.fresh(b"\n".join(self.new_line() for _ in range(self.one([1, 1, 1, 1, 2, 3]))))
+
+    def fresh(self, block):
+        """The block, or a longer one that stands nowhere, where the program gets more lines: these may stand between neighbours."""
+        while self.is_part and self.document.runs(block.split(b"\n")):
+            block += b"#"
+        return Block(block)
 
     # ---- commands
 
-    def of_value(self, word, name, text):
-        return [*self.address(len(self.document.assignments(name))), word, name, text]
+    def of_value(self, word, name, *texts):
+        return [*self.address(len(self.document.assignments(name))), word, name, *texts]
 
     def of_target(self, word, target, *rest):
         return [*self.number(len(self.document.rules(target))), word, target, *rest]
@@ -292,12 +334,12 @@ class Scripts(Drawing):
         return [*self.number(len(self.document.assignments(name))), word, name, *rest]
 
     def prepend(self):
-        return self.of_name(b"prepend", self.name(), self.value() or self.one([b"v", b"v", b""]))
+        return self.of_value(b"prepend", self.name(), self.value() or self.one([b"v", b"v", b""]))
 
     def replace(self):
         name = self.name()
         new = self.value() or self.one([b"v", b"v", b""])
-        return self.of_name(b"replace", name, self.word_of(name, 0.85), new)
+        return self.of_value(b"replace", name, self.word_of(name, 0.85), new)
 
     def word_beside(self, word):
         """A command that puts a word beside another."""
@@ -310,23 +352,31 @@ class Scripts(Drawing):
     def add_after(self):
         return self.word_beside(b"add-after")
 
-    def text_of(self, name):
-        """A part of a value of this variable, where there is one that is not empty; else any word."""
-        values = [self.document.lines[at].parts[-1] for at in self.document.assignments(name)]
-        values = [it for it in values if it]
-        if not values or self.chance(0.12):
+    def part_of(self, texts):
+        """A part of one of these texts, where there is one that is not empty; else any word."""
+        texts = [it for it in texts if it]
+        if not texts or self.chance(0.12):
             return self.bad_or(self.one(WORDS))
-        value = self.one(values)
-        start = self.source.randrange(len(value))
-        return self.bad_or(value[start : start + self.one([1, 1, 1, 2, 3, 5, len(value)])])
+        text = self.one(texts)
+        start = self.source.randrange(len(text))
+        return self.bad_or(text[start : start + self.one([1, 1, 1, 2, 3, 5, len(text)])])
+
+    def new_part(self):
+        """What goes in the place of a part of a text."""
+        new = self.one(HOSTILE) if self.chance(0.25) else self.one([b"", b"x", b" ", b"a b", *VALUES])
+        return self.bad_or(new)
 
     def subst(self):
         name = self.name()
-        new = self.one(HOSTILE) if self.chance(0.25) else self.one([b"", b"x", b" ", b"a b", *VALUES])
-        return self.of_name(b"subst", name, self.text_of(name), self.bad_or(new))
+        values = [self.document.lines[at].parts[-1] for at in self.document.assignments(name)]
+        return self.of_value(b"subst", name, self.part_of(values), self.new_part())
+
+    def values_subst(self):
+        values = [it.parts[-1] for it in self.document.lines if it.kind == "Assign"]
+        return [b"values-subst", self.part_of(values), self.new_part()]
 
     def operator(self):
-        return self.of_name(b"operator", self.name(), self.one(OPERATORS))
+        return self.of_value(b"operator", self.name(), self.one(OPERATORS))
 
     def unset(self):
         return self.of_name(b"unset", self.name())
@@ -403,6 +453,20 @@ class Scripts(Drawing):
         target = self.recipe_target()
         return self.of_target(b"recipe-remove", target, self.recipe_text(target))
 
+    def part_of_lines(self, lines):
+        """A part of one of these recipe lines, which does not go over a fold."""
+        return self.part_of([it for line in lines for it in re.split(rb"\r?\n", line.parts[0])])
+
+    def recipe_subst(self):
+        target = self.recipe_target()
+        rules = self.document.rules(target)
+        lines = [self.document.lines[it] for at in rules for it in self.document.recipe_lines(at)]
+        return self.of_target(b"recipe-subst", target, self.part_of_lines(lines), self.new_part())
+
+    def recipes_subst(self):
+        lines = [it for it in self.document.lines if it.kind == "Recipe"]
+        return [b"recipes-subst", self.part_of_lines(lines), self.new_part()]
+
     def recipe_insert(self):
         target = self.recipe_target()
         number = self.recipe_number(target, more=1)
@@ -411,19 +475,20 @@ class Scripts(Drawing):
     def insert(self):
         number, place = self.place()
         if self.chance(0.55):
-            number, _, old = self.old_line()
+            number, _, old = self.old_run()
             place = [self.one([b"before-line", b"after-line"]), old]
         elif self.chance(0.2) and not self.is_part:
             number, place = [], [b"top"]
-        return [*number, b"insert", *place, self.fresh(self.new_line())]
+        return [*number, b"insert", *place, self.new_block()]
 
     def line_replace(self):
-        number, line, old = self.old_line()
-        same = SAME_CLASS.get(line and line.kind)
-        return [*number, b"line-replace", old, self.one(same) if same and self.chance(0.7) else self.new_line()]
+        number, run, old = self.old_run()
+        same = SAME_CLASS.get(run[0].kind) if len(run) == 1 else [b"ifdef A\n" + old + b"\nendif"]
+        new = self.fresh(self.one(same)) if same and self.chance(0.6) else self.new_block()
+        return [*number, b"line-replace", old, new]
 
     def line_remove(self):
-        number, _, old = self.old_line()
+        number, _, old = self.old_run()
         return [*number, b"line-remove", old]
 
     def rename(self):

@@ -5,23 +5,11 @@
 
 import sys
 
-from line_run_rows import edit_of
 from tests.lib.checks import Outcome, Tally, differences
 from tests.lib.tables import RUNS, rows, unescape
 
 from .cases import USUAL_DEPTH
-from .judge import Verdict, judged, obey_step
-from .session import Session
-
-# The tables of single edits that no script can say: their blocks have several lines.
-BLOCKS = ("line-runs",)
-
-
-def verdict_on_block(row):
-    """The judge's verdict on the edit of a row of such a table."""
-    session = Session(unescape(row["makefile"]), USUAL_DEPTH)
-    replies, told = obey_step(session, (1, *edit_of(unescape(row["script"]))))
-    return Verdict(Outcome(b"" if told else session.text, told.encode(), 1 if told else 0), replies)
+from .judge import judged
 
 
 def verdict_on(row):
@@ -47,10 +35,9 @@ def problems_of(row, verdict):
 
 def judged_rows():
     """The name of each row, and what the judge says otherwise."""
-    for table in (*RUNS, *BLOCKS):
+    for table in RUNS:
         for _, row in rows(table):
-            verdict = verdict_on_block(row) if table in BLOCKS else verdict_on(row)
-            yield f"the judge on {table}: {row['name']}", list(problems_of(row, verdict))
+            yield f"the judge on {table}: {row['name']}", list(problems_of(row, verdict_on(row)))
 
 
 def main():

@@ -61,6 +61,13 @@ WHOLE_LINES = [
     *(b"define .RECIPEPREFIX", b"ifdef", b"endif # c", b"<<E", b"\xff"),
     *(CONDITIONALS + DIRECTIVES + BODIES + OPAQUE + ROUGH),
 ]
+# Blocks of several lines, and one of an empty line.
+BLOCKS = [
+    *(b"ifdef A\nX = 1\nendif", b"n1: a\n\tx\n\ty", b"define N\na\nendef", b"X = a \\\n  b", b"\n# c\n", b"", b"\n"),
+    *(b"a: b\n\ta; \\\n\tb", b"ifdef A\nX = 1", b"endif\nifdef B", b"else\nX = 2", b"<<E\nE2", b"X = 1\nX = 1"),
+]
+# The words that end blocks.
+END_WORDS = [b"E", b"END", b"_1"]
 # What may stand in the place of a line of a class, so that the lines below read as before.
 SAME_CLASS = {
     "If": CONDITIONALS,
@@ -84,4 +91,7 @@ NO_COMMANDS = [
     *(b"insert X", b"insert top", b"insert after-line x", b"nth 1 insert top x", b"nth 1 insert bottom x"),
     *(b"all insert top x", b"all line-replace a b", b"all line-remove a", b"line-replace a", b"line-remove a b"),
     *(b"assign after-line x Y = 1", b"rule before-line x a : b"),
+    *(b"insert top <<E\nx", b"insert top <<E\nE", b"line-remove <<E", b"insert top <<E x\nE", b"line-replace <<E <<E\nx\nE\n"),
+    *(b"all recipe-subst a b c", b"nth 1 values-subst a b", b"nth 1 recipes-subst a b", b"recipe-subst a b"),
+    *(b"nth 1 all operator X =", b"all values-subst a b", b"values-subst a", b"recipes-subst X a b", b"all replace X a"),
 ]

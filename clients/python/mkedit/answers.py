@@ -10,7 +10,7 @@ from dataclasses import replace
 from typing import Any, Counter, Dict, Iterator, List, Tuple, get_args
 
 from .found import Assignment, Condition, Line, RecipeLine, Rule, Step, StepKind
-from .words import OPERATORS, SEPARATORS, one_of
+from .words import OPERATORS, SEPARATORS, block_words, one_of
 
 # An object of JSON.
 Members = Dict[str, Any]
@@ -88,16 +88,30 @@ def rule(it: Members, place: Dict[str, Any], counts: Counter[str]) -> Rule:
     )
 
 
-def step(it: Members) -> Step:
-    """A line of `history`."""
-    word, _, text = text_in(it["text"]).partition(" ")
+def with_blocks(command: str, below: Iterator[str]) -> str:
+    """A command with the lines of its blocks, which are next in an answer."""
+    lines = [command]
+    for end in block_words(command):
+        for line in below:
+            lines.append(line)
+            if line == end:
+                break
+        else:
+            raise ValueError(f"no line below {command!r} is {end}")
+    return "\n".join(lines)
+
+
+def step(line: str, below: Iterator[str]) -> Step:
+    """A line of `history`, with the lines of blocks below it."""
+    word, _, text = line.partition(" ")
     kind = one_of(KINDS, word)
     if not text:
         raise ValueError(f"{kind} stands alone")
     if text != "begin" and not text.startswith("begin; "):
-        return Step(kind, (text,), False)
+        return Step(kind, (with_blocks(text, below),), False)
     commands = [each.strip(" ") for each in COMMAND.findall(text)]
-    return Step(kind, tuple(commands[1:] if kind == "open" else commands[1:-1]), True)
+    commands = commands[1:] if kind == "open" else commands[1:-1]
+    return Step(kind, tuple(with_blocks(each, below) for each in commands), True)
 
 
 # ---- whole answers
@@ -145,7 +159,8 @@ def recipe_lines(found: List[Members], of_rules: List[Rule]) -> List[RecipeLine]
 
 def steps(found: List[Members]) -> List[Step]:
     """The answer to `history`."""
-    return [step(it) for it in found]
+    lines = iter([text_in(it["text"]) for it in found])
+    return [step(it, lines) for it in lines]
 
 
 def unread_lines(it: Members) -> List[str]:

@@ -23,36 +23,39 @@ SENTENCES = {
         "`sinclude`, `load`, `-load`, `export`, `unexport`, `override`, `private` or `vpath`."
     ),
     "RecipePrefix": (
-        "The file sets `.RECIPEPREFIX` in a way that mkedit does not read: in a conditional, with a modifier "
-        "such as `export`, by `define`, with `+=`, `?=`, `!=` or `:::=`, or to a byte that cannot be a "
-        "prefix, such as the `$` of a reference."
+        "The file sets `.RECIPEPREFIX` in a way that mkedit does not read: in a conditional, with a modifier,"
+        " by `define`, with `+=`, `?=`, `!=` or `:::=`, or to a byte that cannot be a prefix, such as the `$`"
+        " of a reference."
     ),
-    "NoSuch": "No assignment or rule has this name, or no line is OLD, or there is no N-th of them.",
+    "NoSuch": "No assignment or rule has this name, or no lines are OLD, or there is no N-th of them.",
     "Ambiguous": (
         "Several assignments or several rules have this name, and neither `nth` nor `all` says which are "
         "meant."
     ),
     "Absent": (
         "The word to remove or to replace, or beside which a new one is to go, is no prerequisite of the "
-        "rule, or no word of the value, and with `all` of no value of the name; the value does not have the "
-        "text FROM; the rule has no K-th recipe line, or none whose text is OLD."
+        "rule, or no word of the value, and with `all` of no value of the name; no value or recipe line that "
+        "the command is about has the text FROM; the rule has no K-th recipe line, or none whose text is OLD."
     ),
     "Already": (
-        "The new word is already in the list of prerequisites, or in the value, to which the command adds it,"
-        " and with `all` in each value of the name."
+        "The new word is already in the prerequisites, or in the value, to which the command adds it, and "
+        "with `all` in each value of the name."
     ),
     "Taken": "The new name is already a target of a rule or of a target-specific assignment.",
     "SharedRule": "The rule to remove has several targets.",
     "Straddles": "A conditional directive stands between the rule's line and its last recipe line.",
     "OpenValue": (
-        "The value to append to has a reference that is not closed, or ends in a lone `$` or a lone "
-        "backslash."
+        "The value has a reference that is not closed, or ends in a lone `$` or a lone backslash, or with "
+        "`add` in a fold."
     ),
-    "OpenLine": "The new line would follow a last line that would swallow it.",
+    "OpenLine": (
+        "The new line would follow a last line that would swallow it: one that ends in an odd run of "
+        "backslashes, maybe with a line end after it, or in a CR alone."
+    ),
     "OpenDefine": "The place is `bottom`, and a define is open at the end of the file.",
     "Leans": (
         "Below the change stands a line that begins with the recipe prefix, with only blank lines, comments "
-        "and conditional directives between the two."
+        "and conditional directives between."
     ),
     "TooLong": "The text would have more than 16,777,216 bytes.",
     "NothingToUndo": "There is no edit to undo, or the depth is used up.",

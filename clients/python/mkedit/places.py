@@ -5,8 +5,9 @@ from typing import Optional
 
 from .words import PLACE_WORDS, SITE_WORDS, PlaceWord, SiteWord, one_of
 
-# The words of the places that are no line's.
+# The words of the places that are no line's, and of those that a line or several tell by their text.
 ENDS = ("top", "bottom")
+LINE_WORDS = ("before-line", "after-line")
 
 
 @dataclass(frozen=True)

@@ -8,10 +8,10 @@ from typing import ContextManager, Iterator, List, Optional, Type
 from . import answers
 from .errors import Error, Fault, put_behind
 from .found import Assignment, RecipeLine, Rule, Step
-from .places import Place, Site
+from .places import LINE_WORDS, Place, Site
 from .talk import PathName, Talk
 from .words import MOST_OF_REQUEST, NEW_SEPARATORS, OPERATORS, NewSeparator, Operator
-from .words import digits, field, one_of, word
+from .words import block, digits, field, one_of, word
 
 # How many edits can be undone where nothing else is said, and the commands that are no edits.
 DEPTH = 100
@@ -66,11 +66,18 @@ class Session:
         answers.nothing(found)
         self._made += 1
 
-    def _put_in(self, word: str, place: Site, *fields: str, kind: Type[Site] = Place) -> None:
-        if not isinstance(place, kind):
-            raise TypeError(f"a place is a {kind.__name__}, and not of type {type(place).__name__}")
+    def _put_in(self, word: str, place: Place, *fields: str) -> None:
+        if not isinstance(place, Place):
+            raise TypeError(f"a place is a Place, and not of type {type(place).__name__}")
         name = () if place.name is None else (place.name,)
         self._do(word, place.word, *name, *fields, nth=place.nth)
+
+    def _exchange(self, words: List[str], *blocks: str, nth: Optional[int] = None) -> None:
+        """Sends the command of an edit of whole lines, with the lines of these blocks below it."""
+        below: List[str] = []
+        first = ["nth", digits(nth)] if nth is not None else []
+        fields = [block(it, below) for it in blocks]
+        self._talk.ask(self._count, *first, *words, *fields, below=below)
 
     def _told(self, *words: str) -> str:
         return self._talk.ask(answers.text, *words)
@@ -133,6 +140,26 @@ class Session:
         """Replaces the operator of an assignment."""
         self._do("operator", name, one_of(OPERATORS, operator), nth=nth)
 
+    def prepend_all(self, name: str, value: str) -> None:
+        """Puts a text before each value of a name."""
+        self._do("prepend", name, value, before="all")
+
+    def replace_all(self, name: str, word: str, value: str) -> None:
+        """Replaces a word by a text in each value of a name that has it."""
+        self._do("replace", name, word, value, before="all")
+
+    def subst_all(self, name: str, old: str, new: str) -> None:
+        """Replaces each occurrence of a text in the values of a name."""
+        self._do("subst", name, old, new, before="all")
+
+    def operator_all(self, name: str, operator: Operator) -> None:
+        """Replaces the operator of each assignment of a name."""
+        self._do("operator", name, one_of(OPERATORS, operator), before="all")
+
+    def values_subst(self, old: str, new: str) -> None:
+        """Replaces each occurrence of a text in the values of all variables."""
+        self._do("values-subst", old, new)
+
     def unset(self, name: str, nth: Optional[int] = None) -> None:
         """Removes an assignment."""
         self._do("unset", name, nth=nth)
@@ -187,23 +214,37 @@ class Session:
         """Removes the recipe line whose text is old."""
         self._do("recipe-remove", target, old, nth=nth)
 
+    def recipe_subst(self, target: str, old: str, new: str, nth: Optional[int] = None) -> None:
+        """Replaces each occurrence of a text in the recipe lines of the rules for a target, or of one of them."""
+        self._do("recipe-subst", target, old, new, nth=nth)
+
+    def recipes_subst(self, old: str, new: str) -> None:
+        """Replaces each occurrence of a text in all recipe lines."""
+        self._do("recipes-subst", old, new)
+
     def rename(self, old: str, new: str) -> None:
         """Renames a target, also where it is a prerequisite."""
         self._do("rename", old, new)
 
     # ---- whole lines
 
-    def insert(self, place: Site, block: str) -> None:
-        """Inserts a line of any class."""
-        self._put_in("insert", place, block, kind=Site)
+    def insert(self, place: Site, lines: str) -> None:
+        """Inserts a line of any class, or several, with line feeds between them."""
+        if not isinstance(place, Site):
+            raise TypeError(f"a place is a Site, and not of type {type(place).__name__}")
+        if place.word in LINE_WORDS and place.name is not None:
+            self._exchange(["insert", place.word], place.name, lines, nth=place.nth)
+        else:
+            name = [] if place.name is None else [field(place.name)]
+            self._exchange(["insert", field(place.word), *name], lines, nth=place.nth)
 
-    def line_replace(self, old: str, block: str, nth: Optional[int] = None) -> None:
-        """Replaces the line that is old by another."""
-        self._do("line-replace", old, block, nth=nth)
+    def line_replace(self, old: str, lines: str, nth: Optional[int] = None) -> None:
+        """Replaces the line that is old, or the lines, by others."""
+        self._exchange(["line-replace"], old, lines, nth=nth)
 
     def line_remove(self, old: str, nth: Optional[int] = None) -> None:
-        """Removes the line that is old."""
-        self._do("line-remove", old, nth=nth)
+        """Removes the line that is old, or the lines."""
+        self._exchange(["line-remove"], old, nth=nth)
 
     # ---- history
 

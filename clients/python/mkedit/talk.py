@@ -8,7 +8,7 @@ import math
 import os
 import re
 import threading
-from typing import Callable, List, Optional, TypeVar, Union
+from typing import Callable, Iterable, List, Optional, TypeVar, Union
 
 from .answers import Members
 from .errors import BadReply, Ended, Error, Fault, Refused, TimedOut
@@ -85,9 +85,10 @@ class Talk:
         self._process = Process(words, f"the session of {name}")
         self._exchange(self._greeted)
 
-    def ask(self, read: Callable[[List[Members]], T], *words: str) -> T:
-        """Sends the words of a command or a request; what `read` makes of the lines of its answer."""
-        line = " ".join(words).encode("utf-8", "surrogateescape") + b"\n"
+    def ask(self, read: Callable[[List[Members]], T], *words: str, below: Iterable[str] = ()) -> T:
+        """Sends the words of a command or a request, and the lines below it; what `read` makes of the answer."""
+        lines = (" ".join(words), *below)
+        line = "".join(f"{it}\n" for it in lines).encode("utf-8", "surrogateescape")
         answer = self._exchange(lambda deadline: self._answered(line, read, deadline))
         if isinstance(answer, Error):
             raise answer

@@ -1,7 +1,7 @@
 """Checks of the words of a line before it is sent to the program."""
 
 import re
-from typing import Literal, Tuple, TypeVar, get_args
+from typing import List, Literal, Tuple, TypeVar, get_args
 
 # The operators of assignments; the separators of rules, and those of new ones; the first words of places of
 # new assignments and rules, and those of places of any new line.
@@ -24,8 +24,10 @@ MOST_OF_COMMAND, MOST_OF_REQUEST = 4_294_967_295, 999_999_999
 NEVER = re.compile(r"[\n\r\0]")
 # What has to stand between quotes, and what gets a backslash there. A form feed and a `;` could stand
 # without quotes; but an answer to `history` has each line without the former at its end, and the latter
-# between two lines.
-QUOTED, ESCAPED = re.compile(r'[ \t\f";]'), re.compile(r'(["\\])')
+# between two lines. And `<<` before a word stands for a block.
+QUOTED, ESCAPED = re.compile(r'[ \t\f";]|<<'), re.compile(r'(["\\])')
+# The fields of a line, and one that stands for a block, whose lines are below.
+FIELD, BLOCK = re.compile(r'"(?:[^"\\]|\\.)*"|[^ \t]+'), re.compile("<<([A-Za-z0-9_]+)")
 # What ends a word of a request.
 WORD_END = re.compile(r"[ \t]")
 
@@ -53,6 +55,32 @@ def field(text: str) -> str:
     if line_part(text) and not QUOTED.search(text):
         return text
     return '"' + ESCAPED.sub(r"\\\1", text) + '"'
+
+
+def block(text: str, below: List[str]) -> str:
+    """A field for a block of one or more lines. The lines of one with several are put behind those below its command."""
+    if not isinstance(text, str) or "\n" not in text:
+        return field(text)
+    lines = [line_part(it) for it in text.split("\n")]
+    end = next(it for it in map("END{}".format, range(len(lines) + 1)) if it not in lines)
+    below += (*lines, end)
+    return f"<<{end}"
+
+
+def block_words(command: str) -> List[str]:
+    """The words that end the blocks of a command, in their order."""
+    fields: List[str] = FIELD.findall(command)
+    first = 0
+    if fields[first] in ("try", "or"):
+        first += 1
+    if fields[first] == "nth":
+        first += 2
+    if fields[first] not in ("insert", "line-replace", "line-remove"):
+        return []
+    if fields[first] == "insert":
+        first += 1 if fields[first + 1] in ("before-var", "after-var", "before-rule") else 0
+        first += 1
+    return [it[1] for it in map(BLOCK.fullmatch, fields[first + 1 :]) if it]
 
 
 def word(text: str) -> str:

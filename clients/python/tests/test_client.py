@@ -37,6 +37,11 @@ class Client(ClientCase):
             (lambda it: it.add_after("X", "2", "3", nth=2), "X = 2", "X = 2 3"),
             (lambda it: it.subst("CFLAGS", "error", ""), "-Werror", "-W"),
             (lambda it: it.operator("X", "+=", nth=2), "X = 2", "X += 2"),
+            (lambda it: it.prepend_all("X", "0"), "X = 1\nX = 2", "X = 0 1\nX = 0 2"),
+            (lambda it: it.replace_all("X", "1", "3"), "X = 1", "X = 3"),
+            (lambda it: it.subst_all("X", "2", "a b"), "X = 2", "X = a b"),
+            (lambda it: it.operator_all("X", ":="), "X = 1\nX = 2", "X := 1\nX := 2"),
+            (lambda it: it.values_subst("-W", "-f"), "-Werror", "-ferror"),
             (lambda it: it.unset("X", nth=1), "X = 1\n", ""),
             (lambda it: it.assign(mkedit.after_var("CC"), "CXX", ":=", "g++"), "# c\n", "# c\nCXX := g++\n"),
             (lambda it: it.assign(mkedit.before_var("X", nth=2), "Y", "?=", ""), "X = 2", "Y ?=\nX = 2"),
@@ -59,6 +64,9 @@ class Client(ClientCase):
             (lambda it: it.recipe_del("all", 2), "\trm -f x\n", ""),
             (lambda it: it.recipe_replace("all", "rm -f x", "rm -rf x"), "rm -f x", "rm -rf x"),
             (lambda it: it.recipe_remove("all", "rm -f x"), "\trm -f x\n", ""),
+            (lambda it: it.recipe_subst("all", "rm -f", "rm -rf"), "rm -f x", "rm -rf x"),
+            (lambda it: it.recipe_subst("all", " x", "", nth=1), "rm -f x", "rm -f"),
+            (lambda it: it.recipes_subst("rm -f ", "rm "), "rm -f x", "rm x"),
             (lambda it: it.rename("all", "main"), "all:", "main:"),
         )
         for edit, old, new in cases:
@@ -76,6 +84,11 @@ class Client(ClientCase):
             (lambda it: it.line_replace("X = 2", "include a.mk", nth=1), "X = 2", "include a.mk"),
             (lambda it: it.line_remove("CC = gcc # c"), "CC = gcc # c\n", ""),
             (lambda it: it.line_remove("", nth=1), "\n\n", "\n"),
+            (lambda it: it.insert(mkedit.TOP, "# a\nEND0\n<<END1"), "CC", "# a\nEND0\n<<END1\nCC"),
+            (lambda it: it.insert(mkedit.TOP, "<<E"), "CC", "<<E\nCC"),
+            (lambda it: it.line_replace("X = 1\nX = 2", "ifdef A\nX = 1\nendif"), "X = 1\nX = 2", "ifdef A\nX = 1\nendif"),
+            (lambda it: it.insert(mkedit.after_line("X = 2\n"), "# b\n"), "X = 2\n\n", "X = 2\n\n# b\n\n"),
+            (lambda it: it.line_remove("X = 1\nX = 2", nth=1), "X = 1\nX = 2\n", ""),
         )
         for edit, old, new in cases:
             with self.subTest(new):

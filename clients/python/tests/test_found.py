@@ -163,6 +163,21 @@ class History(ClientCase):
         with self.assertRaisesRegex(mkedit.Fault, "^edits beyond the depth$"):
             makefile.script()
 
+    def test_commands_have_their_blocks(self):
+        makefile = self.open()
+        with makefile.group():
+            makefile.insert(mkedit.TOP, "# a\n# b; end")
+            makefile.set("CC", "<<E")
+            makefile.line_replace("X = 1\nX = 2", "X = 3\n# undo x")
+        makefile.insert(mkedit.before_line("X = 3"), "# c\nEND0")
+        alone, group = makefile.history()
+        self.assertEqual(alone.commands, ('insert before-line "X = 3" <<END1\n# c\nEND0\nEND1',))
+        self.assertEqual(group.commands[0], "insert top <<END0\n# a\n# b; end\nEND0")
+        self.assertEqual(group.commands[1:2], ('set CC "<<E"',))
+        self.assertEqual(len(group.commands), 3)
+        made = mkedit.edit(MAKEFILE, makefile.script(), program=PROGRAM)
+        self.assertEqual(made, makefile.text().encode())
+
     def test_the_commands_of_a_group_are_told_apart(self):
         makefile = self.open()
         lines = ("ls; pwd", "ls;", '"; end', "end", "; begin; ls", 'a\\" ; "b', ";", "begin", "\\;x", 'x"; "', "a\f")

@@ -30,6 +30,15 @@ WITH_FIELD = (
     lambda it, bad: it.subst("X", "1", bad),
     lambda it, bad: it.operator(bad, "="),
     lambda it, bad: it.operator("X", bad),
+    lambda it, bad: it.prepend_all("X", bad),
+    lambda it, bad: it.replace_all("X", bad, "1"),
+    lambda it, bad: it.replace_all("X", "1", bad),
+    lambda it, bad: it.subst_all("X", bad, "1"),
+    lambda it, bad: it.subst_all("X", "1", bad),
+    lambda it, bad: it.operator_all(bad, "="),
+    lambda it, bad: it.operator_all("X", bad),
+    lambda it, bad: it.values_subst(bad, "1"),
+    lambda it, bad: it.values_subst("1", bad),
     lambda it, bad: it.unset(bad),
     lambda it, bad: it.assign(BOTTOM, bad, "=", "1"),
     lambda it, bad: it.assign(BOTTOM, "Y", bad, "1"),
@@ -51,11 +60,20 @@ WITH_FIELD = (
     lambda it, bad: it.recipe_del(bad, 1),
     lambda it, bad: it.recipe_replace("all", bad, "ls"),
     lambda it, bad: it.recipe_remove("all", bad),
+    lambda it, bad: it.recipe_subst(bad, "a", "b"),
+    lambda it, bad: it.recipe_subst("all", bad, "b"),
+    lambda it, bad: it.recipe_subst("all", "a", bad),
+    lambda it, bad: it.recipes_subst(bad, "b"),
+    lambda it, bad: it.recipes_subst("a", bad),
     lambda it, bad: it.rename("all", bad),
+    lambda it, bad: it.insert(before_var(bad), "# x"),
+    lambda it, bad: it.insert(mkedit.Site(bad, "X"), "# x"),
+)
+WITH_BLOCK = (
     lambda it, bad: it.insert(TOP, bad),
+    lambda it, bad: it.insert(before_var("X"), bad),
     lambda it, bad: it.insert(before_line(bad), "# x"),
     lambda it, bad: it.insert(after_line(bad), "# x"),
-    lambda it, bad: it.insert(mkedit.Site(bad, "X"), "# x"),
     lambda it, bad: it.line_replace(bad, "# x"),
     lambda it, bad: it.line_replace("X = 1", bad),
     lambda it, bad: it.line_remove(bad),
@@ -98,6 +116,7 @@ WITH_NUMBER = (
     lambda it, bad: it.recipe_del("all", 1, nth=bad),
     lambda it, bad: it.recipe_replace("all", "ls", "ls", nth=bad),
     lambda it, bad: it.recipe_remove("all", "ls", nth=bad),
+    lambda it, bad: it.recipe_subst("all", "a", "b", nth=bad),
     lambda it, bad: it.insert(before_var("X", nth=bad), "# x"),
     lambda it, bad: it.insert(before_line("X = 1", nth=bad), "# x"),
     lambda it, bad: it.insert(after_line("X = 1", nth=bad), "# x"),
@@ -126,11 +145,15 @@ class Words(ClientCase):
     def test_no_field_has_a_line_end_or_a_nul(self):
         self.assert_nothing_is_sent(WITH_FIELD, BAD_TEXTS, ValueError)
 
+    def test_a_block_has_line_feeds(self):
+        bad_ones = [it for it in BAD_TEXTS if "\n" not in it or "\r" in it]
+        self.assert_nothing_is_sent(WITH_BLOCK, (*bad_ones, "a\nb\r\nc", "a\nb\0c"), ValueError)
+
     def test_a_word_of_a_request_has_no_blank_either(self):
         self.assert_nothing_is_sent(WITH_WORD, (*BAD_TEXTS, "", "a b", "a\tb", " a", "a "), ValueError)
 
     def test_a_field_is_a_str(self):
-        self.assert_nothing_is_sent((*WITH_FIELD, *WITH_WORD[1:2]), (1, b"a", ["a"]), TypeError)
+        self.assert_nothing_is_sent((*WITH_FIELD, *WITH_BLOCK, *WITH_WORD[1:2]), (1, b"a", ["a"]), TypeError)
 
     def test_a_number_is_an_int(self):
         calls = (*WITH_NUMBER, *WITH_NUMBER_OF_REQUEST)

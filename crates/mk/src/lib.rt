@@ -26,8 +26,8 @@ pub use mk_lookup::{find_assignment, find_rule, get};
 pub use mk_run::{Observer, Outcome, Reported, message, run, run_steps, status};
 pub use mk_script::{Chain, ScriptFault, Step, line_of_edit, parse_script};
 pub use mk_session::{
-    Command, Detail, Edit, Expected, Field, Flavor, LineChange, Place, Refusal, RuleSeparator,
-    Session, Side, Site, ValueChange, laws,
+    Command, Detail, EachEdit, Edit, Expected, Field, Flavor, LineChange, Place, Refusal,
+    RuleSeparator, Session, Side, Site, ValueChange, laws,
 };
 pub use mk_tree::{
     AssignmentRef, Conditional, Doc, Line, RuleRef, TargetAssignmentRef, WordTexts, text_of,

@@ -139,6 +139,23 @@ makes
     CC ?= gcc
 ";
 
+const VALUES_SUBST: &str = "\
+Replaces each occurrence of a text in the values of all variables, as one edit.
+
+Is refused with BadArgument, RecipePrefix, Absent, TooLong or Misread.
+
+Example: over
+    BINDIR = /usr/local/bin
+    CC = gcc
+    CONF = /etc:/usr/local/etc
+the script
+    values-subst /usr/local /opt
+makes
+    BINDIR = /opt/bin
+    CC = gcc
+    CONF = /etc:/opt/etc
+";
+
 const UNSET: &str = "\
 Removes an assignment.
 
@@ -335,8 +352,46 @@ makes
     \trm -rf build
 ";
 
+const RECIPE_SUBST: &str = "\
+Replaces each occurrence of a text in the recipes of all rules for a target, as one edit. With `nth`
+it is one of these rules.
+
+Is refused with BadArgument, Reserved, RecipePrefix, NoSuch, Absent, TooLong or Misread.
+
+Example: over
+    install: prog
+    \tinstall -s prog /usr/bin
+    \tinstall -s tool /usr/bin
+the script
+    recipe-subst install \"install -s\" install
+makes
+    install: prog
+    \tinstall prog /usr/bin
+    \tinstall tool /usr/bin
+";
+
+const RECIPES_SUBST: &str = "\
+Replaces each occurrence of a text in all recipes, as one edit.
+
+Is refused with BadArgument, RecipePrefix, Absent, TooLong or Misread.
+
+Example: over
+    prog: main.c
+    \tgcc -o prog main.c
+    test: test.c
+    \tgcc -o test test.c && ./test
+the script
+    recipes-subst \"gcc \" \"$(CC) \"
+makes
+    prog: main.c
+    \t$(CC) -o prog main.c
+    test: test.c
+    \t$(CC) -o test test.c && ./test
+";
+
 const INSERT: &str = "\
-Inserts a line of any class: a comment, a directive, an assignment.
+Inserts lines of any class: comments, directives, assignments. If BLOCK is `<<WORD`, its lines stand
+below the command, up to the line WORD.
 
 Is refused with BadArgument, Reserved, RecipePrefix, NoSuch, Ambiguous, Already, OpenLine, OpenDefine,
 TooLong, Misread or Leans.
@@ -345,32 +400,42 @@ Example: over
     include a.mk
     CC = gcc
 the script
-    insert after-line \"include a.mk\" \"-include b.mk\"
+    insert after-line \"include a.mk\" <<END
+    -include b.mk
+    # Set by b.mk: CFLAGS
+    END
 makes
     include a.mk
     -include b.mk
+    # Set by b.mk: CFLAGS
     CC = gcc
 ";
 
 const LINE_REPLACE: &str = "\
-Replaces a whole line by another. The two may be of any class.
+Replaces whole lines by others. Both may be of any class. OLD and BLOCK may be `<<WORD`, with their
+lines below the command, up to the line WORD.
 
 Is refused with BadArgument, RecipePrefix, NoSuch, Already, Ambiguous, TooLong, Misread or Leans.
 
 Example: over
+    CFLAGS = -g
+    CC = gcc
+the script
+    line-replace \"CFLAGS = -g\" <<END
     ifdef DEBUG
     CFLAGS = -g
     endif
-the script
-    line-replace \"ifdef DEBUG\" \"ifndef RELEASE\"
+    END
 makes
-    ifndef RELEASE
+    ifdef DEBUG
     CFLAGS = -g
     endif
+    CC = gcc
 ";
 
 const LINE_REMOVE: &str = "\
-Removes a whole line of any class.
+Removes whole lines of any class. OLD may be `<<WORD`, with its lines below the command, up to the line
+WORD.
 
 Is refused with BadArgument, RecipePrefix, NoSuch, Ambiguous, Misread or Leans.
 
@@ -416,7 +481,8 @@ makes
 ";
 
 const ALL: &str = "\
-Applies `set`, `append`, `add` or `drop` to every assignment of the name, as one edit.
+Applies COMMAND to every assignment of the name, as one edit. COMMAND is `set`, `append`, `add`, `drop`,
+`prepend`, `replace`, `subst` or `operator`.
 
 Is refused with those of COMMAND, but not with Ambiguous.
 
@@ -539,7 +605,7 @@ makes
 ";
 
 /// What is said of each command of a script, and of the words that may stand before one.
-pub(crate) static TEXTS: [(&str, &str); 36] = [
+pub(crate) static TEXTS: [(&str, &str); 39] = [
     ("set", SET),
     ("append", APPEND),
     ("add", ADD),
@@ -550,6 +616,7 @@ pub(crate) static TEXTS: [(&str, &str); 36] = [
     ("add-after", ADD_AFTER),
     ("subst", SUBST),
     ("operator", OPERATOR),
+    ("values-subst", VALUES_SUBST),
     ("unset", UNSET),
     ("assign", ASSIGN),
     ("rule", RULE),
@@ -563,6 +630,8 @@ pub(crate) static TEXTS: [(&str, &str); 36] = [
     ("recipe-del", RECIPE_DEL),
     ("recipe-replace", RECIPE_REPLACE),
     ("recipe-remove", RECIPE_REMOVE),
+    ("recipe-subst", RECIPE_SUBST),
+    ("recipes-subst", RECIPES_SUBST),
     ("insert", INSERT),
     ("line-replace", LINE_REPLACE),
     ("line-remove", LINE_REMOVE),

@@ -11,24 +11,20 @@ A field is not what it has to be. The report names the first such field.
 `value` has no blank at either end, no `#` that would begin a comment, no backslash and no lone `$` at
 its end, and no reference that is not closed, such as `$(X`. With `append`, `prepend` and `replace`
 it is not empty either. `from` is not empty.
-`target`, `word`, `old` and `new` are one word each, without a blank outside a reference. `targets`
-and `prereqs` are such words, and `targets` is not empty. Outside a reference no word has a `#`,
-colon, semicolon, equals sign, vertical bar, backslash or lone `$`, and each reference is closed. No
-target ends in `&`. `place` contains such a name or such a target. With `add`, `drop`, `replace`,
-`add-before` and `add-after`, `word` and `new` are words of a value: they follow the rules for
-`value`, and are not empty.
-`line` and `block` do not end in a backslash, and neither does `old` of `recipe-replace`,
-`recipe-remove`, `line-replace` and `line-remove`, which is a whole line, or that of PLACE. No field has
-a CR or a NUL.
+`target`, `word`, `old` and `new` are one word each, without a blank outside a reference; `targets`
+and `prereqs` are such words, and `targets` is not empty. Outside a reference no word has a `#`, `:`, `;`,
+`=`, `|`, backslash or lone `$`, and each reference is closed. No target ends in `&`. `place` contains
+such a name or target. In edits of variables `word` and `new` are words of a value: they follow the
+rules for `value`, and are not empty.
+`line` and `block`, and an `old` that is lines, do not end in a backslash. No field has a CR or a NUL.
 
 Example: the script
     set CC \"gcc #1\"
 is reported as
     1: refused 1 BadArgument value
 
-Correct the script. A line whose name has a reference, such as `obj-$(X)`, is a case for
-`line-replace`. In a value write `\\#`, and between double quotes `\\\\#`:
-`set CC \"gcc \\\\#1\"`. Or put the `#` inside a reference.
+If a name has a reference, as `obj-$(X)` has, use `line-replace`. In a value write `\\#`, and between
+double quotes `\\\\#`, or put the `#` inside a reference.
 ";
 
 const RESERVED: &str = "\
@@ -46,11 +42,10 @@ Edit by hand.
 ";
 
 const RECIPE_PREFIX: &str = "\
-The file sets `.RECIPEPREFIX` in a way that mkedit does not read: in a conditional, with a modifier
-such as `export`, by `define`, with `+=`, `?=`, `!=` or `:::=`, or to a byte that cannot be a prefix,
-such as the `$` of a reference. So mkedit does not know which lines are recipe lines. There is a second
-cause, tested directly after 5: the edit would write a line that begins with the recipe prefix and is
-no recipe line.
+The file sets `.RECIPEPREFIX` in a way that mkedit does not read: in a conditional, with a modifier, by
+`define`, with `+=`, `?=`, `!=` or `:::=`, or to a byte that cannot be a prefix,
+such as the `$` of a reference. Or, tested directly after 5: the edit would write a line that begins
+with the recipe prefix and is no recipe line.
 
 Example: over
     ifdef POSIX
@@ -66,7 +61,7 @@ Edit by hand.
 ";
 
 const NO_SUCH: &str = "\
-No assignment or rule has this name, or no line is OLD, or there is no N-th of them. For `rename`, the
+No assignment or rule has this name, or no lines are OLD, or there is no N-th of them. For `rename`, the
 old name is no target of a rule or of a target-specific assignment.
 
 Example: over
@@ -77,17 +72,17 @@ is reported as
     1: refused 4 NoSuch
 
 List what is there with `mkedit vars` or `mkedit rules`. If both print nothing, the makefile may be
-empty: `> FILE` empties it, and without FILE it is standard input. If the file does have the line,
-mkedit may be unable to parse it: `mkedit check` lists such lines. Edits of variables find no `define`,
-no directive such as `export NAME`, no target-specific assignment such as `t: X = 1` and no name with a
-reference such as `obj-$(X)`, and `mkedit check` lists none of these: use `line-replace`. For a word
-that is only a prerequisite, use `undepend` and `depend` instead of `rename`.
+empty: `> FILE` empties it, and without FILE it is standard input. If mkedit cannot parse the line,
+`mkedit check` lists it. Edits of variables find no `define`, no directive such as `export NAME`, no
+target-specific assignment such as `t: X = 1` and no name with a reference such as `obj-$(X)`:
+`line-replace` does. For a mere prerequisite use `undepend` and `depend`.
 ";
 
 const AMBIGUOUS: &str = "\
 Several assignments or several rules have this name, and neither `nth` nor `all` says which are meant.
-Or several lines are OLD, or several recipe lines of the rule have the text OLD. Or, with `add-before` and `add-after`, several
-words of the value are WORD; this is tested directly after 7. The report says how many there are.
+Or OLD is there several times, or several recipe lines of the rule have the text OLD. Or, with
+`add-before` and `add-after`, several words of the value are WORD; this is tested directly after 7. The
+report says how many there are.
 
 Example: over
     ifdef DEBUG
@@ -100,19 +95,18 @@ the script
 is reported as
     1: refused 5 Ambiguous 2
 
-Say which one: `nth 2 set CC clang`. The name may be that of PLACE:
-`nth 2 assign after-var CC X = 1`. `mkedit vars` and `mkedit rules` list them in order;
-target-specific assignments do not count. Or change all of them: `all set CC clang`. `all` works with
-`set`, `append`, `add` and `drop`; for another command write one line for each. For a recipe line use
-`recipe-set` or `recipe-del`, which take its number. If a value has WORD several times, name the
-word on the other side of the new one, or give the whole value with `set`.
+Say which one: `nth 2 set CC clang`, or for PLACE `nth 2 assign after-var CC X = 1`. `mkedit vars` and
+`mkedit rules` list them in order; target-specific assignments do not count. Or change all of them:
+`all set CC clang`. `all` works with edits of values, but not with `add-before` and `add-after`. For a
+recipe line use `recipe-set` or `recipe-del`, which take its number. If a value has WORD several times,
+name the word on the other side of the new one, or use `set`.
 ";
 
 const ABSENT: &str = "\
 The word to remove or to replace, or beside which a new one is to go, is no prerequisite of the rule,
-or no word of the value, and with `all` of no value of the name; the value does not have the text FROM;
-the rule has no K-th recipe line, or none whose text is OLD. For `recipe-insert` K may be one more than
-the number of recipe lines.
+or no word of the value, and with `all` of no value of the name; no value or recipe line that the command
+is about has the text FROM; the rule has no K-th recipe line, or none whose text is OLD. For
+`recipe-insert` K may be one more than the number of recipe lines.
 
 Example: over
     hello: main.o
@@ -122,13 +116,13 @@ is reported as
     1: refused 6 Absent
 
 List what is there with `mkedit rules`, `mkedit recipes` or `mkedit vars`. A recipe after a semicolon
-has no number: `mkedit rules` counts it, and no edit reaches it. Edit it by hand.
+has no number: `mkedit rules` counts it, and `line-replace` alone reaches it.
 ";
 
 const ALREADY: &str = "\
-The new word is already in the list of prerequisites, or in the value, to which the command adds it,
-and with `all` in each value of the name. With `insert`, the line above or below the place is BLOCK;
-with `line-replace`, OLD is BLOCK.
+The new word is already in the prerequisites, or in the value, to which the command adds it,
+and with `all` in each value of the name. Of `insert`, the place is in or beside lines that are BLOCK; of
+`line-replace`, OLD stands in such lines.
 
 Example: over
     hello: main.o
@@ -142,7 +136,7 @@ Nothing has to be done.
 
 const TAKEN: &str = "\
 The new name is already a target of a rule or of a target-specific assignment. Targets on lines that
-mkedit cannot parse do not count: `mkedit check` lists these lines.
+`mkedit check` lists do not count.
 
 Example: over
     all: hello
@@ -156,8 +150,7 @@ Decide by hand.
 ";
 
 const SHARED_RULE: &str = "\
-The rule to remove has several targets. The report says how many. A target that is there twice
-counts twice.
+The rule to remove has several targets. The report counts them; one that is there twice counts twice.
 
 Example: over
     build cache: config
@@ -188,12 +181,10 @@ refused.
 ";
 
 const OPEN_VALUE: &str = "\
-The value to append to has a reference that is not closed, or ends in a lone `$` or a lone
-backslash. The new text would become part of that reference, or would be read together with that
-byte. With `add`, the value may not end in a fold either. `drop` is refused in both cases too, and
-if the word directly before the one to remove ends in a backslash, or in a blank that belongs to a
-`$` or a backslash: what follows could be read together with that end. With `all`, one such value is
-enough, if it would be changed.
+The value has a reference that is not closed, or ends in a lone `$` or a lone backslash, or with `add` in
+a fold. What follows could be read together with that end. `drop` is also refused if the word directly
+before the one to remove ends in a backslash, or in a blank that belongs to a `$` or a backslash. With
+`all`, one such value is enough, if it would be changed.
 
 Example: over
     SOURCES = $(wildcard *.c
@@ -206,8 +197,8 @@ Give the whole value with `set`.
 ";
 
 const OPEN_LINE: &str = "\
-The new line would follow a last line that would swallow it. Such a line ends in an odd run of
-backslashes, with or without a line end after it, or it has no line end and ends in a CR.
+The new line would follow a last line that would swallow it: one that ends in an odd run of backslashes,
+maybe with a line end after it, or in a CR alone.
 
 Example: over
     SOURCES = main.c \\
@@ -216,7 +207,7 @@ the script
 is reported as
     1: refused 12 OpenLine
 
-Fix the last line.
+Fix that line.
 ";
 
 const OPEN_DEFINE: &str = "\
@@ -235,8 +226,8 @@ Fix the file, or choose another place.
 
 const LEANS: &str = "\
 Below the change stands a line that begins with the recipe prefix, with only blank lines, comments and
-conditional directives between the two. After the change such a line could become a recipe line, or
-cease to be one. The edit is refused even if the line would read the same.
+conditional directives between. It could become a recipe line, or cease to be one. The edit is
+refused even if it would not.
 
 Example: over
     all:
@@ -256,7 +247,7 @@ The text would have more than 16,777,216 bytes.
 
 Example: a makefile has this many bytes, and a new line is put in.
 
-Move a part of the makefile into a file that it includes.
+Move a part of it into a file that it includes.
 ";
 
 const NOTHING_TO_UNDO: &str = "\
@@ -267,12 +258,12 @@ Example: the script
 is reported as
     1: refused 16 NothingToUndo
 
-Correct the script, or give a greater depth with `-d`.
+Give a greater depth with `-d`, if that is used up.
 ";
 
 const NOTHING_TO_REDO: &str = "\
 There is no edit to redo: there was no `undo`, `redo` has redone everything, or an edit was accepted
-since. What `cancel` undid cannot be redone.
+since. What `cancel` undid is gone.
 
 Example: the script
     redo
@@ -291,7 +282,7 @@ Example: the script
 is reported as
     2: refused 18 GroupOpen
 
-Put `end` or `cancel` before it.
+Put `end` before it.
 ";
 
 const NO_GROUP: &str = "\
@@ -306,7 +297,7 @@ Remove it.
 ";
 
 const NO_MEMORY: &str = "\
-Memory ran out. The run ends with the message `mkedit: no memory` and status 3.
+Memory ran out. The run ends with `mkedit: no memory` and status 3.
 
 Example: a makefile has 16 MB, and `ulimit -v` leaves less memory than the run needs.
 
@@ -315,9 +306,9 @@ Run it again with more memory.
 
 const MISREAD: &str = "\
 The new line would not read as the edit says: for instance, the new text has a `#`, an open reference
-or a backslash at its end, or `subst` takes out a `)` before a comment. Or lines that `insert`,
-`line-replace` and `line-remove` put in or take out would leave another define or conditional open, or
-another recipe prefix, than is there now.
+or a backslash at its end, or `subst` takes out a `)` before a comment. If an edit changes several lines,
+one such line is enough. Or lines that `insert`, `line-replace` and `line-remove` put in or take out would
+leave another define or conditional open, or another recipe prefix, than is there now.
 
 Example: over
     CFLAGS = -O2 -g
@@ -326,7 +317,8 @@ the script
 is reported as
     1: refused 21 Misread
 
-Look at the line, and use another text, such as `\\#`. Or give the whole value with `set`.
+Use another text, such as `\\#`, or give the whole value with `set`. Lines that begin and end a
+conditional or a define go into one block, by `<<WORD`.
 ";
 
 /// The cause of a refusal, an example of it and what to do, with an empty line between the three. A

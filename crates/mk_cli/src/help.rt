@@ -22,25 +22,27 @@ A line of the script is a command, a comment that begins with #, or blank:
     set NAME VALUE            append NAME VALUE           prepend NAME VALUE
     add NAME WORD             drop NAME WORD              replace NAME WORD VALUE
     add-before NAME WORD NEW  add-after NAME WORD NEW     subst NAME FROM TO
-    operator NAME OP          unset NAME                  rename OLD NEW
-    assign PLACE NAME OP VALUE
+    operator NAME OP          unset NAME                  values-subst FROM TO
+    assign PLACE NAME OP VALUE                            rename OLD NEW
     rule PLACE TARGETS SEP PREREQS                        unrule TARGET
     depend TARGET WORD        depend-order TARGET WORD    undepend TARGET WORD
     recipe TARGET LINE        recipe-set TARGET K LINE    recipe-del TARGET K
     recipe-insert TARGET K LINE                           recipe-remove TARGET OLD
-    recipe-replace TARGET OLD LINE
+    recipe-replace TARGET OLD LINE                        recipes-subst FROM TO
+    recipe-subst TARGET FROM TO
     insert PLACE BLOCK        line-replace OLD BLOCK      line-remove OLD
     nth N COMMAND             all COMMAND                 try COMMAND    or COMMAND
     undo    redo    begin    end    cancel
 PLACE is bottom, before-var NAME, after-var NAME or before-rule TARGET, and for insert also top,
 before-line OLD or after-line OLD. BLOCK is a whole line, and so is OLD there and in line-replace and
-line-remove. OP is one of = := ::= :::= ?= += != and SEP one of : and ::. Put double quotes around a
-field that has blanks in it or is empty. Between quotes \\\" is a quote and \\\\ a backslash; elsewhere
-each of the two is itself. `nth N` before a command picks the N-th of several lines that it could mean;
-`all` before set, append, add or drop means all of them. With `try` before an edit, having nothing to do
-is not an error. With `or` before an edit, it is made if the edit in the line above finds no line to
-edit. Commands run in order, each on the result of those above it. `mkedit help set` explains `set`, and
-so for each word.
+line-remove; or it is <<WORD, and its lines stand below the command, up to the line WORD. OP is one of
+= := ::= :::= ?= += != and SEP one of : and ::. Put double quotes around a field that has blanks in it or
+is empty. Between quotes \\\" is a quote and \\\\ a backslash; elsewhere each of the two is itself.
+`nth N` before a command picks the N-th of several lines that it could mean; `all` means all of them, and
+stands before set, append, prepend, add, drop, replace, subst or operator. With `try` before an edit,
+having nothing to do is not an error. With `or` before an edit, it is made if the edit in the line above
+finds no line to edit. Commands run in order, each on the result of those above it. `mkedit help set`
+explains `set`, and so for each word.
 
 The result goes to standard output, or to OUT. If a command is refused, a line on standard error says
 which one and why, and nothing is written unless -k is given. `mkedit explain 4` or `mkedit explain
@@ -164,11 +166,11 @@ Each line of standard input is a command of a script, as `mkedit help edit` list
     vars NAME    rules TARGET    recipes TARGET    get NAME    nth N get NAME    history
     help    help COMMAND    explain REFUSAL
     write    write!    write FILE    revert    quit    quit!
-Each is answered at once: the lines of an answer, each after `| `, and then a line `ok`, `refused` with
-the number and the name of the refusal, or `fault` with what is wrong. The first line is the version of
-this protocol, which docs/PROTOCOL.md describes. Only `write` and `write!` change FILE. At a terminal the
-replies are sentences, and each edit shows the lines that it changes, in colours. With --json each line of
-an answer is a JSON object.
+Each is answered at once, a command with a block behind the block's last line: the lines of an answer,
+each after `| `, and then a line `ok`, `refused` with the number and the name of the refusal, or `fault`
+with what is wrong. The first line is the version of this protocol, which docs/PROTOCOL.md describes. Only
+`write` and `write!` change FILE. At a terminal the replies are sentences, and each edit shows the lines
+that it changes, in colours. With --json each line of an answer is a JSON object.
 
 Example: with `CC = gcc # c` in config.mk and the lines `set CC clang`, `print`, `undo`, `undo` and `quit`,
     mkedit session config.mk

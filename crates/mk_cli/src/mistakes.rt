@@ -123,10 +123,12 @@ fn said_of(cause: MistakeCause) -> &'static str {
             "`try` and `or` stand before the whole command of an edit, and only one of them",
         MistakeCause::NotAfterNth => "`nth` may not stand before this command",
         MistakeCause::NotAfterAll =>
-            "`all` may stand before `set`, `append`, `add` and `drop` alone",
+            "`all` stands before edits of values alone, and not before `add-before` or `add-after`",
         MistakeCause::NthBottom => "`nth` may not stand before a command with the place `bottom`",
         MistakeCause::NthTop => "`nth` may not stand before a command with the place `top`",
         MistakeCause::StrayOr => "`or` stands below an edit without `try`, or below another `or`",
+        MistakeCause::OpenBlock => "no line below is WORD, which ends the block of `<<WORD`",
+        MistakeCause::EmptyBlock => "the block has no line; `\"\"` is a block of one empty line",
     }
 }
 

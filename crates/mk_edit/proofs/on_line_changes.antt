@@ -1,10 +1,9 @@
 -- Lemmas. A line that is changed and checked by reading.
-pub mod PiecePlaces
-pub mod WordsAndTexts
 pub mod WordsBeside
 pub mod OperatorPlaces
 pub mod ChangePlaces
 pub mod LinesMade
+pub mod MisreadLines
 pub mod Trimmed
 pub mod ModifierWords
 pub mod ReadBack

@@ -20,3 +20,6 @@ pub mod RenameTargetPatches
 pub mod ValueChangeLines
 pub mod ChangeValuesSurveys
 pub mod ChangeValuesPatches
+-- An edit of several lines
+pub mod EachLineSurveys
+pub mod EachLinePatches

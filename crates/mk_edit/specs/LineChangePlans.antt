@@ -1,6 +1,6 @@
 -- The line of an assignment that is changed and checked by reading.
 -- Told in docs/ARCHITECTURE.md, "An edit's way, from Edit to moved lines".
-use Rattle.std.specs.Prelude.{◌≡◌, ℕ, ◌≤◌, ◌==◌, ◌&&◌, nat_lt, if◌then◌else◌, Bool, true, false, List, [], ◌∷◌, drop, length, Option, None, Some}
+use Rattle.std.specs.Prelude.{◌≡◌, ◌⊎◌, ℕ, ◌+◌, ◌≤◌, ◌==◌, ◌&&◌, nat_lt, if◌then◌else◌, Bool, true, false, List, [], ◌∷◌, drop, length, Option, None, Some, Result, IfOk, IfErr, OnOk}
 use Rattle.std.specs.Str.{bytes_eq}
 use Rattle.mk_lines.specs.Cells.{Cell, joined_byte}
 use Rattle.mk_lines.specs.Ranges.{text_at}
@@ -17,15 +17,18 @@ use Rattle.mk_class.specs.Texts.{is_one_of, unit_text}
 use Rattle.mk_class.specs.declared.assignment.Assignment as assignment
 use Rattle.mk_class.specs.declared.assignment.Flavor.{Flavor}
 use Rattle.mk_tree.specs.Items.{Assigned, Sets}
-use Rattle.mk_tree.specs.LocatedLines.{LocatedLine}
+use Rattle.mk_tree.specs.Counting.{AreCounted}
+use Rattle.mk_tree.specs.LineTexts.{line_in}
+use Rattle.mk_tree.specs.LocatedLines.{LocatedLine, located_line}
 use Rattle.mk_tree.specs.Views.{AssignmentView}
 use Rattle.mk_edit_language.specs.Causes.{where_holds}
 use Rattle.mk_edit_language.specs.Edits.{LineChange, InsertWord, Substitute, SetOperator, Edit, ChangeLine}
+use Rattle.mk_edit_language.specs.EachLine.{EachChange, MarkedLine, each_bytes, is_change_misread}
 use Rattle.mk_edit_language.specs.LineChanges.{line_after, stated, value_after, reads_as}
 use Rattle.mk_edit_language.specs.declared.refusal.Refusal.{Refusal}
 use Rattle.mk_edit_parts.specs.RenamedRanges.{span}
 use Rattle.mk_edit_parts.specs.RenamedTexts.{AreApart, rewritten}
-use Rattle.mk_edit_language.specs.declared.refusal.Refusal.TheVariants.{Absent, Already, Ambiguous}
+use Rattle.mk_edit_language.specs.declared.refusal.Refusal.TheVariants.{Absent, Already, Ambiguous, Misread, NoMemory}
 
 -- an edit makes this change of a line, which is checked by reading
 pub record IsLineChange (c : LineChange) (e : Edit) : Type 0 where
@@ -71,6 +74,30 @@ abbrev pub Reads : Bool → Context → LocatedLine → (bytes : List ℕ) → F
     → Type 0
 Reads b x l m f v =
     (a : Assignment Cell) → IsAssignmentIn x l a → reads_as (with_parts a f v) (class_of x m) ≡ b
+
+-- ---- the line after the change
+
+-- a line in its context, as one that an edit means
+abbrev pub meant_in : Context → (line : List ℕ) → MarkedLine
+meant_in x l = record { line = line_in x l; is_meant = true }
+
+-- the line after a change, with its class in the context of the line before
+abbrev pub line_changed : EachChange → Context → (line : List ℕ) → LocatedLine
+line_changed c x l = located_line (line_in x (each_bytes c (meant_in x l)))
+
+-- whether it does not read as stated
+abbrev pub is_changed_misread : EachChange → Context → (line : List ℕ) → Bool
+is_changed_misread c x l = is_change_misread c x (line_in x l)
+
+-- The answer of a call that makes lines and reads each, if none is misread. It reads `lines` lines
+-- anew, or at most that many if it is refused.
+pub record AreRead {A : Type 0} (lines : ℕ) (is_misread : Bool) (read_before read_after : ℕ)
+    (result : Result A Refusal) : Type 0 where
+  pub told : IfOk result (λ _. is_misread ≡ false)
+  pub refused : IfErr result (λ r. (r ≡ NoMemory) ⊎ ((r ≡ Misread) × (is_misread ≡ true)))
+  pub counted : OnOk result (AreCounted read_before lines read_after)
+  pub few_read : read_after ≤ read_before + lines
+  pub forward : read_before ≤ read_after
 
 -- the text that is looked for is not empty
 abbrev pub IsSought : LineChange → Type 0

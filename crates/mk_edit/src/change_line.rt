@@ -12,24 +12,26 @@ ghost use Rattle.mk_tree.specs.LineTexts.{line_in};
 ghost use Rattle.mk_tree.specs.LocatedLines.{located_line, text_of_line};
 ghost use Rattle.mk_tree.specs.Trees.{line_view};
 ghost use Rattle.mk_tree.specs.Views.{assignment_of};
-ghost use Rattle.mk_edit_language.specs.EditViews.{edit_of, line_change_of};
+ghost use Rattle.mk_edit_language.specs.EditViews.{edit_of};
+ghost use Rattle.mk_edit_language.specs.EachLine.{InAssignment};
 ghost use Rattle.mk_edit_language.specs.LineChanges.{fits_line, flavor_after, is_one, stated, trimmed};
-ghost use Rattle.mk_edit_parts.specs.LineChangePlaces.{change_places, raw_ranges, separator_place};
+ghost use Rattle.mk_edit_parts.specs.LineChangePlaces.{change_places, raw_ranges, rewrite_view, separator_place};
 ghost use Rattle.mk_edit_parts.specs.RenamedRanges.{AreWithin};
 ghost use Rattle.mk_edit_parts.specs.RenamedTexts.{AreApart, rewritten};
 ghost use Rattle.mk_edit_parts.specs.Seeking.{IsLineKnown};
 ghost use Rattle.mk_edit_parts.specs.SeenAssignments.{IsAssignmentAt};
-ghost use Rattle.mk_edit.specs.LineChangePlans.{CanRewrite, IsAssigning, IsLineChange, IsMadeOf, IsSought, Reads, are_same_texts, first_of_words, is_operator, is_read_as, value_made};
+ghost use Rattle.mk_edit.specs.LineChangePlans.{AreRead, CanRewrite, IsAssigning, IsLineChange, IsMadeOf, IsSought, Reads, are_same_texts, first_of_words, is_changed_misread, is_operator, is_read_as, line_changed, value_made};
 ghost use Rattle.mk_edit.specs.Planned.{Plans};
 ghost use Rattle.mk_edit.specs.ValueChangeLines.{value_text_located};
 
 use crate::assignment::{assignment_of, value_text};
 use crate::moves::exchange;
 use mk_class::{Assignment, Context, Flavor, Meter};
-use mk_edit_language::{Edit, LineChange, Refusal};
+use mk_edit_language::{Edit, Refusal};
 use mk_edit_parts::find::find;
 use mk_edit_parts::line_change::{
-    new_length, new_text, places_of, raw_ranges, separator_bytes, separator_place, separator_text,
+    LineRewrite, new_length, new_text, places_of, raw_ranges, separator_bytes, separator_place,
+    separator_text,
 };
 use mk_edit_parts::renamed_line::rewritten;
 use mk_edit_parts::seek::{Found, Sought};
@@ -57,11 +59,11 @@ pub(crate) fn plan_change_line<A: Allocator + Copy>(
     doc: &Doc<A>,
     edit: &Edit<A>,
     known: Option<Sought>,
-    change: &LineChange<A>,
+    change: LineRewrite<'_>,
     meter: &mut Meter,
 ) -> Result<Patch<A>, Refusal>
     requires faithful { IsFaithful doc.now }
-    requires edit { IsLineChange (line_change_of change.now) (edit_of edit.now) }
+    requires edit { IsLineChange (rewrite_view change) (edit_of edit.now) }
     requires known { IsLineKnown (edit_of edit.now) doc.now known }
     ensures { Plans (edit_of edit.now) doc.now meter.old meter.new result }
 {
@@ -81,33 +83,62 @@ pub(crate) fn plan_change_line<A: Allocator + Copy>(
     let Some(ranges) = places.ranges else {
         return Err(Refusal::NoMemory);
     };
-    let Ok(made) = made_line(alloc, change, &found, line, assignment, separator, &ranges) else {
-        return Err(Refusal::NoMemory);
+    let line = changed_line(alloc, change, &found, line, assignment, &ranges, meter)?;
+    exchange(alloc, found.at, line)
+}
+
+/// The line of an assignment after a change, read in the context where it stands, by the ranges of the
+/// line's joined text that the change replaces. The call reads one line.
+///
+/// # Errors
+///
+/// [`Refusal::Misread`] if the new line does not read as the change says. [`Refusal::NoMemory`] if a
+/// growth was refused.
+pub(crate) fn changed_line<A: Allocator + Copy>(
+    alloc: A,
+    change: LineRewrite<'_>,
+    place: &Found,
+    line: &Line<A>,
+    assignment: Assignment,
+    ranges: &[Span],
+    meter: &mut Meter,
+) -> Result<Line<A>, Refusal>
+    requires own { IsAssigning place.now.context (line_view line.now) }
+    requires at { IsAssignmentAt (line_view line.now) assignment }
+    requires sought { IsSought (rewrite_view change) }
+    requires ranges { ranges.now
+        ≡ change_places (rewrite_view change) (text_of_line (line_view line.now)) assignment }
+    requires one { first_of_words (rewrite_view change) (length ranges.now)
+        (value_text_located (line_view line.now)) ≡ None }
+    requires defines { place.now.context.defines < max_text }
+    ensures line { IfOk result (λ new. line_view new ≡ line_changed
+        (InAssignment (rewrite_view change.entry)) place.now.context (line_view line.now).bytes) }
+    ensures read { AreRead 1 (is_changed_misread (InAssignment (rewrite_view change.entry))
+        place.now.context (line_view line.now).bytes) meter.old meter.new result }
+{
+    let made = match made_line(alloc, change, place, line, assignment, ranges) {
+        Ok(made) => made,
+        Err(_) => return Err(Refusal::NoMemory),
     };
     if !fits_line(line.bytes(), &made.bytes) {
         return Err(Refusal::Misread);
     }
     let flavor = flavor_after(change, assignment.flavor);
-    let line = read_back(alloc, line, made, flavor, found.context, meter)?;
-    exchange(alloc, found.at, line)
+    read_back(alloc, line, made, flavor, place.context, meter)
 }
 
 // The first refusal of a change that finds so many places in a value, but for the text's length: it
 // finds none, or it puts a word beside another, and the new one is there already, or the other stands
 // there several times.
-fn first_of_words<A: Allocator>(
-    change: &LineChange<A>,
-    count: usize,
-    value: &[u8],
-) -> Option<Refusal>
-    ensures { result ≡ first_of_words (line_change_of change.now) count value.now }
+fn first_of_words(change: LineRewrite<'_>, count: usize, value: &[u8]) -> Option<Refusal>
+    ensures { result ≡ first_of_words (rewrite_view change.entry) count value.now }
 {
     if count == 0 {
         return Some(Refusal::Absent);
     }
     match change {
-        LineChange::InsertWord { new, .. } if has_word(value, new) => Some(Refusal::Already),
-        LineChange::InsertWord { .. } if count > 1 => Some(Refusal::Ambiguous(count as u64)),
+        LineRewrite::InsertWord { new, .. } if has_word(value, new) => Some(Refusal::Already),
+        LineRewrite::InsertWord { .. } if count > 1 => Some(Refusal::Ambiguous(count as u64)),
         _ => None,
     }
 }
@@ -124,11 +155,11 @@ fn is_too_long(count: usize, bytes: usize, new_length: usize, size: usize) -> bo
 }
 
 // The flavor of an assignment after a change of its line.
-fn flavor_after<A: Allocator>(change: &LineChange<A>, flavor: Flavor) -> Flavor
-    ensures { result ≡ flavor_after (line_change_of change.now) flavor }
+fn flavor_after(change: LineRewrite<'_>, flavor: Flavor) -> Flavor
+    ensures { result ≡ flavor_after (rewrite_view change.entry) flavor }
 {
     match change {
-        LineChange::SetOperator(operator) => *operator,
+        LineRewrite::SetOperator(operator) => operator,
         _ => flavor,
     }
 }
@@ -146,26 +177,24 @@ struct Made<A: Allocator> {
 // joined text that it replaces, and the value that it is said to have.
 fn made_line<A: Allocator + Copy>(
     alloc: A,
-    change: &LineChange<A>,
+    change: LineRewrite<'_>,
     place: &Found,
     line: &Line<A>,
     assignment: Assignment,
-    separator: Option<Span>,
     ranges: &[Span],
 ) -> Result<Made<A>, AllocError>
     requires own { IsAssigning place.now.context (line_view line.now) }
     requires at { IsAssignmentAt (line_view line.now) assignment }
-    requires sought { IsSought (line_change_of change.now) }
-    requires separator { separator
-        ≡ separator_place (line_change_of change.now) (text_of_line (line_view line.now)) assignment }
+    requires sought { IsSought (rewrite_view change) }
     requires ranges { ranges.now
-        ≡ change_places (line_change_of change.now) (text_of_line (line_view line.now)) assignment }
-    requires one { first_of_words (line_change_of change.now) (length ranges.now)
+        ≡ change_places (rewrite_view change) (text_of_line (line_view line.now)) assignment }
+    requires one { first_of_words (rewrite_view change) (length ranges.now)
         (value_text_located (line_view line.now)) ≡ None }
-    ensures { IfOk result (λ made. IsMadeOf (line_change_of change.now) place.now.context
+    ensures { IfOk result (λ made. IsMadeOf (rewrite_view change.entry) place.now.context
         (line_view line.now) made.bytes.items made.value.items) }
 {
     let value = value_text(line);
+    let separator = separator_place(change, line, assignment);
     let written = new_text(alloc, change, separator_bytes(line, separator), value)?;
     let read = new_text(alloc, change, separator_text(line, separator), value)?;
     let bytes = new_bytes(alloc, line, ranges, &written)?;
@@ -197,16 +226,16 @@ fn new_bytes<A: Allocator + Copy>(
 // of its joined text.
 fn new_value<A: Allocator + Copy>(
     alloc: A,
-    change: &LineChange<A>,
+    change: LineRewrite<'_>,
     line: &Line<A>,
     assignment: Assignment,
     ranges: &[Span],
     new: &[u8],
 ) -> Result<Vec<u8, A>, AllocError>
-    requires can { CanRewrite (line_change_of change.now) (text_of_line (line_view line.now)) assignment
+    requires can { CanRewrite (rewrite_view change) (text_of_line (line_view line.now)) assignment
         ranges.now new.now }
     ensures { IfOk result (λ value. value.items
-        ≡ value_made (line_change_of change.now) (text_of_line (line_view line.now)) assignment
+        ≡ value_made (rewrite_view change.entry) (text_of_line (line_view line.now)) assignment
         ranges.now new.now) }
 {
     let text = text_of_line(line);
@@ -222,19 +251,19 @@ fn new_value<A: Allocator + Copy>(
 }
 
 // Whether a change is one of the operator.
-fn is_operator<A: Allocator>(change: &LineChange<A>) -> bool
-    ensures { result ≡ is_operator (line_change_of change.now) }
+fn is_operator(change: LineRewrite<'_>) -> bool
+    ensures { result ≡ is_operator (rewrite_view change.entry) }
 {
-    matches!(change, LineChange::SetOperator(_))
+    matches!(change, LineRewrite::SetOperator(_))
 }
 
 // The value that a line is said to have after a change, by its text: where a text is replaced, without
 // the blanks at its ends.
-fn stated<'a, A: Allocator>(change: &LineChange<A>, value: &'a [u8]) -> &'a [u8]
-    ensures { result.now ≡ stated (line_change_of change.now) value.now }
+fn stated<'a>(change: LineRewrite<'_>, value: &'a [u8]) -> &'a [u8]
+    ensures { result.now ≡ stated (rewrite_view change.entry) value.now }
 {
     match change {
-        LineChange::Substitute { .. } => trimmed(value),
+        LineRewrite::Substitute { .. } => trimmed(value),
         _ => value,
     }
 }
@@ -256,9 +285,9 @@ fn trimmed(text: &[u8]) -> &[u8]
     part(text, Span { start, end })
 }
 
-// Whether a line can stand in the place of another: it is one logical line, it ends a line if the other
-// does, and it is not open if the other is not.
-fn fits_line(old: &[u8], new: &[u8]) -> bool
+/// Whether a line can stand in the place of another: it is one logical line, it ends a line if the other
+/// does, and it is not open if the other is not.
+pub(crate) fn fits_line(old: &[u8], new: &[u8]) -> bool
     ensures { result ≡ fits_line old.now new.now }
 {
     is_one_line(new) && (!ends_line(old) || ends_line(new)) && (!is_open(new) || is_open(old))

@@ -33,6 +33,12 @@
 //! - `change_line`: a change of an assignment's line that is checked by reading, planned.
 //! - `change_values_patch`: the patch of a change of values whose causes are decided.
 //! - `change_values`: a change of all values of a name, planned.
+//! - `each_line_count`: the places of a line that an edit of several lines replaces, counted.
+//! - `each_line_notes`: the lines that an edit of several lines changes and their places, noted.
+//! - `each_line_survey`: what an edit of several lines finds among the lines.
+//! - `each_line_causes`: the causes of refusal of an edit of several lines.
+//! - `each_line_patch`: the patch of an edit of several lines, whose lines are checked by reading.
+//! - `each_line`: an edit of several lines, planned.
 //! - `rename_target_places`: the lines that a rename exchanges and their places, noted.
 //! - `rename_target_effect`: what a rename finds among the lines and does to them.
 //! - `rename_target_causes`: the causes of refusal of a rename.
@@ -51,6 +57,12 @@ mod change_values_causes;
 mod change_values_patch;
 mod change_values_places;
 mod change_values_survey;
+mod each_line;
+mod each_line_causes;
+mod each_line_count;
+mod each_line_notes;
+mod each_line_patch;
+mod each_line_survey;
 mod exchange_lines;
 mod header;
 mod insertion;

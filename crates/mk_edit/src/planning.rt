@@ -13,6 +13,7 @@ use crate::add_recipe::plan_add_recipe;
 use crate::change_line::plan_change_line;
 use crate::change_value::plan_change_value;
 use crate::change_values::plan_change_values;
+use crate::each_line::plan_each_line;
 use crate::exchange_lines::plan_exchange_lines;
 use crate::remove_assign::plan_remove_assign;
 use crate::remove_prereq::plan_remove_prereq;
@@ -24,6 +25,7 @@ use crate::value_change::{Change, change_of};
 use mk_class::Meter;
 use mk_edit_language::{Edit, Refusal};
 use mk_edit_parts::block_of;
+use mk_edit_parts::line_change::rewrite_of;
 use mk_edit_parts::window::{Known, Window};
 use mk_patch::Patch;
 use mk_tree::Doc;
@@ -88,7 +90,7 @@ pub fn plan_with<A: Allocator + Copy>(
             plan_change_value(alloc, doc, edit, sought, Change::Remove(word), meter)
         }
         Edit::ChangeLine { change, .. } => {
-            plan_change_line(alloc, doc, edit, sought, change, meter)
+            plan_change_line(alloc, doc, edit, sought, rewrite_of(change), meter)
         }
         Edit::AddAssign { .. } | Edit::AddRule { .. } => plan_add_line(
             alloc, doc, edit, sought, meter,
@@ -118,6 +120,7 @@ pub fn plan_with<A: Allocator + Copy>(
         Edit::ExchangeLines { site, block } => {
             plan_exchange_lines(alloc, doc, site, block_of(block), meter)
         }
+        Edit::EachLine(each) => plan_each_line(alloc, doc, edit, each, meter),
     }
 }
 

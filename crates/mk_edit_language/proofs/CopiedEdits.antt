@@ -10,7 +10,7 @@ use Rattle.std.specs.contracts.prelude.U32Clone.TheImpl as numbers
 use denote.Builtin.{u32}
 use denote.RattleType.{RattleType}
 use mir.Syntax.{Dict}
-use Rattle.mk_edit_language.specs.EditViews.{edit_of, line_change_of, place_of, site_of, value_change_of}
+use Rattle.mk_edit_language.specs.EditViews.{each_edit_of, edit_of, line_change_of, place_of, site_of, value_change_of}
 use Rattle.mk_edit_language.specs.LineRuns.{block_lines}
 use Rattle.mk_edit_language.specs.declared.edit.Place.{Place}
 use Rattle.mk_edit_language.specs.declared.edit.Place.TheVariants as place
@@ -20,12 +20,15 @@ use Rattle.mk_edit_language.specs.declared.edit.ValueChange.{ValueChange}
 use Rattle.mk_edit_language.specs.declared.edit.ValueChange.TheVariants as change
 use Rattle.mk_edit_language.specs.declared.edit.LineChange.{LineChange}
 use Rattle.mk_edit_language.specs.declared.edit.LineChange.TheVariants as line
+use Rattle.mk_edit_language.specs.declared.edit.EachEdit.{EachEdit}
+use Rattle.mk_edit_language.specs.declared.edit.EachEdit.TheVariants as each
 use Rattle.mk_edit_language.specs.declared.edit.Edit.{Edit}
 use Rattle.mk_edit_language.specs.declared.edit.Edit.TheVariants as edit
 use Rattle.mk_edit_language.specs.contracts.edit.PlaceClone.TheImpl as places
 use Rattle.mk_edit_language.specs.contracts.edit.SiteClone.TheImpl as sites
 use Rattle.mk_edit_language.specs.contracts.edit.ValueChangeClone.TheImpl as changes
 use Rattle.mk_edit_language.specs.contracts.edit.LineChangeClone.TheImpl as lines
+use Rattle.mk_edit_language.specs.contracts.edit.EachEditClone.TheImpl as each_edits
 use Rattle.mk_edit_language.specs.contracts.edit.EditClone.TheImpl as edits
 
 -- what follows of a result where there is one
@@ -96,6 +99,18 @@ line_changes-cloned R G d C e f (line.Substitute o v) (line.Substitute u w) h =
 line_changes-cloned R G d C e f (line.SetOperator i) (line.SetOperator j) h = cc (h)
 line_changes-cloned R G d C e f a b h = absurd h
 
+each_edits-cloned : (R : RattleType) (G : alloc.Ghosts R.Denot) (d : Dict) (C : clone.Ghosts R.Denot) (e f : Dict)
+    (a b : EachEdit R.Denot) → (each_edits.ghosts R G d C e f).is_clone a b → each_edit_of b ≡ each_edit_of a
+each_edits-cloned R G d C e f (each.ChangeEach n c) (each.ChangeEach m g) h =
+    cc (text-cloned n.items m.items h.0.0, line_changes-cloned R G d C e f c g h.1)
+each_edits-cloned R G d C e f (each.SubstValues o v) (each.SubstValues u w) h =
+    cc (text-cloned o.items u.items h.0.0, text-cloned v.items w.items h.1.0)
+each_edits-cloned R G d C e f (each.SubstRecipe k n o v) (each.SubstRecipe l m u w) h =
+    cc (number-cloned e e k l h.0, text-cloned n.items m.items h.1.0.0, text-cloned o.items u.items h.1.1.0.0, text-cloned v.items w.items h.1.1.1.0)
+each_edits-cloned R G d C e f (each.SubstRecipes o v) (each.SubstRecipes u w) h =
+    cc (text-cloned o.items u.items h.0.0, text-cloned v.items w.items h.1.0)
+each_edits-cloned R G d C e f a b h = absurd h
+
 pub edits-cloned : (R : RattleType) (G : alloc.Ghosts R.Denot) (d : Dict) (C : clone.Ghosts R.Denot) (e f : Dict)
     (a b : Edit R.Denot) → (edits.ghosts R G d C e f).is_clone a b → edit_of b ≡ edit_of a
 edits-cloned R G d C e f (edit.SetValue k n v) (edit.SetValue l m w) h =
@@ -142,4 +157,5 @@ edits-cloned R G d C e f (edit.ExchangeLines s (Some x)) (edit.ExchangeLines q (
     cc (sites-cloned R G d C e f s q h.0, block-cloned x.items y.items h.1.0)
 edits-cloned R G d C e f (edit.ExchangeLines s None) (edit.ExchangeLines q (Some y)) h = absurd h.1
 edits-cloned R G d C e f (edit.ExchangeLines s (Some x)) (edit.ExchangeLines q None) h = absurd h.1
+edits-cloned R G d C e f (edit.EachLine x) (edit.EachLine y) h = cc (each_edits-cloned R G d C e f x y h)
 edits-cloned R G d C e f a b h = absurd h

@@ -13,7 +13,7 @@ use mir.Syntax.{Dict}
 use Rattle.mk_class.specs.declared.assignment.Flavor.{Flavor}
 use Rattle.mk_class.specs.declared.assignment.Flavor.TheVariants.{Recursive, Simple, PosixSimple, Immediate, Conditional, Append, Shell}
 use Rattle.mk_class.specs.contracts.assignment.FlavorPartialEq.TheImpl as flavors
-use Rattle.mk_edit_language.specs.EditViews.{edit_of, line_change_of, lines_of, place_of, site_of, value_change_of}
+use Rattle.mk_edit_language.specs.EditViews.{each_edit_of, edit_of, line_change_of, lines_of, place_of, site_of, value_change_of}
 use Rattle.mk_edit_language.specs.LineRuns.{block_lines}
 use Rattle.mk_edit_language.proofs.on_line_runs.BlockTexts.{block-same, block-some}
 use Rattle.mk_edit_language.specs.declared.edit.RuleSeparator.{RuleSeparator}
@@ -28,6 +28,8 @@ use Rattle.mk_edit_language.specs.declared.edit.Side.{Side}
 use Rattle.mk_edit_language.specs.declared.edit.Side.TheVariants.{Before, After}
 use Rattle.mk_edit_language.specs.declared.edit.LineChange.{LineChange}
 use Rattle.mk_edit_language.specs.declared.edit.LineChange.TheVariants as line
+use Rattle.mk_edit_language.specs.declared.edit.EachEdit.{EachEdit}
+use Rattle.mk_edit_language.specs.declared.edit.EachEdit.TheVariants as each
 use Rattle.mk_edit_language.specs.declared.edit.Edit.{Edit}
 use Rattle.mk_edit_language.specs.declared.edit.Edit.TheVariants as edit
 use Rattle.mk_edit_language.specs.contracts.edit.RuleSeparatorPartialEq.TheImpl as separators
@@ -36,6 +38,7 @@ use Rattle.mk_edit_language.specs.contracts.edit.SitePartialEq.TheImpl as site_e
 use Rattle.mk_edit_language.specs.contracts.edit.ValueChangePartialEq.TheImpl as changes
 use Rattle.mk_edit_language.specs.contracts.edit.SidePartialEq.TheImpl as sides
 use Rattle.mk_edit_language.specs.contracts.edit.LineChangePartialEq.TheImpl as lines
+use Rattle.mk_edit_language.specs.contracts.edit.EachEditPartialEq.TheImpl as each_edits
 use Rattle.mk_edit_language.specs.contracts.edit.EditPartialEq.TheImpl as edits
 
 -- a test of what holds, and of what does not
@@ -157,6 +160,22 @@ line_changes-decide R G d e (line.SetOperator f) (line.SetOperator g) =
     (flavor-decides f g)
 line_changes-decide R G d e a b = no (λ h. cc)
 
+each_edits-decide : (R : RattleType) (G : alloc.Ghosts R.Denot) (d e : Dict) (a b : EachEdit R.Denot)
+    → Decides ((each_edits.ghosts R G d e).eq a b) (each_edit_of a ≡ each_edit_of b)
+each_edits-decide R G d e (each.ChangeEach n c) (each.ChangeEach m g) =
+    Decides-like _ (λ h. cc) (λ h. (cc, cc))
+    (also (bytes_eq-Decides n.items m.items) (line_changes-decide R G d e c g))
+each_edits-decide R G d e (each.SubstValues o v) (each.SubstValues u w) =
+    Decides-like _ (λ h. cc) (λ h. (cc, cc))
+    (also (bytes_eq-Decides o.items u.items) (bytes_eq-Decides v.items w.items))
+each_edits-decide R G d e (each.SubstRecipe k n o v) (each.SubstRecipe l m u w) =
+    Decides-like _ (λ h. cc) (λ h. (cc, (cc, (cc, cc))))
+    (also (number-decides k l) (also (bytes_eq-Decides n.items m.items) (also (bytes_eq-Decides o.items u.items) (bytes_eq-Decides v.items w.items))))
+each_edits-decide R G d e (each.SubstRecipes o v) (each.SubstRecipes u w) =
+    Decides-like _ (λ h. cc) (λ h. (cc, cc))
+    (also (bytes_eq-Decides o.items u.items) (bytes_eq-Decides v.items w.items))
+each_edits-decide R G d e a b = no (λ h. cc)
+
 pub edits-decide : (R : RattleType) (G : alloc.Ghosts R.Denot) (d e : Dict) (a b : Edit R.Denot)
     → Decides ((edits.ghosts R G d e).eq a b) (edit_of a ≡ edit_of b)
 edits-decide R G d e (edit.SetValue k n v) (edit.SetValue l m w) =
@@ -219,4 +238,5 @@ edits-decide R G d e (edit.RenameTarget n v) (edit.RenameTarget m w) =
 edits-decide R G d e (edit.ExchangeLines s b) (edit.ExchangeLines q c) =
     Decides-like _ (λ h. cc) (λ h. (cc, cc))
     (also (sites-decide R G d e s q) (lines-decide b c))
+edits-decide R G d e (edit.EachLine x) (edit.EachLine y) = Decides-like _ (λ h. cc) (λ h. cc) (each_edits-decide R G d e x y)
 edits-decide R G d e a b = no (λ h. cc)

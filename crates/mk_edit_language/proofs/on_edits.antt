@@ -2,6 +2,7 @@
 pub mod Accepted
 pub mod EditPlaces
 pub mod RisingSpanLemmas
+pub mod LineSpansRise
 pub mod SpansRise
 pub mod MadeLines
 pub mod MadeEdits

@@ -11,9 +11,9 @@ use Rattle.mk_class.specs.Classes.{Class}
 use Rattle.mk_class.specs.Classes.Class.{Assign, DefineHead}
 use Rattle.mk_class.specs.Contexts.{Context, start, context_after}
 use Rattle.mk_class.specs.ClassedLines.{ClassedLine}
-use Rattle.mk_edit_language.specs.Edits.{Every, Edit, ChangeValue, AddLine, RenameTarget}
+use Rattle.mk_edit_language.specs.Edits.{Every, Edit, ChangeValue, AddLine, RenameTarget, EachLine}
 use Rattle.mk_edit_language.specs.Spots.{nth_of}
-use Rattle.mk_edit_language.specs.Addresses.{Address, assigns, candidates, nth_meant, address, is_a_target}
+use Rattle.mk_edit_language.specs.Addresses.{Address, assigns, candidates, nth_meant, address, each_address, is_a_target}
 use Rattle.mk_edit_language.specs.Stretches.{Stretch, insertion}
 use Rattle.mk_tree.specs.Documents.{context_of}
 use Rattle.mk_tree.specs.LineTexts.{StandingLine}
@@ -49,6 +49,7 @@ no_such_line ls (Some a) = where_holds (is_missing (nth_meant a) (candidates ls 
 abbrev pub no_such : List ClassedLine → Edit → Option Refusal
 no_such ls (ChangeValue Every n c) = where_holds (not (list_any (λ l. assigns n l.class) ls)) NoSuch
 no_such ls (RenameTarget o n) = where_holds (not (is_a_target ls o)) NoSuch
+no_such ls (EachLine e) = no_such_line ls (each_address e)
 no_such ls e = no_such_line ls (address e)
 
 -- ---- Ambiguous: no number is given, and there are several such lines

@@ -9,7 +9,7 @@ use Rattle.mk_class.specs.Classes.{Class}
 use Rattle.mk_class.specs.Classes.Class.{Assign, TargetAssign, Header}
 use Rattle.mk_class.specs.ClassedLines.{ClassedLine}
 use Rattle.mk_tree.specs.LineTexts.{StandingLine}
-use Rattle.mk_edit_language.specs.Edits.{Place, Bottom, BeforeVar, AfterVar, BeforeRule, One, Every, OfAssign, OfRule, OfRecipe, Edit, ChangeValue, ChangeLine, ChangePrereqs, AddLine, AddRecipe, SetRecipe, RemoveLines, RenameTarget, ExchangeLines}
+use Rattle.mk_edit_language.specs.Edits.{Place, Bottom, BeforeVar, AfterVar, BeforeRule, One, Every, OfAssign, OfRule, OfRecipe, Edit, ChangeValue, ChangeLine, ChangePrereqs, AddLine, AddRecipe, SetRecipe, RemoveLines, RenameTarget, ExchangeLines, EachEdit, ChangeEach, SubstRecipe, EachLine}
 use Rattle.mk_edit_language.specs.Spots.{spots, picked}
 
 -- a variable by its name among the assignments, or a rule by a target among the headers
@@ -48,8 +48,8 @@ place_address (BeforeVar nth n) = Some (Variable nth n)
 place_address (AfterVar nth n) = Some (Variable nth n)
 place_address (BeforeRule nth t) = Some (Rule nth t)
 
--- the address of an edit, or of its place; an edit of every line of a name has none, nor has one of
--- whole lines, which are found by what they say
+-- the address of an edit, or of its place; an edit of several lines has none, nor has one of whole
+-- lines, which are found by what they say
 abbrev pub address : Edit → Option Address
 address (ChangeValue (One nth) n c) = Some (Variable nth n)
 address (ChangeValue Every n c) = None
@@ -63,6 +63,14 @@ address (RemoveLines (OfRule nth t)) = Some (Rule nth t)
 address (RemoveLines (OfRecipe nth t w)) = Some (Rule nth t)
 address (RenameTarget o n) = None
 address (ExchangeLines s ts) = None
+address (EachLine e) = None
+
+-- the address of the lines that an edit of several lines means: the assignments of a name, or the
+-- rules for a target
+abbrev pub each_address : EachEdit → Option Address
+each_address (ChangeEach n c) = Some (Variable None n)
+each_address (SubstRecipe nth t f r) = Some (Rule nth t)
+each_address e = None
 
 -- the targets of a header or of a target assignment
 abbrev pub targets_of : Class Cell → List (List ℕ)

@@ -8,8 +8,8 @@ use Rattle.mk_class.specs.ListTests.{is_empty}
 use Rattle.mk_class.specs.Keywords.{is_reserved_word}
 use Rattle.mk_class.specs.RecipePrefix.{is_prefix_name}
 use Rattle.mk_class.specs.Arguments.{is_clean, is_value, is_word, is_target, is_name, is_command}
-use Rattle.mk_edit_language.specs.Edits.{Place, Bottom, BeforeVar, AfterVar, BeforeRule, Site, Top, AtPlace, BeforeRun, AfterRun, OfRun, NewLine, NewAssign, NewRule, Every, ValueChange, Set, Append, Add, Remove, LineChange, Prepend, ReplaceWord, InsertWord, Substitute, SetOperator, PrereqChange, AddPrereq, RemovePrereq, RecipeLine, ByNumber, ByText, Removal, OfAssign, OfRule, OfRecipe, Edit, ChangeValue, ChangeLine, ChangePrereqs, AddLine, AddRecipe, SetRecipe, RemoveLines, RenameTarget, ExchangeLines}
-use Rattle.mk_edit_language.specs.Addresses.{Address, Variable, Rule, address}
+use Rattle.mk_edit_language.specs.Edits.{Place, Bottom, BeforeVar, AfterVar, BeforeRule, Site, Top, AtPlace, BeforeRun, AfterRun, OfRun, NewLine, NewAssign, NewRule, Every, ValueChange, Set, Append, Add, Remove, LineChange, Prepend, ReplaceWord, InsertWord, Substitute, SetOperator, EachEdit, ChangeEach, SubstValues, SubstRecipe, SubstRecipes, PrereqChange, AddPrereq, RemovePrereq, RecipeLine, ByNumber, ByText, Removal, OfAssign, OfRule, OfRecipe, Edit, ChangeValue, ChangeLine, ChangePrereqs, AddLine, AddRecipe, SetRecipe, RemoveLines, RenameTarget, ExchangeLines, EachLine}
+use Rattle.mk_edit_language.specs.Addresses.{Address, Variable, Rule, address, each_address}
 use Rattle.mk_edit_language.specs.LineRuns.{is_block, site_address}
 use Rattle.mk_edit_language.specs.Causes.{where_holds}
 use Rattle.mk_edit_language.specs.declared.refusal.Field.{Field}
@@ -67,6 +67,23 @@ line_change_tests (Substitute f t) =
     Tested field.From (is_clean f && not (is_empty f)) ∷ Tested field.To (is_clean t) ∷ []
 line_change_tests (SetOperator o) = []
 
+-- the tests of a text that is looked for, and of the text in its place
+abbrev subst_tests : (from to : List ℕ) → List FieldTest
+subst_tests f t = line_change_tests (Substitute f t)
+
+-- the tests of a change of the line of each assignment of a name: a word goes beside another one in
+-- one assignment only
+abbrev each_change_tests : LineChange → List FieldTest
+each_change_tests (InsertWord s w n) = Tested field.Word false ∷ []
+each_change_tests c = line_change_tests c
+
+-- the tests of an edit of several lines
+abbrev pub each_tests : EachEdit → List FieldTest
+each_tests (ChangeEach n c) = Tested field.Name (is_name n) ∷ each_change_tests c
+each_tests (SubstValues f t) = subst_tests f t
+each_tests (SubstRecipe nth g f t) = Tested field.Target (is_target g) ∷ subst_tests f t
+each_tests (SubstRecipes f t) = subst_tests f t
+
 -- the test of the word of a change of prerequisites
 abbrev prereq_test : PrereqChange → FieldTest
 prereq_test (AddPrereq order w) = Tested field.Word (is_word w)
@@ -116,6 +133,7 @@ field_tests (RemoveLines r) = removal_tests r
 field_tests (RenameTarget o n) =
     Tested field.Old (is_target o) ∷ Tested field.New (is_target n) ∷ []
 field_tests (ExchangeLines s ts) = exchange_tests s ts
+field_tests (EachLine e) = each_tests e
 
 abbrev pub bad_argument : Edit → Option Refusal
 bad_argument e = first_failed (field_tests e)
@@ -132,6 +150,7 @@ abbrev pub names : Edit → List (List ℕ)
 names (ChangeValue Every n c) = n ∷ []
 names (AddLine p (NewAssign n f v)) = n ∷ address_names (address (AddLine p (NewAssign n f v)))
 names (ExchangeLines s ts) = address_names (site_address s)
+names (EachLine e) = address_names (each_address e)
 names e = address_names (address e)
 
 -- the target that an address names
@@ -145,6 +164,7 @@ targets (AddLine p (NewRule ts c ws)) =
     words_in ts ++ address_targets (address (AddLine p (NewRule ts c ws)))
 targets (RenameTarget o n) = o ∷ n ∷ []
 targets (ExchangeLines s ts) = address_targets (site_address s)
+targets (EachLine e) = address_targets (each_address e)
 targets e = address_targets (address e)
 
 abbrev pub reserved : Edit → Option Refusal

@@ -5,7 +5,7 @@ use Rattle.std.specs.Str.{bytes_eq}
 use Rattle.mk_lines.specs.Lists.{concat}
 use Rattle.mk_lines.specs.Cells.{Cell, joined_byte}
 use Rattle.mk_lines.specs.CellFaults.{is_fold}
-use Rattle.mk_lines.specs.Pieces.{Replacement}
+use Rattle.mk_lines.specs.Pieces.{Replacement, new_bytes}
 use Rattle.mk_lines.specs.Words.{words_in}
 use Rattle.mk_class.specs.ListTests.{is_empty, last_passes}
 use Rattle.mk_class.specs.Texts.{unit_text}
@@ -18,13 +18,14 @@ use Rattle.mk_class.specs.declared.rule.Separator.TheVariants.{SingleColon, Doub
 use Rattle.mk_tree.specs.Documents.{text_of}
 use Rattle.mk_tree.specs.Items.{Item, Assign, TargetAssign, Header, Recipe, Sets, items, items_of_line, header_item}
 use Rattle.mk_tree.specs.LineTexts.{StandingLine}
-use Rattle.mk_edit_language.specs.Edits.{NewLine, NewAssign, NewRule, One, Every, ValueChange, Set, Append, Add, Remove, LineChange, PrereqChange, AddPrereq, RemovePrereq, Edit, ChangeValue, ChangeLine, ChangePrereqs, AddLine, AddRecipe, SetRecipe, RemoveLines, RenameTarget, ExchangeLines}
+use Rattle.mk_edit_language.specs.Edits.{NewLine, NewAssign, NewRule, One, Every, ValueChange, Set, Append, Add, Remove, LineChange, PrereqChange, AddPrereq, RemovePrereq, Edit, ChangeValue, ChangeLine, ChangePrereqs, AddLine, AddRecipe, SetRecipe, RemoveLines, RenameTarget, ExchangeLines, EachLine}
 use Rattle.mk_edit_language.specs.Addresses.{Variable, Rule, found}
 use Rattle.mk_edit_language.specs.Stretches.{Stretch, this_line, place_found, recipe_place, removed, recipe_found}
 use Rattle.mk_edit_language.specs.ValueChanges.{set_value_span, led_words, staying, from_first_word, is_changed}
 use Rattle.mk_edit_language.specs.LineChanges.{assigned_after}
 use Rattle.mk_edit_language.specs.LineRuns.{site_found}
 use Rattle.mk_edit_language.specs.LineExchanges.{new_lines}
+use Rattle.mk_edit_language.specs.EachLine.{EachChange, InAssignment, InRecipe, MarkedLine, marked, each_change, recipe_text_pieces, is_each_changed}
 use Rattle.mk_edit_language.specs.EditSpans.{where_found}
 use Rattle.mk_edit_language.specs.declared.edit.RuleSeparator.{RuleSeparator}
 use Rattle.mk_edit_language.specs.declared.edit.RuleSeparator.TheVariants.{Single, Double}
@@ -103,6 +104,20 @@ line_item c k = []
 abbrev pub with_line_changed : LineChange → StandingLine → List Item
 with_line_changed c s = with_items (line_item c s.line.class) (this_line s)
 
+-- ---- several lines, checked by reading
+
+-- the items of a line of this class after the change
+abbrev pub items_said : EachChange → Class Cell → (line : List ℕ) → List Item
+items_said (InAssignment c) k l = line_item c k
+items_said (InRecipe f t) k l = Recipe (new_bytes (recipe_text_pieces f t l)) ∷ []
+
+-- the items of a line after the edit
+abbrev pub each_items : EachChange → MarkedLine → List Item
+each_items c m =
+    if is_each_changed c m
+    then items_said c m.line.class m.line.bytes
+    else items_of_line m.line.class m.line.bytes
+
 -- ---- prerequisites and targets
 
 -- the item of a header, changed by `f`; no item if the line is no header
@@ -180,6 +195,7 @@ change_of t ls (SetRecipe nth g w c) =
 change_of t ls (RemoveLines r) = where_found (with_items []) (removed ls r)
 change_of t ls (RenameTarget o n) = map (renamed_item o n) (items ls)
 change_of t ls (ExchangeLines s ts) = where_found (with_new_lines t ts) (site_found ls s)
+change_of t ls (EachLine e) = concat (map (each_items (each_change e)) (marked e ls))
 
 abbrev pub change : (text : List ℕ) → Edit → List Item
 change t e = change_of t (classed_lines t) e

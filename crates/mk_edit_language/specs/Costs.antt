@@ -3,11 +3,12 @@
 use Rattle.std.specs.Prelude.{ℕ, Bool, List, length, filter, Option, Some, None}
 use Rattle.std.specs.List.{list_any}
 use Rattle.mk_class.specs.ClassedLines.{ClassedLine, classed_lines}
-use Rattle.mk_edit_language.specs.Edits.{Every, OfRule, Edit, ChangeValue, AddLine, AddRecipe, RemoveLines, RenameTarget, ExchangeLines}
+use Rattle.mk_edit_language.specs.Edits.{Every, OfRule, Edit, ChangeValue, AddLine, AddRecipe, RemoveLines, RenameTarget, ExchangeLines, EachLine}
 use Rattle.mk_edit_language.specs.Stretches.{Stretch, removed}
 use Rattle.mk_edit_language.specs.ValueChanges.{is_changed}
 use Rattle.mk_edit_language.specs.LineRuns.{site_found}
 use Rattle.mk_edit_language.specs.LineExchanges.{line_cost}
+use Rattle.mk_edit_language.specs.EachLine.{marked, each_change, is_each_changed}
 use Rattle.mk_edit_language.specs.WordPieces.{renamed_pieces, is_replaced}
 
 -- whether a line holds a word that a rename replaces
@@ -20,6 +21,7 @@ cost t (ChangeValue Every n c) = length (filter (is_changed n c) (classed_lines 
 cost t (RenameTarget o n) = length (filter (is_renamed o n) (classed_lines t))
 cost t (RemoveLines r) = 0
 cost t (ExchangeLines s ts) = line_cost ts
+cost t (EachLine e) = length (filter (is_each_changed (each_change e)) (marked e (classed_lines t)))
 cost t e = 1
 
 -- how many lines a stretch has

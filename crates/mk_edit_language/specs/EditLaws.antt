@@ -5,7 +5,7 @@ use Rattle.mk_lines.specs.Pieces.{Replacement}
 use Rattle.mk_lines.specs.Cells.{Cell}
 use Rattle.mk_class.specs.declared.assignment.Flavor.{Flavor}
 use Rattle.mk_tree.specs.Readings.{reading}
-use Rattle.mk_edit_language.specs.Edits.{Place, NewAssign, Edit, AddLine, Every, ChangeValue, RenameTarget, ExchangeLines}
+use Rattle.mk_edit_language.specs.Edits.{Place, NewAssign, Edit, AddLine, Every, ChangeValue, RenameTarget, ExchangeLines, EachLine}
 use Rattle.mk_class.specs.ClassedLines.{classed_lines}
 use Rattle.mk_edit_language.specs.Stretches.{Stretch, place_found, removal, insertion, touched_by}
 use Rattle.mk_edit_language.specs.NewLines.{assign_text}
@@ -18,7 +18,7 @@ use Rattle.mk_edit_language.specs.Changes.{change}
 use Rattle.mk_edit_language.specs.KeptLines.{edited_lines, IsOfOnePlace, TouchFew, AreOthersKept, above_after}
 use Rattle.mk_edit_language.specs.Lengths.{bytes_taken, bytes_put}
 use Rattle.mk_edit_language.specs.RisingSpans.{IsReplacedAt}
-use Rattle.mk_edit_language.specs.LinesInPlace.{AreOthersKeptByRenameTarget, AreOthersKeptByChangeValues}
+use Rattle.mk_edit_language.specs.LinesInPlace.{AreOthersKeptByRenameTarget, AreOthersKeptByChangeValues, AreOthersKeptByEachLine}
 use Rattle.mk_edit_language.specs.LinesExchanged.{AreLinesExchanged}
 
 -- The reading law of an edit: if no cause refuses the edit, the text after it reads as the stated
@@ -93,9 +93,10 @@ abbrev KeepsOthers : Edit → Type 0
 KeepsOthers e = (text : List ℕ) (replacements : List Replacement) → spans text e ≡ Ok replacements
     → AreOthersKept text e replacements
 
--- What an edit leaves. A rename and a change of every value of a name may touch lines that stand
--- apart: each leaves the lines that it does not change, makes each other line in its place, and
--- opens no conditional. An exchange of whole lines leaves the lines above and below them.
+-- What an edit leaves. A rename, a change of every value of a name and an edit of several lines that
+-- is checked by reading may touch lines that stand apart: each leaves the lines that it does not
+-- change, makes each other line in its place, and opens no conditional. An exchange of whole lines
+-- leaves the lines above and below them.
 abbrev pub LeavesOthers : Edit → Type 0
 LeavesOthers (RenameTarget old new) = (text : List ℕ) (replacements : List Replacement)
     → spans text (RenameTarget old new) ≡ Ok replacements
@@ -106,6 +107,8 @@ LeavesOthers (ChangeValue Every name change) = (text : List ℕ) (replacements :
 LeavesOthers (ExchangeLines site new) = (text : List ℕ) (replacements : List Replacement)
     → spans text (ExchangeLines site new) ≡ Ok replacements
     → AreLinesExchanged site new text replacements
+LeavesOthers (EachLine each) = (text : List ℕ) (replacements : List Replacement)
+    → spans text (EachLine each) ≡ Ok replacements → AreOthersKeptByEachLine each text replacements
 LeavesOthers e = KeepsOthers e
 
 -- each edit leaves the lines that its spans do not touch

@@ -10,7 +10,7 @@ use Rattle.mk_class.specs.Classes.Class.{Header}
 use Rattle.mk_class.specs.ClassedLines.{ClassedLine}
 use Rattle.mk_tree.specs.Documents.{text_of}
 use Rattle.mk_tree.specs.LineTexts.{StandingLine}
-use Rattle.mk_edit_language.specs.Edits.{One, Every, PrereqChange, AddPrereq, RemovePrereq, Edit, ChangeValue, ChangeLine, ChangePrereqs, SetRecipe, RemoveLines, RenameTarget, ExchangeLines}
+use Rattle.mk_edit_language.specs.Edits.{One, Every, PrereqChange, AddPrereq, RemovePrereq, Edit, ChangeValue, ChangeLine, ChangePrereqs, SetRecipe, RemoveLines, RenameTarget, ExchangeLines, EachLine}
 use Rattle.mk_edit_language.specs.Addresses.{Variable, Rule, found}
 use Rattle.mk_edit_language.specs.Stretches.{Stretch, insertion, removed, recipe_found}
 use Rattle.mk_edit_language.specs.NewLines.{new_line_span}
@@ -18,6 +18,7 @@ use Rattle.mk_edit_language.specs.LineRuns.{site_found}
 use Rattle.mk_edit_language.specs.LineExchanges.{exchange_span}
 use Rattle.mk_edit_language.specs.ValueChanges.{value_spans, change_spans, changed_line_spans}
 use Rattle.mk_edit_language.specs.LineChanges.{line_change_spans}
+use Rattle.mk_edit_language.specs.EachLine.{marked, each_change, marked_spans}
 use Rattle.mk_edit_language.specs.WordPieces.{add_pieces, remove_pieces, renamed_pieces}
 
 -- the span of whole lines with their line ends
@@ -79,4 +80,5 @@ spans_of t ls (SetRecipe nth g w c) = where_found (recipe_span c) (recipe_found 
 spans_of t ls (RemoveLines r) = where_found removed_span (removed ls r)
 spans_of t ls (RenameTarget o n) = renamed_spans o n 0 ls
 spans_of t ls (ExchangeLines s ts) = where_found (exchange_span t ts) (site_found ls s)
+spans_of t ls (EachLine e) = marked_spans (each_change e) 0 (marked e ls)
 spans_of t ls e = where_found (new_line_span t e) (insertion ls e)

@@ -11,6 +11,8 @@ use Rattle.mk_edit_language.specs.declared.edit.ValueChange.{ValueChange}
 use Rattle.mk_edit_language.specs.declared.edit.ValueChange.TheVariants as change
 use Rattle.mk_edit_language.specs.declared.edit.LineChange.{LineChange}
 use Rattle.mk_edit_language.specs.declared.edit.LineChange.TheVariants as line
+use Rattle.mk_edit_language.specs.declared.edit.EachEdit.{EachEdit}
+use Rattle.mk_edit_language.specs.declared.edit.EachEdit.TheVariants as each
 use Rattle.mk_edit_language.specs.declared.edit.Edit.{Edit}
 use Rattle.mk_edit_language.specs.declared.edit.Edit.TheVariants as edit
 
@@ -49,6 +51,14 @@ line_change_of (line.InsertWord side word new) = edits.InsertWord side word.item
 line_change_of (line.Substitute from to) = edits.Substitute from.items to.items
 line_change_of (line.SetOperator flavor) = edits.SetOperator flavor
 
+-- an edit of several lines; its texts are seen as bytes
+abbrev pub each_edit_of : {A : _} → EachEdit A → edits.EachEdit
+each_edit_of (each.ChangeEach name c) = edits.ChangeEach name.items (line_change_of c)
+each_edit_of (each.SubstValues from to) = edits.SubstValues from.items to.items
+each_edit_of (each.SubstRecipe nth target from to) =
+    edits.SubstRecipe nth target.items from.items to.items
+each_edit_of (each.SubstRecipes from to) = edits.SubstRecipes from.items to.items
+
 -- an edit by its form; its texts are seen as bytes
 abbrev pub edit_of : {A : _} → Edit A → edits.Edit
 edit_of (edit.SetValue nth name value) =
@@ -86,3 +96,4 @@ edit_of (edit.RemoveRecipeByText nth target old) =
     edits.RemoveLines (edits.OfRecipe nth target.items (edits.ByText old.items))
 edit_of (edit.RenameTarget from to) = edits.RenameTarget from.items to.items
 edit_of (edit.ExchangeLines s block) = edits.ExchangeLines (site_of s) (lines_of block)
+edit_of (edit.EachLine e) = edits.EachLine (each_edit_of e)

@@ -54,6 +54,16 @@ pub data LineChange : Type 0 where
   Substitute : (from to : List ℕ) → LineChange
   SetOperator : (flavor : Flavor) → LineChange
 
+-- An edit of several lines that is checked by reading: a change of the line of each assignment of a
+-- name; or a text in the place of each occurrence of another: in the values of all assignments, in the
+-- recipe lines of the rules for a target or of the nth of them, or in all recipe lines. A change that
+-- puts a word beside another one is refused here.
+pub data EachEdit : Type 0 where
+  ChangeEach : (name : List ℕ) → (change : LineChange) → EachEdit
+  SubstValues : (from to : List ℕ) → EachEdit
+  SubstRecipe : (nth : Option ℕ) → (target from to : List ℕ) → EachEdit
+  SubstRecipes : (from to : List ℕ) → EachEdit
+
 -- What an edit does to the prerequisites of a rule: it puts a word after the order-only or the normal
 -- ones, or takes a word out of both.
 pub data PrereqChange : Type 0 where
@@ -89,3 +99,4 @@ pub data Edit : Type 0 where
   RemoveLines : (lines : Removal) → Edit
   RenameTarget : (old new : List ℕ) → Edit
   ExchangeLines : (site : Site) → (new : List (List ℕ)) → Edit
+  EachLine : (edit : EachEdit) → Edit

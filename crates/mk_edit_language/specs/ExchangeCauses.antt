@@ -19,8 +19,6 @@ use Rattle.mk_edit_language.specs.LineRuns.{runs, is_in_run, site_number, site_s
 use Rattle.mk_edit_language.specs.LineExchanges.{new_lines}
 use Rattle.mk_edit_language.specs.EditSpans.{spans_of}
 use Rattle.mk_edit_language.specs.Causes.{where_holds}
-use Rattle.mk_edit_language.specs.ArgumentCauses.{bad_argument, reserved}
-use Rattle.mk_edit_language.specs.AddressCauses.{unread_prefix}
 use Rattle.mk_edit_language.specs.LineCauses.{follows_open_line, open_define_at, too_long}
 use Rattle.mk_edit_language.specs.declared.refusal.Refusal.{Refusal}
 use Rattle.mk_edit_language.specs.declared.refusal.Refusal.TheVariants.{NoSuch, Ambiguous, Already, OpenLine, Leans, Misread}
@@ -94,15 +92,12 @@ exchange_leans t ts None = false
 exchange_leans t ts (Some s) =
     leans_in (context_of s.above) s.lines (new_lines t ts s) s.below
 
--- ---- the causes in their order
+-- ---- the causes in their order, once the fields and the recipe prefix are tested
 
 abbrev pub exchange_causes : (text : List ℕ) → List ClassedLine → Site → (new : List (List ℕ))
     → (found : Option Stretch) → List (Option Refusal)
 exchange_causes t ls s ts found =
-    bad_argument (ExchangeLines s ts)
-    ∷ reserved (ExchangeLines s ts)
-    ∷ unread_prefix ls
-    ∷ where_holds (has_no_stretch (site_number s) (site_stretches ls s)) NoSuch
+    where_holds (has_no_stretch (site_number s) (site_stretches ls s)) NoSuch
     ∷ where_holds (is_exchanged ls s ts) Already
     ∷ where_holds (has_several_stretches (site_number s) (site_stretches ls s))
     (Ambiguous (length (site_stretches ls s)))

@@ -5,7 +5,7 @@ use Rattle.std.specs.Prelude.{ℕ, List, [], ◌∷◌, ◌++◌, length, ◌+�
 use Rattle.mk_lines.specs.Pieces.{Replacement, replaced}
 use Rattle.mk_class.specs.ClassedLines.{ClassedLine, classed, classed_lines}
 use Rattle.mk_tree.specs.Documents.{text_of, context_of, most_conditionals, AreUnconditional}
-use Rattle.mk_edit_language.specs.Edits.{Edit, AddLine, AddRecipe, RemoveLines, Every, ChangeValue, RenameTarget, ExchangeLines}
+use Rattle.mk_edit_language.specs.Edits.{Edit, AddLine, AddRecipe, RemoveLines, Every, ChangeValue, RenameTarget, ExchangeLines, EachLine}
 use Rattle.mk_edit_language.specs.Stretches.{Stretch, IsStretchOf, insertion, touched_by}
 use Rattle.mk_edit_language.specs.NewLines.{new_text, new_line_end}
 use Rattle.mk_edit_language.specs.Costs.{size, cost}
@@ -49,12 +49,14 @@ pub record TouchFew (t : List ℕ) (e : Edit) (rs : List Replacement) : Type 0 w
       (length (text_of touched.above) + length (text_of touched.lines)) rs
   pub few : length touched.lines ≤ size t e
 
--- an edit of one place: any edit except a rename and a change of every value of a name, which may
--- touch lines that stand apart, and an exchange of whole lines
+-- an edit of one place: any edit except a rename, a change of every value of a name and an edit of
+-- several lines that is checked by reading, which may touch lines that stand apart, and an exchange
+-- of whole lines
 abbrev pub IsOfOnePlace : Edit → Type 0
 IsOfOnePlace (ChangeValue Every n c) = ⊥
 IsOfOnePlace (RenameTarget o n) = ⊥
 IsOfOnePlace (ExchangeLines s ts) = ⊥
+IsOfOnePlace (EachLine e) = ⊥
 IsOfOnePlace e = Unit {0}
 
 -- ---- the lines that it leaves

@@ -15,6 +15,7 @@ pub mod Lengths
 pub mod WordPieces
 pub mod ValueChanges
 pub mod LineChanges
+pub mod EachLine
 pub mod EditSpans
 pub mod RisingSpans
 -- Causes of refusal, each by itself
@@ -34,9 +35,6 @@ pub mod KeptLines
 pub mod LinesInPlace
 pub mod LinesExchanged
 pub mod RuleTaken
--- Edits of several lines that are checked by reading
-pub mod EachLine
-pub mod EachLineInPlace
 -- Statements of laws
 pub mod EditLaws
 pub mod LineLaws

@@ -16,10 +16,11 @@ use Rattle.mk_class.specs.Texts.{word_texts}
 use Rattle.mk_class.specs.Arguments.{is_value}
 use Rattle.mk_class.specs.Assignments.{Assignment}
 use Rattle.mk_class.specs.Classes.{Class}
+use Rattle.mk_class.specs.Contexts.{Context, start, context_after}
 use Rattle.mk_class.specs.ClassedLines.{ClassedLine}
 use Rattle.mk_class.specs.declared.context.RuleFlag.{RuleFlag}
 use Rattle.mk_class.specs.declared.context.RuleFlag.TheVariants.{Off, Rule}
-use Rattle.mk_edit_language.specs.Edits.{Place, Bottom, NewAssign, Which, One, Every, ValueChange, Set, Append, Add, Remove, LineChange, Edit, ChangeValue, ChangeLine, AddLine}
+use Rattle.mk_edit_language.specs.Edits.{Place, Bottom, NewAssign, Which, One, Every, ValueChange, Set, Append, Add, Remove, LineChange, Edit, ChangeValue, ChangeLine, AddLine, EachLine}
 use Rattle.mk_edit_language.specs.Addresses.{Variable, found}
 use Rattle.mk_edit_language.specs.Stretches.{Stretch, insertion, removal}
 use Rattle.mk_tree.specs.Documents.{context_of}
@@ -27,6 +28,7 @@ use Rattle.mk_tree.specs.Leaning.{leans}
 use Rattle.mk_tree.specs.LineTexts.{StandingLine}
 use Rattle.mk_edit_language.specs.ValueChanges.{assignment_passes, is_changed}
 use Rattle.mk_edit_language.specs.LineChanges.{is_misread}
+use Rattle.mk_edit_language.specs.EachLine.{EachChange, MarkedLine, marked, each_change, is_each_changed, is_change_misread}
 use Rattle.mk_edit_language.specs.RuleCauses.{class_meant}
 use Rattle.mk_edit_language.specs.Causes.{where_holds}
 use Rattle.mk_edit_language.specs.declared.refusal.Refusal.{Refusal}
@@ -120,14 +122,23 @@ leaning ls e = where_holds (new_line_leans e (insertion ls e) || removal_leans (
 abbrev pub too_long : (text : List ℕ) → List Replacement → Option Refusal
 too_long t rs = where_holds (nat_lt max_text (length (replaced 0 t rs))) TooLong
 
--- ---- Misread: the line that the edit would write does not read as the edit says
+-- ---- Misread: a line that the edit would write does not read as the edit says
 
 -- whether the line that is found would be misread after a change
 abbrev pub is_found_misread : LineChange → Option StandingLine → Bool
 is_found_misread c None = false
 is_found_misread c (Some s) = is_misread c (context_of s.above) s.line.bytes s.line.class
 
+-- whether a line that is changed would be misread; the first line stands in this context
+abbrev pub is_any_misread : EachChange → Context → List MarkedLine → Bool
+is_any_misread c context [] = false
+is_any_misread c context (m ∷ ms) =
+    (is_each_changed c m && is_change_misread c context m.line)
+    || is_any_misread c (context_after context m.line.class) ms
+
 abbrev pub misread : List ClassedLine → Edit → Option Refusal
 misread ls (ChangeLine nth n c) =
     where_holds (is_found_misread c (found ls (Variable nth n))) Misread
+misread ls (EachLine e) =
+    where_holds (is_any_misread (each_change e) start (marked e ls)) Misread
 misread ls e = None

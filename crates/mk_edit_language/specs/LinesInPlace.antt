@@ -9,11 +9,12 @@ use Rattle.mk_class.specs.Contexts.{Context, start, context_after}
 use Rattle.mk_class.specs.ClassTable.{class_of}
 use Rattle.mk_class.specs.ClassedLines.{ClassedLine, classed_lines}
 use Rattle.mk_tree.specs.Documents.{context_of, most_conditionals}
-use Rattle.mk_edit_language.specs.Edits.{Edit, Every, ValueChange, ChangeValue, RenameTarget}
+use Rattle.mk_edit_language.specs.Edits.{Edit, Every, ValueChange, EachEdit, ChangeValue, RenameTarget, EachLine}
 use Rattle.mk_edit_language.specs.Costs.{cost, is_renamed}
 use Rattle.mk_edit_language.specs.Refusals.{text_after}
 use Rattle.mk_edit_language.specs.RisingSpans.{Rise}
 use Rattle.mk_edit_language.specs.ValueChanges.{is_changed, changed_line_spans}
+use Rattle.mk_edit_language.specs.EachLine.{EachChange, MarkedLine, marked, each_change, is_each_changed, each_bytes}
 use Rattle.mk_edit_language.specs.WordPieces.{renamed_pieces}
 
 -- ---- one line
@@ -34,13 +35,21 @@ pub record IsInPlace (is_changed : ClassedLine → Bool) (context : Context)
 
 -- ---- the lines of a text
 
--- lines, each as `IsAfter` says in the place of one line; the first line stands in this context
+-- Lines, each as `IsAfter` says in the place of one line; the first line stands in this context. The
+-- lines before are those of some values, as of marked lines.
+abbrev pub AreLinesInPlace : {M : Type 0} → (line_of : M → ClassedLine)
+    → (IsAfter : Context → (before : M) → (after : ClassedLine) → Type 0) → Context
+    → (before : List M) → (after : List ClassedLine) → Type 0
+AreLinesInPlace f P c [] [] = Unit {0}
+AreLinesInPlace f P c [] (l ∷ ls) = ⊥
+AreLinesInPlace f P c (m ∷ ms) [] = ⊥
+AreLinesInPlace f P c (m ∷ ms) (l ∷ ls) =
+    P c m l × AreLinesInPlace f P (context_after c (f m).class) ms ls
+
+-- the same of lines that are told by themselves
 abbrev pub AreInPlace : (IsAfter : Context → (before after : ClassedLine) → Type 0) → Context
     → (before after : List ClassedLine) → Type 0
-AreInPlace P c [] [] = Unit {0}
-AreInPlace P c [] (m ∷ ms) = ⊥
-AreInPlace P c (l ∷ ls) [] = ⊥
-AreInPlace P c (l ∷ ls) (m ∷ ms) = P c l m × AreInPlace P (context_after c l.class) ls ms
+AreInPlace P c ls ms = AreLinesInPlace (λ l. l) P c ls ms
 
 -- At how many indices two lists of lines have different bytes. An index that only one of the lists
 -- has counts too.
@@ -51,30 +60,33 @@ differing (l ∷ ls) (m ∷ ms) = (if bytes_eq l m then 0 else 1) + differing ls
 
 -- replacements in lines; the first line begins at this offset. Each replacement stands within one
 -- line, and that line passes the test
-abbrev pub StandInLines : (test : ClassedLine → Bool) → (at : ℕ) → List ClassedLine
-    → List Replacement → Type 0
-StandInLines p at [] rs = rs ≡ []
-StandInLines p at (l ∷ ls) rs =
+abbrev pub StandInLines : {M : Type 0} → (line_of : M → ClassedLine) → (test : M → Bool) → (at : ℕ)
+    → List M → List Replacement → Type 0
+StandInLines f p at [] rs = rs ≡ []
+StandInLines f p at (m ∷ ms) rs =
+    let end = at + length (f m).bytes in
     (here : List Replacement) × (later : List Replacement) × (rs ≡ here ++ later)
-    × Rise at (at + length l.bytes) here × (p l ≡ false → here ≡ [])
-    × StandInLines p (at + length l.bytes) ls later
+    × Rise at end here × (p m ≡ false → here ≡ []) × StandInLines f p end ms later
 
--- What an edit of lines that may stand apart leaves, and what it makes of the other lines. The
--- logical lines after it are, line by line, what `bytes_after` makes of the lines before, and each
--- is as `IsAfter` says in its place. The context after each number of lines is as before. At most
--- as many lines have different bytes as the edit costs. The spans stand within the lines that the
--- edit changes. The greatest number of conditionals open at once is as before.
-pub record AreOthersKeptApart (e : Edit) (is_changed : ClassedLine → Bool)
-    (bytes_after : ClassedLine → List ℕ) (IsAfter : Context → (before after : ClassedLine) → Type 0)
-    (t : List ℕ) (rs : List Replacement)
+-- What an edit of lines that may stand apart leaves, and what it makes of the other lines. The lines
+-- before are those of the text. The logical lines after it are, line by line, what `bytes_after` makes
+-- of the lines before, and each is as `IsAfter` says in its place. The context after each number of
+-- lines is as before. At most as many lines have different bytes as the edit costs. The spans stand
+-- within the lines that the edit changes. The greatest number of conditionals open at once is as
+-- before.
+pub record AreOthersKeptApart {M : Type 0} (e : Edit) (line_of : M → ClassedLine) (before : List M)
+    (is_changed : M → Bool) (bytes_after : M → List ℕ)
+    (IsAfter : Context → (before : M) → (after : ClassedLine) → Type 0) (t : List ℕ)
+    (rs : List Replacement)
     : Type 0 where
-  pub lines : logical_lines (text_after t e) ≡ map bytes_after (classed_lines t)
-  pub in_place : AreInPlace IsAfter start (classed_lines t) (classed_lines (text_after t e))
+  pub lines_before : map line_of before ≡ classed_lines t
+  pub lines : logical_lines (text_after t e) ≡ map bytes_after before
+  pub in_place : AreLinesInPlace line_of IsAfter start before (classed_lines (text_after t e))
   pub contexts : (number : ℕ)
       → context_of (take number (classed_lines (text_after t e)))
       ≡ context_of (take number (classed_lines t))
   pub few : differing (logical_lines t) (logical_lines (text_after t e)) ≤ cost t e
-  pub within : StandInLines is_changed 0 (classed_lines t) rs
+  pub within : StandInLines line_of is_changed 0 before rs
   pub same_depth : most_conditionals 0 (classed_lines (text_after t e))
       ≡ most_conditionals 0 (classed_lines t)
 
@@ -95,7 +107,8 @@ pub record IsLineChanged (n : List ℕ) (c : ValueChange) (context : Context)
 abbrev pub AreOthersKeptByChangeValues : (name : List ℕ) → ValueChange → (text : List ℕ)
     → List Replacement → Type 0
 AreOthersKeptByChangeValues n c t rs =
-    AreOthersKeptApart (ChangeValue Every n c) (is_changed n c) (changed_bytes n c) (IsLineChanged n c) t rs
+    AreOthersKeptApart (ChangeValue Every n c) (λ l. l) (classed_lines t) (is_changed n c)
+    (changed_bytes n c) (IsLineChanged n c) t rs
 
 -- ---- after a rename
 
@@ -124,4 +137,20 @@ AreLinesRenamedInPlace o n c ls ms = AreInPlace (IsLineRenamed o n) c ls ms
 -- what a rename leaves, and what it makes of the other lines
 abbrev pub AreOthersKeptByRenameTarget : (old new text : List ℕ) → List Replacement → Type 0
 AreOthersKeptByRenameTarget o n t rs =
-    AreOthersKeptApart (RenameTarget o n) (is_renamed o n) (renamed_bytes o n) (IsLineRenamed o n) t rs
+    AreOthersKeptApart (RenameTarget o n) (λ l. l) (classed_lines t) (is_renamed o n)
+    (renamed_bytes o n) (IsLineRenamed o n) t rs
+
+-- ---- after an edit of several lines that is checked by reading
+
+-- a line after the edit, in the place of a line that stands in this context
+pub record IsEachInPlace (c : EachChange) (context : Context) (before : MarkedLine)
+    (after : ClassedLine)
+    : Type 0 where
+  pub new_line : after.bytes ≡ each_bytes c before
+  pub in_place : IsInPlace (λ l. is_each_changed c before) context before.line after
+
+-- what the edit leaves, and what it makes of the other lines
+abbrev pub AreOthersKeptByEachLine : EachEdit → (text : List ℕ) → List Replacement → Type 0
+AreOthersKeptByEachLine e t rs =
+    AreOthersKeptApart (EachLine e) (λ (m : MarkedLine). m.line) (marked e (classed_lines t))
+    (is_each_changed (each_change e)) (each_bytes (each_change e)) (IsEachInPlace (each_change e)) t rs

@@ -1,7 +1,7 @@
 -- An edit of the line that has a number, in place of the only one.
 -- Told in docs/LIBRARY.md, "Making edits".
 use Rattle.std.specs.Prelude.{ℕ, Some}
-use Rattle.mk_edit_language.specs.Edits.{Place, Bottom, BeforeVar, AfterVar, BeforeRule, Site, Top, AtPlace, BeforeRun, AfterRun, OfRun, One, Every, Removal, OfAssign, OfRule, OfRecipe, Edit, ChangeValue, ChangeLine, ChangePrereqs, AddLine, AddRecipe, SetRecipe, RemoveLines, RenameTarget, ExchangeLines}
+use Rattle.mk_edit_language.specs.Edits.{Place, Bottom, BeforeVar, AfterVar, BeforeRule, Site, Top, AtPlace, BeforeRun, AfterRun, OfRun, One, Every, Removal, OfAssign, OfRule, OfRecipe, Edit, ChangeValue, ChangeLine, ChangePrereqs, AddLine, AddRecipe, SetRecipe, RemoveLines, RenameTarget, ExchangeLines, EachEdit, ChangeEach, SubstValues, SubstRecipe, SubstRecipes, EachLine}
 
 -- a place with this number; the end of the text has none
 abbrev pub numbered_place : (number : ℕ) → Place → Place
@@ -24,6 +24,13 @@ numbered_removal k (OfAssign nth name) = OfAssign (Some k) name
 numbered_removal k (OfRule nth target) = OfRule (Some k) target
 numbered_removal k (OfRecipe nth target which) = OfRecipe (Some k) target which
 
+-- an edit of several lines with this number, which is that of a rule; the other edits have none
+abbrev pub numbered_each : (number : ℕ) → EachEdit → EachEdit
+numbered_each k (ChangeEach n c) = ChangeEach n c
+numbered_each k (SubstValues f t) = SubstValues f t
+numbered_each k (SubstRecipe nth g f t) = SubstRecipe (Some k) g f t
+numbered_each k (SubstRecipes f t) = SubstRecipes f t
+
 -- an edit with this number. In an edit that puts a line in, it is the number of the place. An edit
 -- that means each line of a name has none.
 abbrev pub numbered : (number : ℕ) → Edit → Edit
@@ -37,3 +44,4 @@ numbered k (SetRecipe nth g w l) = SetRecipe (Some k) g w l
 numbered k (RemoveLines r) = RemoveLines (numbered_removal k r)
 numbered k (RenameTarget o n) = RenameTarget o n
 numbered k (ExchangeLines s ts) = ExchangeLines (numbered_site k s) ts
+numbered k (EachLine e) = EachLine (numbered_each k e)

@@ -13,10 +13,22 @@ use Rattle.mk_edit_language.specs.LineCauses.{open_value, open_line, open_define
 use Rattle.mk_edit_language.specs.ExchangeCauses.{exchange_causes}
 use Rattle.mk_edit_language.specs.declared.refusal.Refusal.{Refusal}
 
--- The causes in their order, of an edit that means lines by a name or a target. The cause that a
--- written line would begin with the recipe prefix is tested once the line's place is known.
-abbrev pub item_causes : (text : List ℕ) → List ClassedLine → Edit → List (Option Refusal)
-item_causes t ls e =
+-- the first cause that holds
+abbrev pub first_cause : List (Option Refusal) → Option Refusal
+first_cause [] = None
+first_cause (None ∷ cs) = first_cause cs
+first_cause (Some r ∷ cs) = Some r
+
+-- of an edit of whole lines, the first cause that holds of their site, of the new lines and of the
+-- lines around them
+abbrev pub not_exchanged : (text : List ℕ) → List ClassedLine → Edit → Option Refusal
+not_exchanged t ls (ExchangeLines s ts) = first_cause (exchange_causes t ls s ts (site_found ls s))
+not_exchanged t ls e = None
+
+-- The causes in their order; a cause that an edit does not have is None. The cause that a written
+-- line would begin with the recipe prefix is tested once the line's place is known.
+abbrev pub causes : (text : List ℕ) → List ClassedLine → Edit → List (Option Refusal)
+causes t ls e =
     bad_argument e
     ∷ reserved e
     ∷ unread_prefix ls
@@ -32,20 +44,10 @@ item_causes t ls e =
     ∷ open_line ls e
     ∷ open_define ls e
     ∷ leaning ls e
+    ∷ not_exchanged t ls e
     ∷ too_long t (spans_of t ls e)
     ∷ misread ls e
     ∷ []
-
--- the causes in their order
-abbrev pub causes : (text : List ℕ) → List ClassedLine → Edit → List (Option Refusal)
-causes t ls (ExchangeLines s ts) = exchange_causes t ls s ts (site_found ls s)
-causes t ls e = item_causes t ls e
-
--- the first cause that holds
-abbrev pub first_cause : List (Option Refusal) → Option Refusal
-first_cause [] = None
-first_cause (None ∷ cs) = first_cause cs
-first_cause (Some r ∷ cs) = Some r
 
 -- the refusal, if there is one, and otherwise the spans
 abbrev pub unless_refused : Option Refusal → List Replacement → Result (List Replacement) Refusal

@@ -13,11 +13,12 @@ use Rattle.mk_class.specs.Classes.Class.{Assign, Header}
 use Rattle.mk_class.specs.ClassedLines.{ClassedLine}
 use Rattle.mk_tree.specs.RecipeLines.{recipe_run}
 use Rattle.mk_tree.specs.LineTexts.{StandingLine}
-use Rattle.mk_edit_language.specs.Edits.{Which, One, Every, ValueChange, Add, Remove, LineChange, InsertWord, PrereqChange, AddPrereq, RemovePrereq, RecipeLine, ByNumber, ByText, At, OfRule, OfRecipe, Edit, ChangeValue, ChangeLine, ChangePrereqs, AddRecipe, SetRecipe, RemoveLines, RenameTarget}
+use Rattle.mk_edit_language.specs.Edits.{Which, One, Every, ValueChange, Add, Remove, LineChange, InsertWord, PrereqChange, AddPrereq, RemovePrereq, RecipeLine, ByNumber, ByText, At, OfRule, OfRecipe, Edit, ChangeValue, ChangeLine, ChangePrereqs, AddRecipe, SetRecipe, RemoveLines, RenameTarget, EachLine}
 use Rattle.mk_edit_language.specs.Addresses.{Address, Variable, Rule, found, targets_of, is_a_target}
 use Rattle.mk_edit_language.specs.Stretches.{has_text, recipe_found, recipes_found, recipe_place}
 use Rattle.mk_edit_language.specs.ValueChanges.{assignment_passes, has_effect, has_value_word, is_changed}
 use Rattle.mk_edit_language.specs.LineChanges.{is_line_changed}
+use Rattle.mk_edit_language.specs.EachLine.{changes_any}
 use Rattle.mk_edit_language.specs.Causes.{where_holds}
 use Rattle.mk_edit_language.specs.declared.refusal.Refusal.{Refusal}
 use Rattle.mk_edit_language.specs.declared.refusal.Refusal.TheVariants.{Ambiguous, Absent, Already, Taken, SharedRule, Straddles}
@@ -37,8 +38,8 @@ header_passes p (Some (Header h)) = p h
 header_passes p k = false
 
 -- ---- Absent: the word is no word of the value, or of any value of the name, or no prerequisite;
--- ---- the text does not occur in the value; there is no recipe line of this number or of this text, or no place of this number for a new
--- ---- one
+-- ---- the text does not occur in the value, or in any line that is meant; there is no recipe line of
+-- ---- this number or of this text, or no place of this number for a new one
 
 -- whether the change does something to a value of the name that is meant
 abbrev is_any_changed : List ClassedLine → Which → (name : List ℕ) → ValueChange → Bool
@@ -89,6 +90,7 @@ absent ls (AddRecipe nth t (At k) c) =
     where_holds (not (is_some (recipe_place ls nth t (At k)))) Absent
 absent ls (SetRecipe nth t w c) = no_recipe ls nth t w
 absent ls (RemoveLines (OfRecipe nth t w)) = no_recipe ls nth t w
+absent ls (EachLine e) = where_holds (not (changes_any ls e)) Absent
 absent ls e = None
 
 -- ---- Already: the word is in that list of prerequisites, in the value, or in each value of the name

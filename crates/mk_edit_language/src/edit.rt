@@ -1,5 +1,5 @@
-//! The edits, the changes of values and of lines, the places of new lines, the sites of whole lines,
-//! and the separators of new rules.
+//! The edits, those of several lines, the changes of values and of lines, the places of new lines, the
+//! sites of whole lines, and the separators of new rules.
 //!
 //! An edit owns its texts. Contracts see it as a value of the definitions (`edit_of`). `==` compares
 //! edits, places, sites and changes, and `clone` copies their texts: it answers
@@ -152,6 +152,54 @@ pub enum LineChange<A: Allocator = Global> {
     },
     /// Puts this operator in the place of the operator.
     SetOperator(Flavor),
+}
+
+/// An edit of several lines, as one, that is checked by reading. It is refused where it changes none of
+/// the lines that it means, and as `Misread` if a new line is not read as the edit says. The
+/// assignments of `.RECIPEPREFIX` stay.
+#[derive(Drop)]
+#[derive_where(Clone; A)]
+#[derive_where(Debug, PartialEq, Eq)]
+pub enum EachEdit<A: Allocator = Global> {
+    /// Changes the line of each assignment of a variable.
+    ///
+    /// [`LineChange::InsertWord`] puts a word into one value only: here it is refused as a bad word.
+    ChangeEach {
+        /// The name of the variable.
+        name: Vec<u8, A>,
+        /// What is done to each line.
+        change: LineChange<A>,
+    },
+    /// Puts a text in the place of each occurrence of another in the values of all assignments, as
+    /// [`LineChange::Substitute`] does in one.
+    SubstValues {
+        /// The text to look for, which is not empty.
+        from: Vec<u8, A>,
+        /// The text in its place, which may be empty.
+        to: Vec<u8, A>,
+    },
+    /// Puts a text in the place of each occurrence of another in the recipe lines of the rules for a
+    /// target, or of one of these rules. Occurrences are taken from the left, none overlapping the
+    /// one before. The text of a recipe line begins after the recipe prefix, and is the bytes of the
+    /// file up to the line end: a backslash before a line end in it is a byte as any other.
+    SubstRecipe {
+        /// Which of the rules for this target, from 1; each if there is no number.
+        nth: Option<u32>,
+        /// One of the targets of each rule.
+        target: Vec<u8, A>,
+        /// The text to look for, which is not empty.
+        from: Vec<u8, A>,
+        /// The text in its place, which may be empty.
+        to: Vec<u8, A>,
+    },
+    /// Puts a text in the place of each occurrence of another in all recipe lines, as
+    /// [`EachEdit::SubstRecipe`] does in those of one target.
+    SubstRecipes {
+        /// The text to look for, which is not empty.
+        from: Vec<u8, A>,
+        /// The text in its place, which may be empty.
+        to: Vec<u8, A>,
+    },
 }
 
 /// An edit of a makefile.
@@ -351,4 +399,6 @@ pub enum Edit<A: Allocator = Global> {
         /// The new lines, as a block; none if lines are taken out.
         block: Option<Vec<u8, A>>,
     },
+    /// Changes several lines, and reads each new line to check it.
+    EachLine(EachEdit<A>),
 }

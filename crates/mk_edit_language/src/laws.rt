@@ -3,7 +3,6 @@
 ghost use Rattle.mk_edit_language.specs.EditLaws.{EditsReadAsChanged, NewAssignmentsStand, OtherLinesStay, RefusedChangesNothing};
 ghost use Rattle.mk_edit_language.specs.RuleTaken.{RemoveRuleTakesTheRuleAlone};
 
-pub mod each_line;
 pub mod lines;
 pub mod outside;
 
@@ -17,10 +16,12 @@ pub mod outside;
 /// | every value of a name changed | each assignment of the name has what the edit of its value alone gives; where a word is added, those that have it stay as they are, and where one is taken out, those that do not |
 /// | a text put before a value, a word or a text replaced in it | the assignment has the value so made; after a text is replaced, without the blanks at its ends |
 /// | an operator changed | the assignment has this operator |
+/// | every assignment of a name changed in one of these ways, or a text replaced in all values | each assignment in whose line a part is replaced has what the edit of its line alone gives |
 /// | a new assignment, a new rule, a new recipe line | its item comes in at its place |
 /// | an assignment or a recipe line removed | its item goes |
 /// | a rule removed | the items of its header and of its recipe lines go |
 /// | a recipe line changed | the item has this text |
+/// | a text replaced in recipe lines | the item of each line that has it has the text so made |
 /// | a new prerequisite | it stands last in its list of the header |
 /// | a prerequisite removed | each word that is it goes from both lists of the header |
 /// | whole lines put in, taken out or exchanged | the items of the new lines stand in the place of those of the lines that go; each new line is read below the lines above it |

@@ -83,8 +83,8 @@ pub enum Refusal {
     NoSuch,
     /// The edit gives no number, and this many lines fit its address, more than one.
     Ambiguous(u64),
-    /// The value does not have that word or that text; the rule does not have that prerequisite, or
-    /// has no such recipe line.
+    /// The value does not have that word or that text, nor has any line that is meant; the rule does not
+    /// have that prerequisite, or has no such recipe line.
     Absent,
     /// The rule already has that prerequisite, in the same list.
     Already,

@@ -4,3 +4,4 @@ pub mod WalkLemmas
 pub mod RunWalks
 pub mod GapLemmas
 pub mod TextWalks
+pub mod RecipesChanged

@@ -17,6 +17,9 @@ pub mod SitesFound
 pub mod SeenAssignments
 pub mod ValuePieces
 pub mod LineChangePlaces
+-- The lines that an edit of several lines means, and the recipe lines among them
+pub mod EachLineWalks
+pub mod RecipeChanges
 -- The words of a rule's line
 pub mod SeenHeaders
 pub mod WordCuts

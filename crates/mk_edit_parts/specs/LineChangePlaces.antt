@@ -19,7 +19,17 @@ use Rattle.mk_edit_language.specs.declared.edit.Side.{Side}
 use Rattle.mk_edit_language.specs.declared.edit.Side.TheVariants.{Before, After}
 use Rattle.mk_edit_parts.specs.RenamedRanges.{span, bytes_in, AreWithin}
 use Rattle.mk_edit_parts.specs.WordCuts.{raw_between}
+use Rattle.mk_edit_parts.specs.declared.line_change.LineRewrite.{LineRewrite}
+use Rattle.mk_edit_parts.specs.declared.line_change.LineRewrite.TheVariants as rewrite
 use Rattle.mk_edit_parts.specs.declared.line_change.Places.{Places}
+
+-- a change of a line; its texts are seen as bytes
+abbrev pub rewrite_view : LineRewrite → LineChange
+rewrite_view (rewrite.Prepend value) = Prepend value.now
+rewrite_view (rewrite.ReplaceWord word value) = ReplaceWord word.now value.now
+rewrite_view (rewrite.InsertWord side word new) = InsertWord side word.now new.now
+rewrite_view (rewrite.Substitute from to) = Substitute from.now to.now
+rewrite_view (rewrite.SetOperator flavor) = SetOperator flavor
 
 -- the text that goes to each place; the separator is what stands between words
 abbrev pub new_text : LineChange → (separator value : List ℕ) → List ℕ

@@ -10,8 +10,10 @@ use Rattle.mk_edit_language.specs.Spots.{picked}
 use Rattle.mk_edit_language.specs.Stretches.{Stretch, IsStretchOf}
 use Rattle.mk_edit_language.specs.LineRuns.{site_found}
 use Rattle.mk_edit_language.specs.Causes.{where_holds}
-use Rattle.mk_edit_language.specs.ExchangeCauses.{has_no_stretch, has_several_stretches}
-use Rattle.mk_edit_language.specs.Refusals.{causes, first_cause}
+use Rattle.mk_edit_language.specs.ArgumentCauses.{bad_argument, reserved}
+use Rattle.mk_edit_language.specs.AddressCauses.{unread_prefix}
+use Rattle.mk_edit_language.specs.ExchangeCauses.{exchange_causes, has_no_stretch, has_several_stretches}
+use Rattle.mk_edit_language.specs.Refusals.{first_cause}
 use Rattle.mk_edit_language.specs.declared.refusal.Refusal.{Refusal}
 use Rattle.mk_edit_language.specs.declared.refusal.Refusal.TheVariants.{NoSuch, Ambiguous}
 use Rattle.mk_edit_parts.specs.Found.{IsPlaceOf}
@@ -22,7 +24,10 @@ use Rattle.mk_edit_parts.specs.declared.window.Window.{Window}
 
 -- the causes of an exchange in their order
 abbrev all_causes : (text : List ℕ) → Site → (new : List (List ℕ)) → List (Option Refusal)
-all_causes t s ts = causes t (classed_lines t) (ExchangeLines s ts)
+all_causes t s ts =
+    let e = ExchangeLines s ts in
+    let ls = classed_lines t in
+    bad_argument e ∷ reserved e ∷ unread_prefix ls ∷ exchange_causes t ls s ts (site_found ls s)
 
 -- the first of them, up to the one before `OpenLine`: those of the fields and of the recipe prefix,
 -- and then those of what the site means

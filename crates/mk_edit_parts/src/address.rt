@@ -1,11 +1,11 @@
 //! The line that an edit means, as the edit says it.
 ghost use Rattle.std.specs.Prelude.{◌≡◌};
-ghost use Rattle.mk_edit_language.specs.Addresses.{address, place_address};
-ghost use Rattle.mk_edit_language.specs.EditViews.{edit_of, place_of, site_of};
+ghost use Rattle.mk_edit_language.specs.Addresses.{address, each_address, place_address};
+ghost use Rattle.mk_edit_language.specs.EditViews.{each_edit_of, edit_of, place_of, site_of};
 ghost use Rattle.mk_edit_language.specs.LineRuns.{site_address};
 ghost use Rattle.mk_edit_parts.specs.AddressViews.{address_seen};
 
-use mk_edit_language::{Edit, Place, Site};
+use mk_edit_language::{EachEdit, Edit, Place, Site};
 use std::alloc::Allocator;
 
 /// What an edit says of the line that it means. The number counts from 1; without one the line is
@@ -19,7 +19,7 @@ pub enum Address<'a> {
 }
 
 /// The address of an edit, or of its place. A new line at the end has no address, and neither has a
-/// rename, a change of all values of a name, or an exchange of whole lines.
+/// rename, a change of all values of a name, an exchange of whole lines, or an edit of several lines.
 pub fn address_of<A: Allocator>(edit: &Edit<A>) -> Option<Address<'_>>
     ensures { address_seen result ≡ address (edit_of edit.now) }
 {
@@ -40,7 +40,22 @@ pub fn address_of<A: Allocator>(edit: &Edit<A>) -> Option<Address<'_>>
         | Edit::InsertRecipe { nth, target, .. }
         | Edit::SetRecipeByText { nth, target, .. }
         | Edit::RemoveRecipeByText { nth, target, .. } => Some(Address::Rule(*nth, target)),
-        Edit::ChangeValues { .. } | Edit::RenameTarget { .. } | Edit::ExchangeLines { .. } => None,
+        Edit::ChangeValues { .. }
+        | Edit::RenameTarget { .. }
+        | Edit::ExchangeLines { .. }
+        | Edit::EachLine(_) => None,
+    }
+}
+
+/// The address of the lines that an edit of several lines means: the assignments of a name, or the rules
+/// for a target. An edit of all assignments or of all recipe lines has none.
+pub fn each_address_of<A: Allocator>(edit: &EachEdit<A>) -> Option<Address<'_>>
+    ensures { address_seen result ≡ each_address (each_edit_of edit.now) }
+{
+    match edit {
+        EachEdit::ChangeEach { name, .. } => Some(Address::Variable(None, name)),
+        EachEdit::SubstRecipe { nth, target, .. } => Some(Address::Rule(*nth, target)),
+        EachEdit::SubstValues { .. } | EachEdit::SubstRecipes { .. } => None,
     }
 }
 

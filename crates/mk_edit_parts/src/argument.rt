@@ -5,21 +5,21 @@ ghost use Rattle.mk_class.specs.Arguments.{is_barred_byte, is_clean, is_command,
 ghost use Rattle.mk_class.specs.Keywords.{is_reserved_word};
 ghost use Rattle.mk_class.specs.ListTests.{is_empty};
 ghost use Rattle.mk_class.specs.RecipePrefix.{is_prefix_name};
-ghost use Rattle.mk_edit_language.specs.ArgumentCauses.{Tested, address_names, address_targets, are_targets, are_words, bad_argument, change_test, exchange_tests, first_failed, is_place, is_value_word, line_change_tests, names, targets};
+ghost use Rattle.mk_edit_language.specs.ArgumentCauses.{Tested, address_names, address_targets, are_targets, are_words, bad_argument, change_test, each_tests, exchange_tests, first_failed, is_place, is_value_word, line_change_tests, names, targets};
 ghost use Rattle.mk_edit_language.specs.declared.refusal.Field.TheVariants.{Line, Old, Prereqs, Target, Targets};
 ghost use Rattle.mk_lines.specs.Units.{units};
 ghost use Rattle.mk_lines.specs.Words.{is_gap, words_in};
-ghost use Rattle.mk_edit_language.specs.EditViews.{edit_of, line_change_of, place_of, site_of, value_change_of};
+ghost use Rattle.mk_edit_language.specs.EditViews.{each_edit_of, edit_of, line_change_of, place_of, site_of, value_change_of};
 ghost use Rattle.mk_edit_language.specs.declared.refusal.Field.TheVariants as field;
 ghost use Rattle.mk_edit_language.specs.LineRuns.{block_lines, is_block};
 ghost use Rattle.mk_edit_parts.specs.AddressViews.{address_seen, field_refusal};
 ghost use Rattle.mk_edit_parts.specs.LineRunsFound.{block_seen};
 
-use crate::address::{Address, address_of, site_address};
+use crate::address::{Address, address_of, each_address_of, site_address};
 use crate::block::{block_of, is_block};
 use crate::text::is_prefix_name;
 use mk_class::{is_command, is_name, is_reserved_word, is_target, is_value, is_word};
-use mk_edit_language::{Edit, Field, LineChange, Place, Site, ValueChange};
+use mk_edit_language::{EachEdit, Edit, Field, LineChange, Place, Site, ValueChange};
 use mk_lines::{split_first_unit, split_first_word};
 use std::alloc::Allocator;
 
@@ -41,6 +41,7 @@ pub fn bad_field<A: Allocator>(edit: &Edit<A>) -> Option<Field>
         }
         Edit::ChangeValues { name, change } => bad_change(name, change),
         Edit::ChangeLine { name, change, .. } => bad_line_change(name, change),
+        Edit::EachLine(each) => bad_each_field(each),
         Edit::RemoveAssign { name, .. } => failed(Field::Name, is_name(name)),
         Edit::AddRule {
             targets,
@@ -154,12 +155,39 @@ fn bad_line_change<A: Allocator>(name: &[u8], change: &LineChange<A>) -> Option<
         LineChange::Substitute { from, to } => bad_name_or_two(
             name,
             Field::From,
-            is_clean(from) && !from.is_empty(),
+            is_sought_text(from),
             Field::To,
             is_clean(to),
         ),
         LineChange::SetOperator(_) => failed(Field::Name, is_name(name)),
     }
+}
+
+// The first field that fails its test, of an edit of several lines. A word goes beside another one in
+// one assignment only.
+fn bad_each_field<A: Allocator>(edit: &EachEdit<A>) -> Option<Field>
+    ensures { field_refusal result ≡ first_failed (each_tests (each_edit_of edit.now)) }
+{
+    match edit {
+        EachEdit::ChangeEach {
+            name,
+            change: LineChange::InsertWord { .. },
+        } => bad_name_or(name, Field::Word, false),
+        EachEdit::ChangeEach { name, change } => bad_line_change(name, change),
+        EachEdit::SubstRecipe { target, .. } if !is_target(target) => Some(Field::Target),
+        EachEdit::SubstValues { from, to }
+        | EachEdit::SubstRecipe { from, to, .. }
+        | EachEdit::SubstRecipes { from, to } => {
+            first_failed(Field::From, is_sought_text(from), Field::To, is_clean(to))
+        }
+    }
+}
+
+// Whether a text may be looked for: it has no line feed, carriage return or NUL, and is not empty.
+fn is_sought_text(text: &[u8]) -> bool
+    ensures { result ≡ (is_clean text.now && not (is_empty text.now)) }
+{
+    is_clean(text) && !text.is_empty()
 }
 
 // The first field that fails its test, of the targets and the prerequisites of a new rule.
@@ -369,6 +397,7 @@ pub fn is_reserved<A: Allocator>(edit: &Edit<A>) -> bool
         }
         Edit::RenameTarget { from, to } => is_reserved_word(from) || is_reserved_word(to),
         Edit::ExchangeLines { site, .. } => is_reserved_address(site_address(site)),
+        Edit::EachLine(each) => is_reserved_address(each_address_of(each)),
         _ => is_reserved_address(address_of(edit)),
     }
 }

@@ -32,12 +32,15 @@
 //! - [`renamed_line`]: the bytes of a line after a rename.
 //! - [`line_change`]: the places of an assignment's line that a change replaces, if the change is
 //!   checked by reading.
+//! - [`recipe_change`]: recipe lines with a text in the place of each occurrence of another.
+//! - [`each_line`]: edits of several lines: what is done to each line, and which lines are meant.
 #![tactic(auto)]
 
 pub mod address;
 pub mod argument;
 mod block;
 pub mod candidates;
+pub mod each_line;
 pub mod find;
 pub mod glance;
 pub mod lean;
@@ -51,6 +54,7 @@ pub mod prerequisite;
 pub mod range;
 mod raw_part;
 pub mod recipe;
+pub mod recipe_change;
 pub mod recipe_text;
 pub mod renamed_line;
 pub mod seek;

@@ -12,20 +12,69 @@ ghost use Rattle.mk_class.specs.Assignments.{operator_length};
 ghost use Rattle.mk_tree.specs.LocatedLines.{text_of_line};
 ghost use Rattle.mk_tree.specs.Trees.{line_view};
 ghost use Rattle.mk_edit_language.specs.EditViews.{line_change_of};
-ghost use Rattle.mk_edit_parts.specs.LineChangePlaces.{AreNoted, CanNote, change_places, new_text, operator_start, raw_ranges, separator_among, separator_bytes, separator_place, separator_text, text_places, word_place, word_places};
+ghost use Rattle.mk_edit_parts.specs.LineChangePlaces.{AreNoted, CanNote, change_places, new_text, operator_start, raw_ranges, rewrite_view, separator_among, separator_bytes, separator_place, separator_text, text_places, word_place, word_places};
 ghost use Rattle.mk_edit_parts.specs.RenamedRanges.{AreWithin, IsWithin, bytes_in};
 ghost use Rattle.mk_edit_parts.specs.SeenAssignments.{HasAssignment};
 
 use crate::raw_part::raw_part;
 use crate::text::is_same_text;
 use memchr::memmem::find_iter;
-use mk_class::Assignment;
+use mk_class::{Assignment, Flavor};
 use mk_edit_language::{LineChange, Side};
 use mk_lines::split::Span;
 use mk_lines::words;
 use mk_tree::Line;
 use mk_tree::part::{part, rest, text_of_line};
 use std::alloc::{AllocError, Allocator};
+
+/// A change of the line of an assignment, with its texts where they stand in the edit.
+#[derive(Clone, Copy)]
+pub enum LineRewrite<'a> {
+    /// Puts this text before the value.
+    Prepend(&'a [u8]),
+    /// Puts a text in the place of a word of the value, wherever it stands there.
+    ReplaceWord {
+        /// The word.
+        word: &'a [u8],
+        /// The text in its place.
+        value: &'a [u8],
+    },
+    /// Puts a word beside another one of the value.
+    InsertWord {
+        /// On which side of the other word it goes.
+        side: Side,
+        /// The other word.
+        word: &'a [u8],
+        /// The new word.
+        new: &'a [u8],
+    },
+    /// Puts a text in the place of each occurrence of another in the value.
+    Substitute {
+        /// The text to look for.
+        from: &'a [u8],
+        /// The text in its place.
+        to: &'a [u8],
+    },
+    /// Puts this operator in the place of the operator.
+    SetOperator(Flavor),
+}
+
+/// A change of the line of an assignment, without a copy of its texts.
+pub fn rewrite_of<A: Allocator>(change: &LineChange<A>) -> LineRewrite<'_>
+    ensures { rewrite_view result ≡ line_change_of change.now }
+{
+    match change {
+        LineChange::Prepend(value) => LineRewrite::Prepend(value),
+        LineChange::ReplaceWord { word, value } => LineRewrite::ReplaceWord { word, value },
+        LineChange::InsertWord { side, word, new } => LineRewrite::InsertWord {
+            side: *side,
+            word,
+            new,
+        },
+        LineChange::Substitute { from, to } => LineRewrite::Substitute { from, to },
+        LineChange::SetOperator(flavor) => LineRewrite::SetOperator(*flavor),
+    }
+}
 
 /// The places of a line that a change replaces.
 #[derive(Drop)]
@@ -41,15 +90,15 @@ pub struct Places<A: Allocator> {
 /// The places of an assignment's line that a change replaces.
 pub fn places_of<A: Allocator + Copy>(
     alloc: A,
-    change: &LineChange<A>,
+    change: LineRewrite<'_>,
     line: &Line<A>,
     assignment: Assignment,
 ) -> Places<A>
     requires assignment { HasAssignment (line_view line.now) assignment }
     requires can { CanNote (line_cells (line_view line.now).bytes)
-        (change_places (line_change_of change.now) (text_of_line (line_view line.now)) assignment) }
+        (change_places (rewrite_view change) (text_of_line (line_view line.now)) assignment) }
     ensures { AreNoted (line_cells (line_view line.now).bytes)
-        (change_places (line_change_of change.now) (text_of_line (line_view line.now))
+        (change_places (rewrite_view change.entry) (text_of_line (line_view line.now))
         assignment) [] result }
 {
     let places = Places {
@@ -57,18 +106,58 @@ pub fn places_of<A: Allocator + Copy>(
         bytes: 0,
         ranges: Some(Vec::new(alloc)),
     };
+    with_places(places, change, line, assignment)
+}
+
+/// The places of an assignment's line that a change replaces, counted alone: it has no ranges, and takes
+/// no memory.
+pub fn count_of<A: Allocator>(
+    change: LineRewrite<'_>,
+    line: &Line<A>,
+    assignment: Assignment,
+) -> Places<A>
+    requires assignment { HasAssignment (line_view line.now) assignment }
+    requires can { CanNote (line_cells (line_view line.now).bytes)
+        (change_places (rewrite_view change) (text_of_line (line_view line.now)) assignment) }
+    ensures { AreNoted (line_cells (line_view line.now).bytes)
+        (change_places (rewrite_view change.entry) (text_of_line (line_view line.now))
+        assignment) [] result }
+{
+    let places = Places {
+        count: 0,
+        bytes: 0,
+        ranges: None,
+    };
+    with_places(places, change, line, assignment)
+}
+
+// The places with those of an assignment's line that a change replaces.
+fn with_places<A: Allocator>(
+    places: Places<A>,
+    change: LineRewrite<'_>,
+    line: &Line<A>,
+    assignment: Assignment,
+) -> Places<A>
+    requires assignment { HasAssignment (line_view line.now) assignment }
+    requires can { CanNote (line_cells (line_view line.now).bytes)
+        (change_places (rewrite_view change) (text_of_line (line_view line.now)) assignment) }
+    requires none { AreNoted (line_cells (line_view line.now).bytes) [] [] places }
+    ensures { AreNoted (line_cells (line_view line.now).bytes)
+        (change_places (rewrite_view change.entry) (text_of_line (line_view line.now))
+        assignment) [] result }
+{
     let value = assignment.value;
     match change {
-        LineChange::Prepend(_) => {
+        LineRewrite::Prepend(_) => {
             let start = value.start;
             noted(places, line, Span { start, end: start })
         }
-        LineChange::ReplaceWord { word, .. } => with_words(places, line, value, None, word),
-        LineChange::InsertWord { side, word, .. } => {
-            with_words(places, line, value, Some(*side), word)
+        LineRewrite::ReplaceWord { word, .. } => with_words(places, line, value, None, word),
+        LineRewrite::InsertWord { side, word, .. } => {
+            with_words(places, line, value, Some(side), word)
         }
-        LineChange::Substitute { from, .. } => with_texts(places, line, value, from),
-        LineChange::SetOperator(_) => {
+        LineRewrite::Substitute { from, .. } => with_texts(places, line, value, from),
+        LineRewrite::SetOperator(_) => {
             let start = operator_start(text_of_line(line), assignment.name.end);
             let end = start + assignment.flavor.text().len();
             noted(places, line, Span { start, end })
@@ -230,17 +319,17 @@ pub fn raw_ranges<A: Allocator>(
 /// puts it: what stands between that word and its neighbour on this side, or if it has none there, on
 /// the other side. `None` if it is the only word, or if the change puts no word beside another.
 pub fn separator_place<A: Allocator>(
-    change: &LineChange<A>,
+    change: LineRewrite<'_>,
     line: &Line<A>,
     assignment: Assignment,
 ) -> Option<Span>
     requires { HasAssignment (line_view line.now) assignment }
-    ensures { result ≡ separator_place (line_change_of change.now)
+    ensures { result ≡ separator_place (rewrite_view change.entry)
         (text_of_line (line_view line.now)) assignment }
 {
     match change {
-        LineChange::InsertWord { side, word, .. } => {
-            separator_beside(text_of_line(line), assignment.value, *side, word)
+        LineRewrite::InsertWord { side, word, .. } => {
+            separator_beside(text_of_line(line), assignment.value, side, word)
         }
         _ => None,
     }
@@ -300,15 +389,15 @@ pub fn separator_bytes<A: Allocator>(line: &Line<A>, separator: Option<Span>) ->
 
 /// How many bytes the text has that goes to each place, by the bytes of the separator and the old
 /// value.
-pub fn new_length<A: Allocator>(change: &LineChange<A>, separator: &[u8], value: &[u8]) -> usize
-    ensures { result ≡ length (new_text (line_change_of change.now) separator.now value.now) }
+pub fn new_length(change: LineRewrite<'_>, separator: &[u8], value: &[u8]) -> usize
+    ensures { result ≡ length (new_text (rewrite_view change.entry) separator.now value.now) }
 {
     match change {
-        LineChange::Prepend(text) => text.len() + usize::from(!value.is_empty()),
-        LineChange::ReplaceWord { value, .. } => value.len(),
-        LineChange::InsertWord { new, .. } => new.len() + separator.len(),
-        LineChange::Substitute { to, .. } => to.len(),
-        LineChange::SetOperator(flavor) => flavor.text().len(),
+        LineRewrite::Prepend(text) => text.len() + usize::from(!value.is_empty()),
+        LineRewrite::ReplaceWord { value, .. } => value.len(),
+        LineRewrite::InsertWord { new, .. } => new.len() + separator.len(),
+        LineRewrite::Substitute { to, .. } => to.len(),
+        LineRewrite::SetOperator(flavor) => flavor.text().len(),
     }
 }
 
@@ -319,28 +408,32 @@ pub fn new_length<A: Allocator>(change: &LineChange<A>, separator: &[u8], value:
 /// [`AllocError`] if there is no memory for it.
 pub fn new_text<A: Allocator + Copy>(
     alloc: A,
-    change: &LineChange<A>,
+    change: LineRewrite<'_>,
     separator: &[u8],
     value: &[u8],
 ) -> Result<Vec<u8, A>, AllocError>
     ensures { IfOk result (λ text.
-        text.items ≡ new_text (line_change_of change.now) separator.now value.now) }
+        text.items ≡ new_text (rewrite_view change.entry) separator.now value.now) }
 {
     match change {
-        LineChange::Prepend(text) => joined(alloc, text, if value.is_empty() { b"" } else { b" " }),
-        LineChange::ReplaceWord { value, .. } => Vec::from_slice(alloc, value),
-        LineChange::InsertWord {
+        LineRewrite::Prepend(text) => joined(
+            alloc,
+            text,
+            if value.is_empty() { b"" } else { b" " },
+        ),
+        LineRewrite::ReplaceWord { value, .. } => Vec::from_slice(alloc, value),
+        LineRewrite::InsertWord {
             side: Side::Before,
             new,
             ..
         } => joined(alloc, new, separator),
-        LineChange::InsertWord {
+        LineRewrite::InsertWord {
             side: Side::After,
             new,
             ..
         } => joined(alloc, separator, new),
-        LineChange::Substitute { to, .. } => Vec::from_slice(alloc, to),
-        LineChange::SetOperator(flavor) => Vec::from_slice(alloc, flavor.text().as_bytes()),
+        LineRewrite::Substitute { to, .. } => Vec::from_slice(alloc, to),
+        LineRewrite::SetOperator(flavor) => Vec::from_slice(alloc, flavor.text().as_bytes()),
     }
 }
 

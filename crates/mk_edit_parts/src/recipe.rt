@@ -124,8 +124,8 @@ fn follows_recipe<A: Allocator>(doc: &Doc<A>, from: usize, number: u32) -> bool
     }
 }
 
-// Whether a line of this class is a recipe line.
-pub(crate) fn is_recipe(class: &Class) -> bool
+/// Whether a line of this class is a recipe line.
+pub fn is_recipe(class: &Class) -> bool
     ensures { result ≡ is_recipe_located class.now }
 {
     matches!(class, Class::Recipe)

@@ -7,6 +7,7 @@ ghost use Rattle.mk_lines.specs.Limits.{max_text};
 ghost use Rattle.mk_lines.specs.PhysicalLines.{without_line_end};
 ghost use Rattle.mk_tree.specs.Documents.{IsFaithful};
 ghost use Rattle.mk_tree.specs.Trees.{line_view};
+ghost use Rattle.mk_edit_language.specs.EachLine.{recipe_text};
 ghost use Rattle.mk_edit_language.specs.Spots.{nth_of};
 ghost use Rattle.mk_edit_language.specs.Stretches.{has_text};
 ghost use Rattle.mk_edit_parts.specs.RecipeWalks.{lines_from, recipe_spots_in};
@@ -80,8 +81,15 @@ fn with_match(matches: Matches, at: usize) -> Matches
 fn has_text<A: Allocator>(line: &Line<A>, text: &[u8]) -> bool
     ensures { result ≡ bytes_eq (drop 1 (without_line_end (line_view line.now).bytes)) text.now }
 {
-    match without_line_end(line.bytes()) {
-        [_, rest @ ..] => is_same_text(rest, text),
-        [] => text.is_empty(),
+    is_same_text(recipe_text(line.bytes()), text)
+}
+
+/// The text of a recipe line: what stands after its first byte, up to its line end.
+pub fn recipe_text(line: &[u8]) -> &[u8]
+    ensures { result.now ≡ recipe_text line.now }
+{
+    match without_line_end(line) {
+        [_, text @ ..] => text,
+        [] => b"",
     }
 }

@@ -116,8 +116,8 @@ fn write_part<A: Allocator + Copy>(
     Ok(done)
 }
 
-// Writes a line from an offset up to a word, and then the new word.
-fn write_word<A: Allocator>(
+/// Writes a line from an offset up to a word, and then the new word.
+pub(crate) fn write_word<A: Allocator>(
     bytes: &mut Vec<u8, A>,
     line: &[u8],
     done: usize,

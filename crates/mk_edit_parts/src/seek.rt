@@ -158,8 +158,12 @@ fn noted(is_meant: bool, is_unread: bool, wanted: usize, class: &Class, sought: 
     seen
 }
 
-// Whether a line is one that an address may mean.
-fn may_mean<A: Allocator>(address: Option<Address>, line: &Line<A>, class: &Class) -> bool
+/// Whether a line is one that an address may mean.
+pub(crate) fn may_mean<A: Allocator>(
+    address: Option<Address>,
+    line: &Line<A>,
+    class: &Class,
+) -> bool
     requires classed { IsClassed (line_view line.now) }
     requires class { class.now ≡ (line_view line.now).class }
     ensures { result ≡ may_mean (address_seen address.entry) (line_view line.now) }

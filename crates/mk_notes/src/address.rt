@@ -4,8 +4,8 @@ use crate::line::is_named;
 use crate::text::{MOST_LINES, Notes};
 use crate::whole_lines::{address_of_site, number_of_site};
 use memchr::memmem;
-use mk_edit_language::{Edit, LineChange, ValueChange};
-use mk_edit_parts::address::{Address, address_of};
+use mk_edit_language::{EachEdit, Edit, LineChange, ValueChange};
+use mk_edit_parts::address::{Address, address_of, each_address_of};
 use mk_edit_parts::seek::wanted;
 use mk_listing::{Position, RuleLine, numbered, rule_lines_for};
 use mk_tree::Doc;
@@ -18,6 +18,7 @@ pub(crate) fn meant_by<A: Allocator>(edit: &Edit<A>) -> Option<Address<'_>> {
         Edit::ChangeValues { name, .. } => Some(Address::Variable(None, name)),
         Edit::RenameTarget { from, .. } => Some(Address::Rule(None, from)),
         Edit::ExchangeLines { site, .. } => address_of_site(site),
+        Edit::EachLine(each) => each_address_of(each),
         _ => address_of(edit),
     }
 }
@@ -26,6 +27,7 @@ pub(crate) fn meant_by<A: Allocator>(edit: &Edit<A>) -> Option<Address<'_>> {
 pub(crate) fn number_of<A: Allocator>(edit: &Edit<A>) -> Option<u32> {
     match edit {
         Edit::ExchangeLines { site, .. } => number_of_site(site),
+        Edit::EachLine(each) => each_address_of(each).and_then(|address| number_in(address)),
         _ => address_of(edit).and_then(|address| number_in(address)),
     }
 }
@@ -45,7 +47,7 @@ pub(crate) fn number_in(address: Address<'_>) -> Option<u32> {
 }
 
 /// The word that an edit adds to lines, takes out of them or puts another one beside, the text that it replaces
-/// in a value, or the new name of a target.
+/// in values or recipe lines, or the new name of a target.
 pub(crate) fn word_of<A: Allocator>(edit: &Edit<A>) -> Option<&[u8]> {
     match edit {
         Edit::AddWord { word, .. }
@@ -57,13 +59,25 @@ pub(crate) fn word_of<A: Allocator>(edit: &Edit<A>) -> Option<&[u8]> {
             change: ValueChange::Add(word) | ValueChange::Remove(word),
             ..
         }
-        | Edit::ChangeLine {
-            change: LineChange::ReplaceWord { word, .. }
-            | LineChange::InsertWord { word, .. }
-            | LineChange::Substitute { from: word, .. },
-            ..
-        } => Some(word.as_slice()),
+        | Edit::EachLine(
+            EachEdit::SubstValues { from: word, .. }
+            | EachEdit::SubstRecipe { from: word, .. }
+            | EachEdit::SubstRecipes { from: word, .. },
+        ) => Some(word.as_slice()),
+        Edit::ChangeLine { change, .. } | Edit::EachLine(EachEdit::ChangeEach { change, .. }) => {
+            word_of_change(change)
+        }
         _ => None,
+    }
+}
+
+// The word of a value that a change replaces or puts another one beside, or the text that it replaces.
+fn word_of_change<A: Allocator>(change: &LineChange<A>) -> Option<&[u8]> {
+    match change {
+        LineChange::ReplaceWord { word, .. }
+        | LineChange::InsertWord { word, .. }
+        | LineChange::Substitute { from: word, .. } => Some(word.as_slice()),
+        LineChange::Prepend(_) | LineChange::SetOperator(_) => None,
     }
 }
 

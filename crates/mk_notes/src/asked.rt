@@ -1,6 +1,7 @@
 //! What an edit asks for, in the words of a script.
 
 use crate::address::{meant_by, name_in, number_of, word_of};
+use crate::each_line::word_of_each;
 use crate::part::Part::{Number, Text, Words};
 use crate::text::Notes;
 use crate::whole_lines::first_line;
@@ -119,6 +120,7 @@ fn command_word<A: Allocator>(edit: &Edit<A>) -> &'static str {
             (Site::OfLines { .. }, None) => "line-remove",
             _ => "insert",
         },
+        Edit::EachLine(each) => word_of_each(each),
     }
 }
 

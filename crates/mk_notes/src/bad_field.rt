@@ -5,8 +5,8 @@ use crate::part::Part::Words;
 use crate::text::Notes;
 use crate::whole_lines::{address_of_site, sought_by};
 use mk_class::{is_target, is_word};
-use mk_edit_language::{Edit, Field, LineChange, Site, ValueChange};
-use mk_edit_parts::address::{Address, address_of};
+use mk_edit_language::{EachEdit, Edit, Field, LineChange, Site, ValueChange};
+use mk_edit_parts::address::{Address, address_of, each_address_of};
 use mk_edit_parts::block_of;
 use mk_tree::WordTexts;
 use std::alloc::{AllocError, Allocator};
@@ -63,7 +63,8 @@ fn text_of_field<A: Allocator>(edit: &Edit<A>, field: Field) -> Tested<'_> {
         (Field::Name, Edit::AddAssign { name, .. } | Edit::ChangeValues { name, .. }) => {
             Tested::new("the name", name, Test::Name)
         }
-        (_, Edit::ChangeLine { change, .. }) => text_of_change(edit, change, field),
+        (_, Edit::ChangeLine { change, .. }) => text_of_change(address_of(edit), change, field),
+        (_, Edit::EachLine(each)) => text_of_each(each, field),
         (_, Edit::ExchangeLines { site, block }) => text_of_lines(site, block_of(block), field),
         _ => text_of_rule_field(edit, field),
     }
@@ -83,9 +84,31 @@ fn text_of_lines<'a, A: Allocator>(
     }
 }
 
-// The text of a field of an edit that changes the line of an assignment that may not stand there.
+// The text of a field of an edit of several lines that is checked by reading that may not stand there.
+fn text_of_each<A: Allocator>(each: &EachEdit<A>, field: Field) -> Tested<'_> {
+    match (field, each) {
+        (_, EachEdit::ChangeEach { change, .. }) => {
+            text_of_change(each_address_of(each), change, field)
+        }
+        (
+            Field::From,
+            EachEdit::SubstValues { from, .. }
+            | EachEdit::SubstRecipe { from, .. }
+            | EachEdit::SubstRecipes { from, .. },
+        ) => Tested::new("the text to replace", from, Test::Text),
+        (
+            Field::To,
+            EachEdit::SubstValues { to, .. }
+            | EachEdit::SubstRecipe { to, .. }
+            | EachEdit::SubstRecipes { to, .. },
+        ) => Tested::new("the new text", to, Test::Text),
+        _ => text_of_named(each_address_of(each), field),
+    }
+}
+
+// The text of a field of a change of the line of an assignment that may not stand there.
 fn text_of_change<'a, A: Allocator>(
-    edit: &'a Edit<A>,
+    address: Option<Address<'a>>,
     change: &'a LineChange<A>,
     field: Field,
 ) -> Tested<'a> {
@@ -104,7 +127,7 @@ fn text_of_change<'a, A: Allocator>(
         (Field::To, LineChange::Substitute { to, .. }) => {
             Tested::new("the new text", to, Test::Text)
         }
-        _ => text_of_address(edit, field),
+        _ => text_of_named(address, field),
     }
 }
 

@@ -4,7 +4,8 @@
 
 use mk_lines::{is_closed, units};
 
-const ENDS_IN_BACKSLASH: &str = "ends in a backslash";
+/// What is said of a text that ends in a backslash.
+pub(crate) const ENDS_IN_BACKSLASH: &str = "ends in a backslash";
 
 /// What a text has to be.
 #[derive(Clone, Copy)]

@@ -14,12 +14,14 @@
 //! - `text`: the text of the notes.
 //! - `part`: sentences with names, texts and numbers in them.
 //! - `whole_lines`: what is said of edits of whole lines.
+//! - `each_line`: what is said of edits of several lines that are checked by reading.
 //! - `address`: the lines that an edit means.
 //! - `asked`: what an edit asks for.
 //! - `broken`: which rule a text breaks.
 //! - `bad_field`, `open_value`, `idle`, `misread`: the sentences on a field that may not stand there, on a
 //!   value that is open, on an edit that finds nothing to do, and on a line that would not read as its edit says.
 //! - `sentence`: the sentence of each refusal of an edit.
+//! - `becomes`: what a line would become that would not read as its edit says.
 //! - `error`: the line on a refusal.
 //! - `tally`: which words of a makefile may stand in several lines.
 //! - `run_notes`: the notes on the edits of a run, and how far they may walk.
@@ -34,8 +36,10 @@
 mod address;
 mod asked;
 mod bad_field;
+mod becomes;
 mod branch;
 mod broken;
+mod each_line;
 mod error;
 mod idle;
 mod line;

@@ -13,7 +13,7 @@ use crate::run_notes::{RunNotes, Walks};
 use crate::tally::Tally;
 use crate::text::Notes;
 use mk_class::Flavor;
-use mk_edit_language::{Edit, LineChange, Place};
+use mk_edit_language::{EachEdit, Edit, LineChange, Place};
 use mk_edit_parts::address::{Address, address_of};
 use mk_listing::{Position, numbered};
 use mk_tree::{Doc, WordTexts};
@@ -26,11 +26,11 @@ impl<B: Allocator + Copy> RunNotes<'_, B> {
     ///
     /// | Edit | Notes |
     /// |---|---|
-    /// | each but `RemoveAssign`, `RemoveRule`, `ChangeValues`, `RenameTarget` and `ExchangeLines` | where the changed line is in a conditional: that make may skip it, and the line |
+    /// | each but `RemoveAssign`, `RemoveRule`, `ChangeValues`, `RenameTarget`, `ExchangeLines` and `EachLine` | where the changed line is in a conditional: that make may skip it, and the line |
     /// | `SetValue`, `AppendValue`, `AddWord`, `RemoveWord`, and `ChangeLine` except for `SetOperator` | where the operator is `?=`: that make takes the value only where the variable has none, and the line |
     /// | the same, `SetOperator` and `AddAssign` | where the variable is assigned again below, and not in another branch of the same conditional: that it is, and the lines that assign it |
     /// | the same | where it is assigned in another branch of the same conditional: that it is, and the lines that assign it |
-    /// | the same, and anywhere in the makefile `RemoveAssign` and `ChangeValues` | where lines below seem to assign it that are not read: that they do, and these lines |
+    /// | the same, and anywhere in the makefile `RemoveAssign`, `ChangeValues` and `ChangeEach` | where lines below seem to assign it that are not read: that they do, and these lines |
     /// | `AddRule` | for each of its first ten targets that has a rule with colons of the other kind: that make stops if it reads both, and the lines of these rules |
     /// | the same | for each other of them that has a recipe in another rule: that it has, and the lines of these rules |
     /// | the same | where its target may be the default goal now: that it may, and the line of the earlier one |
@@ -81,9 +81,12 @@ impl<'a, A: Allocator, B: Allocator + Copy> Notes<'a, A, B> {
         match (edit, changed) {
             (Edit::AddRule { targets, .. }, _) => self.new_rule(tally, edit, targets, changed),
             (Edit::AddAssign { name, .. }, Some(at)) => self.assigned(name, at),
-            (Edit::RemoveAssign { name, .. } | Edit::ChangeValues { name, .. }, _) => {
-                self.unread(name, 0)
-            }
+            (
+                Edit::RemoveAssign { name, .. }
+                | Edit::ChangeValues { name, .. }
+                | Edit::EachLine(EachEdit::ChangeEach { name, .. }),
+                _,
+            ) => self.unread(name, 0),
             _ => match (address_of(edit), changed) {
                 (Some(Address::Variable(_, name)), Some(at)) => self.assigned(name, at),
                 (Some(Address::Rule(nth, target)), _) if has_new_recipe(edit) => {

@@ -37,6 +37,23 @@ impl<'a, A: Allocator, B: Allocator + Copy> Notes<'a, A, B> {
         Ok(())
     }
 
+    /// Puts a note on the line of the script that is such a sentence.
+    pub(crate) fn script_says(
+        &mut self,
+        sentence: &str,
+        parts: &[Part<'_>],
+    ) -> Result<(), AllocError> {
+        if self.names.is_json {
+            let object = self.object("note", true)?;
+            self.say(sentence, parts)?;
+            return self.end(object);
+        }
+        self.script_line()?;
+        self.say(": note: ", &[])?;
+        self.say(sentence, parts)?;
+        self.say("\n", &[])
+    }
+
     // Puts a part of a sentence.
     fn part(&mut self, part: Part<'_>) -> Result<(), AllocError> {
         match part {

@@ -10,7 +10,7 @@ use crate::run_notes::RunNotes;
 use crate::text::Notes;
 use crate::whole_lines::{address_of_site, is_run_at, number_of_site, sought_by};
 use mk_class::Class;
-use mk_edit_language::{Edit, Place, Refusal, Site, ValueChange};
+use mk_edit_language::{Edit, LineChange, Place, Refusal, Site, ValueChange};
 use mk_edit_parts::address::{Address, address_of};
 use mk_edit_parts::lean::begins_with;
 use mk_listing::{Position, assignments_of, numbered};
@@ -31,7 +31,7 @@ impl<C: Allocator + Copy> RunNotes<'_, C> {
     /// | `Ambiguous` | the lines that fit the address, and what tells one of them; the line itself, if several of its recipe lines or words fit |
     /// | `NoSuch` | if the number is too high, the lines of the name; otherwise the lines of other names that are spelled alike, and those that begin with the name and that no edit looks at |
     /// | `Absent`, `Already`, `SharedRule` | the line that the edit means; with `all` those of the name; the new lines that are there |
-    /// | `Misread` | the line or the lines that the edit means |
+    /// | `Misread` | the line, or the first one, that would not read as the edit says, and what it would become; of an edit of whole lines those that are sought |
     /// | `OpenValue` | the line that the edit means; with `all` those that would be changed and whose value is open, except for a fold at its end, or all of the name if there are none |
     /// | `Straddles` | the line of the rule, and the first line of a conditional below it |
     /// | `Taken` | the lines for the new name |
@@ -100,6 +100,7 @@ impl<'a, A: Allocator, C: Allocator + Copy> Notes<'a, A, C> {
             (Refusal::Taken, Edit::RenameTarget { to, .. }) => self.taken(to),
             (Refusal::OpenValue, Edit::ChangeValues { name, change }) => self.open(name, change),
             (Refusal::Leans, _) => self.line(leaning(doc, edit)),
+            (Refusal::Misread, Edit::EachLine(each)) => self.first_misread(each),
             (
                 Refusal::Already,
                 Edit::ExchangeLines {
@@ -131,11 +132,10 @@ impl<'a, A: Allocator, C: Allocator + Copy> Notes<'a, A, C> {
                 self.meant(edit, address)?;
                 self.line(conditional_below(self.doc, address))
             }
-            Refusal::Absent
-            | Refusal::Already
-            | Refusal::SharedRule(_)
-            | Refusal::OpenValue
-            | Refusal::Misread => self.meant(edit, address).map(|_| ()),
+            Refusal::Absent | Refusal::Already | Refusal::SharedRule(_) | Refusal::OpenValue => self
+                .meant(edit, address)
+                .map(|_| ()),
+            Refusal::Misread => self.misread_line(edit, address),
             _ => Ok(()),
         }
     }
@@ -263,13 +263,14 @@ fn behind<'s>(all: bool) -> &'s str {
 
 // Whether `all` may stand before the command of an edit.
 fn takes_all<A: Allocator>(edit: &Edit<A>) -> bool {
-    matches!(
-        edit,
+    match edit {
         Edit::SetValue { .. }
-            | Edit::AppendValue { .. }
-            | Edit::AddWord { .. }
-            | Edit::RemoveWord { .. }
-    )
+        | Edit::AppendValue { .. }
+        | Edit::AddWord { .. }
+        | Edit::RemoveWord { .. } => true,
+        Edit::ChangeLine { change, .. } => !matches!(change, LineChange::InsertWord { .. }),
+        _ => false,
+    }
 }
 
 // The last line that begins a define.

@@ -9,8 +9,8 @@ use crate::part::Part::{Count, Makefile, Number, Text, Times, Words};
 use crate::text::Notes;
 use crate::whole_lines::{address_of_site, number_of_site, sought_by};
 use mk_class::is_reserved_word;
-use mk_edit_language::{Edit, LineChange, Refusal, Site};
-use mk_edit_parts::address::Address;
+use mk_edit_language::{EachEdit, Edit, LineChange, Refusal, Site};
+use mk_edit_parts::address::{Address, each_address_of};
 use mk_edit_parts::block_of;
 use mk_listing::numbered;
 use mk_tree::WordTexts;
@@ -32,6 +32,7 @@ impl<'a, A: Allocator, B: Allocator + Copy> Notes<'a, A, B> {
                 (Edit::ExchangeLines { site, block }, _) => {
                     self.sentence_on_lines(site, block_of(block).unwrap_or_default(), refusal)
                 }
+                (Edit::EachLine(each), _) => self.sentence_on_each(edit, each, refusal),
                 (_, Some(address)) => self.sentence_on(edit, address, refusal),
                 (_, None) => self.plain_sentence(refusal),
             },
@@ -60,6 +61,21 @@ impl<'a, A: Allocator, B: Allocator + Copy> Notes<'a, A, B> {
                 };
                 self.lines_misread(gone, new)
             }
+            _ => self.plain_sentence(refusal),
+        }
+    }
+
+    // Puts what is so of several lines, where an edit of them that is checked by reading is refused.
+    fn sentence_on_each<C: Allocator>(
+        &mut self,
+        edit: &Edit<C>,
+        each: &EachEdit<C>,
+        refusal: Refusal,
+    ) -> Result<(), AllocError> {
+        match (refusal, each_address_of(each)) {
+            (Refusal::NoSuch, Some(address)) => self.no_such(address),
+            (Refusal::Absent, _) => self.absent_in_each(each),
+            (Refusal::Misread, _) => self.misread(edit),
             _ => self.plain_sentence(refusal),
         }
     }

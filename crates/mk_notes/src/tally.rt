@@ -3,7 +3,7 @@
 use crate::address::meant_by;
 use crate::line::is_doubtful;
 use mk_class::Flavor;
-use mk_edit_language::{Edit, LineChange, Place};
+use mk_edit_language::{EachEdit, Edit, LineChange, Place};
 use mk_edit_parts::address::Address;
 use mk_index::bucket::hash_of;
 use mk_tree::{Doc, WordTexts};
@@ -73,7 +73,13 @@ impl<A: Allocator + Copy> Tally<A> {
                 name,
                 change: LineChange::SetOperator(Flavor::Conditional),
                 ..
-            } => self.add(Use::Default, name, 1),
+            }
+            | Edit::EachLine(
+                EachEdit::ChangeEach {
+                    name,
+                    change: LineChange::SetOperator(Flavor::Conditional),
+                },
+            ) => self.add(Use::Default, name, 1),
             Edit::RemoveAssign { name, .. } => self.assign(name, Flavor::Conditional),
             Edit::AddRule { targets, .. } => {
                 for target in WordTexts::new(targets) {

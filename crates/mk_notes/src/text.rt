@@ -42,7 +42,8 @@ pub(crate) struct Notes<'a, A: Allocator, B: Allocator> {
     pub walks: bool,
     /// What makefile and script are called, and the form of the notes.
     pub names: Names<'a>,
-    alloc: B,
+    /// The allocator of their text.
+    pub alloc: B,
     // The number of the line of the script, from 1.
     line: u64,
     // The lines of text; or what was said for the next member of an object.

@@ -1,3 +1,4 @@
+mod CommandLineLemmas
 mod LineLemmas
 mod StepLemmas
 mod TalkLemmas

@@ -1,5 +1,6 @@
 -- # What the public contracts say
 pub mod AnswerLines
+pub mod CommandLines
 pub mod InputLines
 pub mod QueryTexts
 pub mod Quits

@@ -1,4 +1,5 @@
--- What comes of a line in a session, what is replied to it, and what is shown after it.
+-- What comes of a line in a session, with the lines of its blocks below it, what is replied to it, and what is
+-- shown after it.
 -- Told in docs/PROTOCOL.md, "Replies".
 use Rattle.std.specs.Prelude.{◌≡◌, ◌⊎◌, ℕ, List, [], ◌∷◌, Result, Ok, Err, codes}
 use Rattle.mk_edit_language.specs.declared.refusal.Refusal.{Refusal}

@@ -1,4 +1,5 @@
--- What a makefile that is open replies to a line by the protocol, and what is shown after it.
+-- What a makefile that is open replies to a command by the protocol, and what is shown after it. Its text is
+-- a line, or a line and below it those of its blocks.
 -- Told in docs/PROTOCOL.md, "Replies" and "Requests".
 use Rattle.std.specs.Prelude.{◌≡◌, ◌≢◌, ◌⊎◌, ℕ, Bool, true, false, ◌&&◌, if◌then◌else◌, List, ◌++◌, Option, Some, None, Result, Ok, Err, Vec, IfOk, IfSome, is_ok, is_some, option_and_then, codes}
 use Rattle.mk_edit_language.specs.declared.refusal.Refusal.TheVariants.{GroupOpen}
@@ -86,7 +87,7 @@ IsReplyTo name (Ok text) reply =
     (reply ≡ answer_lines text ++ codes "ok\n") ⊎ (reply ≡ fault_text NoMemory name)
 IsReplyTo name (Err why) reply = reply ≡ fault_text why name
 
--- A line that is no command was answered: it is no request, or it is this one.
+-- A text that is no command was answered: it is no request, or it is this one.
 abbrev pub IsOtherAnswered : Option Asked → Opened → (old : Shown (List ℕ)) → (reply : List ℕ) → After
     → (new : Shown (List ℕ)) → Type 0
 IsOtherAnswered None opened old reply after new =
@@ -96,17 +97,17 @@ IsOtherAnswered (Some asked) opened old reply after new =
     × IsReplyTo name answer reply
     × (after ≡ after_request asked (is_ok answer))
 
--- This came of a line as a command, and it was answered.
-abbrev IsCameAnswered : o.Executed → (line : List ℕ) → Opened → (old : Shown (List ℕ)) → (reply : List ℕ) → After
+-- This came of a text as a command, and it was answered.
+abbrev IsCameAnswered : o.Executed → (text : List ℕ) → Opened → (old : Shown (List ℕ)) → (reply : List ℕ) → After
     → (new : Shown (List ℕ)) → Type 0
-IsCameAnswered NoCommand line opened old reply after new =
-    IsOtherAnswered (request_in line) opened old reply after new
-IsCameAnswered came line opened old reply after new =
+IsCameAnswered NoCommand text opened old reply after new =
+    IsOtherAnswered (request_in text) opened old reply after new
+IsCameAnswered came text opened old reply after new =
     (reply ≡ reply_to came) × (after ≡ GoesOn) × (new ≡ old)
 
--- A line was handled: it was executed as a command, and then it was answered.
-abbrev pub IsHandled : (line : List ℕ) → Opened → (old : Shown (List ℕ)) → (reply : List ℕ) → After → (new : Shown (List ℕ))
+-- A text was handled: it was executed as a command, and then it was answered.
+abbrev pub IsHandled : (text : List ℕ) → Opened → (old : Shown (List ℕ)) → (reply : List ℕ) → After → (new : Shown (List ℕ))
     → Type 0
-IsHandled line opened old reply after new =
-    (came : o.Executed) × (executed : Shown (List ℕ)) × IsLineExecuted line old executed came
-    × IsCameAnswered came line opened executed reply after new
+IsHandled text opened old reply after new =
+    (came : o.Executed) × (executed : Shown (List ℕ)) × IsLineExecuted text old executed came
+    × IsCameAnswered came text opened executed reply after new

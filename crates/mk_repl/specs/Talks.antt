@@ -1,13 +1,16 @@
--- Lines that are read and answered, one after the other. A handler of the type L says what it says
--- before the first line, what a line that is too long comes to: before it, the reply, and after it; and
--- what handling a line comes to: before it, the line, the reply, whether the talk goes on, and after it.
--- Told in docs/PROTOCOL.md, "Lines" and "Replies".
+-- Commands that are read and answered, one after the other, each with the lines of its blocks. A handler of
+-- the type L says what it says before the first line, and before each line of a block; what a command whose
+-- lines are not read comes to: before it, why, the reply, and after it; and what handling a command comes
+-- to: before it, its text, the reply, whether the talk goes on, and after it.
+-- Told in docs/PROTOCOL.md, "Lines", "Blocks" and "Replies".
 use Rattle.std.specs.Prelude.{◌≡◌, ◌⊎◌, ℕ, List, [], ◌∷◌, ◌++◌, Option, IfSome, codes}
-use Rattle.std.specs.Io.KnownBytes.{Appends}
-use Rattle.mk_lines.specs.PhysicalLines.{physical_lines}
-use Rattle.mk_repl.specs.InputLines.{IsShort, IsLong}
-use Rattle.mk_repl.specs.declared.line.LineRead as read
-use Rattle.mk_repl.specs.declared.line.LineRead.TheVariants as line_read
+use Rattle.std.specs.Io.KnownBytes.{Appends, IsAtEnd}
+use Rattle.std.specs.List.{AllByRecursion}
+use Rattle.mk_lines.specs.Lists.{concat}
+use Rattle.mk_repl.specs.CommandLines.{IsUnread, LosesCommand, commands_in}
+use Rattle.mk_repl.specs.InputLines.{IsShort}
+use Rattle.mk_repl.specs.declared.command_lines.Unread.{Unread}
+use Rattle.mk_repl.specs.declared.command_lines.Unread.TheVariants.{TooLong, NoMemory}
 use Rattle.mk_repl.specs.declared.talk.After.{After}
 use Rattle.mk_repl.specs.declared.talk.After.TheVariants.{GoesOn, Ends}
 
@@ -15,67 +18,80 @@ use Rattle.mk_repl.specs.declared.talk.After.TheVariants.{GoesOn, Ends}
 abbrev pub greeting : List ℕ
 greeting = codes "mkedit session 1\n"
 
--- the reply of the protocol to a line that is too long
-abbrev pub too_long : List ℕ
-too_long = codes "fault line too long\n"
+-- the reply of the protocol to a command whose lines are not read
+abbrev pub unread_reply : Unread → List ℕ
+unread_reply TooLong = codes "fault line too long\n"
+unread_reply NoMemory = codes "fault no memory\n"
 
 -- A text went out, of which this holds.
 abbrev pub SaysOut : (before after : Option (List ℕ)) → (Says : List ℕ → Type 0) → Type 0
 SaysOut before after Says = (text : List ℕ) × Appends before after text × Says text
 
--- The bytes of a source, if they are known, begin with these lines, and others follow.
-abbrev pub BeginsWith : (bytes : Option (List ℕ)) → (lines rest : List (List ℕ)) → Type 0
-BeginsWith bytes lines rest = IfSome bytes (λ text. physical_lines text ≡ lines ++ rest)
+-- The commands of a source, if its bytes are known, are first these, and then others.
+abbrev pub BeginsWith : (bytes : Option (List ℕ)) → (commands rest : List (List (List ℕ))) → Type 0
+BeginsWith bytes commands rest = IfSome bytes (λ text. commands_in text ≡ commands ++ rest)
 
-module _ {L : Type 0} (rejects : L → List ℕ → L → Type 0)
+-- some prompts were said
+abbrev pub ArePrompts : (IsPrompt : List ℕ → Type 0) → (said : List ℕ) → Type 0
+ArePrompts IsPrompt said =
+    (prompts : List (List ℕ)) × AllByRecursion IsPrompt prompts × (said ≡ concat prompts)
+
+module _ {L : Type 0} (prompts : L → List ℕ → Type 0) (rejects : L → Unread → List ℕ → L → Type 0)
     (handles : L → List ℕ → List ℕ → After → L → Type 0) where
-  -- what was read gets this reply; at the end of the source there is none
-  abbrev pub IsReadReplied : read.LineRead → (line : List ℕ) → (old : L) → (reply : List ℕ) → After
-      → (new : L) → Type 0
-  IsReadReplied line_read.Line line old reply after new = handles old line reply after new
-  IsReadReplied line_read.TooLong line old reply after new = rejects old reply new × (after ≡ GoesOn)
-  IsReadReplied line_read.End line old reply after new = (reply ≡ []) × (after ≡ Ends) × (new ≡ old)
+  -- a command of these lines gets this reply: the handler's, or that on lines that are not read
+  abbrev pub IsAnswer : (lines : List (List ℕ)) → (old : L) → (reply : List ℕ) → After → (new : L) → Type 0
+  IsAnswer lines old reply after new =
+      (AllByRecursion IsShort lines × handles old (concat lines) reply after new)
+      ⊎ ((why : Unread) × IsUnread why lines × rejects old why reply new × (after ≡ GoesOn))
 
-  -- a line gets this reply: the handler's, or that on a line that is too long
-  abbrev pub IsReplied : (line : List ℕ) → (old : L) → (reply : List ℕ) → After → (new : L) → Type 0
-  IsReplied line old reply after new =
-      (IsShort line × handles old line reply after new)
-      ⊎ (IsLong line × rejects old reply new × (after ≡ GoesOn))
+  -- this is said before the lines of its blocks, and this reply comes to it
+  abbrev pub IsReplied : (lines : List (List ℕ)) → (old : L) → (said : List ℕ) → After → (new : L) → Type 0
+  IsReplied lines old said after new =
+      (prompted reply : List ℕ) × ArePrompts (prompts old) prompted × IsAnswer lines old reply after new
+      × (said ≡ prompted ++ reply)
 
-  -- lines, one after the other, get these replies, and the talk goes on after each of them
-  abbrev pub GoesOver : List (List ℕ) → (old : L) → (replies : List ℕ) → (new : L) → Type 0
+  -- The first of the commands of a source, before and after it, gets this reply; or there is none.
+  abbrev pub IsTurn : (before rest : Option (List ℕ)) → (old : L) → (reply : List ℕ) → After → (new : L)
+      → Type 0
+  IsTurn before rest old reply after new =
+      ((lines : List (List ℕ)) × LosesCommand before rest lines × IsReplied lines old reply after new)
+      ⊎ (IsAtEnd before × (reply ≡ []) × (after ≡ Ends) × (new ≡ old))
+
+  -- commands, one after the other, get these replies, and the talk goes on after each of them
+  abbrev pub GoesOver : (commands : List (List (List ℕ))) → (old : L) → (replies : List ℕ) → (new : L) → Type 0
   GoesOver [] old replies new = (replies ≡ []) × (new ≡ old)
-  GoesOver (line ∷ lines) old replies new =
-      (next : L) × (reply rest : List ℕ) × IsReplied line old reply GoesOn next
-      × GoesOver lines next rest new
+  GoesOver (lines ∷ commands) old replies new =
+      (next : L) × (reply rest : List ℕ) × IsReplied lines old reply GoesOn next
+      × GoesOver commands next rest new
       × (replies ≡ reply ++ rest)
 
-  -- The lines of a source were answered to its end: this went out behind the greeting.
+  -- The commands of a source were answered to its end: this went out behind the greeting.
   pub record IsAnsweredToTheEnd (bytes : Option (List ℕ)) (old : L) (replies : List ℕ) (new : L)
       : Type 0 where
-    pub lines : List (List ℕ)
-    pub all : BeginsWith bytes lines []
-    pub goes_over : GoesOver lines old replies new
+    pub commands : List (List (List ℕ))
+    pub all : BeginsWith bytes commands []
+    pub goes_over : GoesOver commands old replies new
 
-  -- They were answered up to a line after which the talk ends.
-  pub record IsAnsweredToALine (bytes : Option (List ℕ)) (old : L) (replies : List ℕ) (new : L)
+  -- They were answered up to a command after which the talk ends.
+  pub record IsAnsweredToACommand (bytes : Option (List ℕ)) (old : L) (replies : List ℕ) (new : L)
       : Type 0 where
-    pub lines : List (List ℕ)
-    pub last : List ℕ
-    pub unread : List (List ℕ)
-    pub begins : BeginsWith bytes lines (last ∷ unread)
+    pub commands : List (List (List ℕ))
+    pub last : List (List ℕ)
+    pub unread : List (List (List ℕ))
+    pub begins : BeginsWith bytes commands (last ∷ unread)
     pub middle : L
     pub before : List ℕ
     pub reply : List ℕ
-    pub goes_over : GoesOver lines old before middle
+    pub goes_over : GoesOver commands old before middle
     pub ends : IsReplied last middle reply Ends new
     pub replies_are : replies ≡ before ++ reply
 
 -- A talk over the bytes of a source: this went out, the greeting first.
-abbrev pub IsTalk : {L : Type 0} → (greets : L → List ℕ → Type 0) → (rejects : L → List ℕ → L → Type 0)
+abbrev pub IsTalk : {L : Type 0} → (greets prompts : L → List ℕ → Type 0)
+    → (rejects : L → Unread → List ℕ → L → Type 0)
     → (handles : L → List ℕ → List ℕ → After → L → Type 0)
     → (bytes : Option (List ℕ)) → (old : L) → (out : List ℕ) → (new : L) → Type 0
-IsTalk greets rejects handles bytes old out new =
+IsTalk greets prompts rejects handles bytes old out new =
     (first replies : List ℕ) × greets old first × (out ≡ first ++ replies)
-    × (IsAnsweredToTheEnd rejects handles bytes old replies new
-    ⊎ IsAnsweredToALine rejects handles bytes old replies new)
+    × (IsAnsweredToTheEnd prompts rejects handles bytes old replies new
+    ⊎ IsAnsweredToACommand prompts rejects handles bytes old replies new)

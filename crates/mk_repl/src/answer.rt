@@ -1,4 +1,4 @@
-//! A line, and the reply to it.
+//! A command, and the reply to it: a line, and below it the lines of its blocks.
 //!
 //! A comment and a blank line have no reply, as they have no line in a report.
 ghost use Rattle.std.specs.Prelude.{◌≡◌, false, true, map, IfErr, IfOk, OnOk};
@@ -67,8 +67,9 @@ fn execute_only<A: Allocator + Copy, T: Observer<A>>(
 }
 
 /// Executes the command of a line, and says what came of it. The line is one of a script: its line end
-/// is LF, CR LF or none. It may begin with `try`; `or` needs the lines above it, and is no command
-/// here. `observer` is told of each edit that is made.
+/// is LF, CR LF or none. Below it may stand the lines of its blocks, and no others. It may begin with
+/// `try`; `or` needs the lines above it, and is no command here. `observer` is told of each edit that is
+/// made.
 pub fn execute_line<A, T>(
     alloc: A,
     session: &mut Session<A>,

@@ -3,6 +3,7 @@
 //! The session keeps no text of what it was told. So these lines are kept beside it, by the same rules:
 //! docs/EDITS.md, "Undo and groups".
 
+use bstr::ByteSlice;
 use mk_run::{Command, Observer, Reported, Step, parse_script};
 use mk_session::{Edit, Session};
 use std::alloc::{AllocError, Global};
@@ -19,6 +20,43 @@ impl Observer<Global> for EditMade {
     }
 }
 
+// The line of a command, or of a group; and the lines of its blocks, each with a line feed before it.
+#[derive(Drop)]
+struct Member {
+    line: Vec<u8>,
+    below: Vec<u8>,
+}
+
+impl Member {
+    fn new(alloc: Global) -> Member {
+        Member {
+            line: Vec::new(alloc),
+            below: Vec::new(alloc),
+        }
+    }
+
+    // Puts a command behind what is there.
+    fn push(&mut self, command: &[u8]) -> Result<(), AllocError> {
+        let mut lines = command.lines();
+        if let Some(line) = lines.next() {
+            self.line.extend_from_slice(line.trim_ascii())?;
+        }
+        for line in lines {
+            self.below.extend_from_slice(b"\n")?;
+            self.below.extend_from_slice(line)?;
+        }
+        Ok(())
+    }
+
+    // Puts the member behind a text, behind this word.
+    fn put(&self, word: &[u8], text: &mut Vec<u8>) -> Result<(), AllocError> {
+        text.extend_from_slice(word)?;
+        text.extend_from_slice(self.line.as_slice())?;
+        text.extend_from_slice(self.below.as_slice())?;
+        text.extend_from_slice(b"\n")
+    }
+}
+
 /// What can be undone and redone.
 #[derive(Drop)]
 pub struct CommandLog {
@@ -26,26 +64,18 @@ pub struct CommandLog {
     // How many edits or groups can be undone.
     depth: usize,
     // What can be undone, the last at the end, and what can be redone, the next at the end.
-    done: Vec<Vec<u8>>,
-    undone: Vec<Vec<u8>>,
-    // The lines of the open group.
-    group: Option<Vec<u8>>,
+    done: Vec<Member>,
+    undone: Vec<Member>,
+    // The commands of the open group.
+    group: Option<Member>,
     // Whether memory was short, and nothing is known.
     is_lost: bool,
 }
 
-// Puts a line behind those of a group.
-fn push_line(group: &mut Vec<u8>, line: &[u8]) -> Result<(), AllocError> {
-    group.extend_from_slice(b"; ")?;
-    group.extend_from_slice(line)
-}
-
-// Puts what can be undone or redone behind a text, the last first: each a line behind this word.
-fn push_members(text: &mut Vec<u8>, word: &[u8], members: &[Vec<u8>]) -> Result<(), AllocError> {
+// Puts what can be undone or redone behind a text, the last first, each behind this word.
+fn push_members(text: &mut Vec<u8>, word: &[u8], members: &[Member]) -> Result<(), AllocError> {
     for member in members.iter().rev() {
-        text.extend_from_slice(word)?;
-        text.extend_from_slice(member.as_slice())?;
-        text.extend_from_slice(b"\n")?;
+        member.put(word, text)?;
     }
     Ok(())
 }
@@ -64,7 +94,7 @@ impl CommandLog {
     }
 
     // One edit or group more was made.
-    fn push(&mut self, member: Vec<u8>) -> Result<(), AllocError> {
+    fn push(&mut self, member: Member) -> Result<(), AllocError> {
         if self.done.len() >= self.depth && !self.done.is_empty() {
             self.done.remove(0);
         }
@@ -74,26 +104,27 @@ impl CommandLog {
         Ok(())
     }
 
-    // An edit was made by this line. What was undone cannot be redone any more.
-    fn edited(&mut self, line: &[u8]) -> Result<(), AllocError> {
+    // An edit was made by this command. What was undone cannot be redone any more.
+    fn edited(&mut self, command: &[u8]) -> Result<(), AllocError> {
         self.undone.clear();
-        match &mut self.group {
-            Some(group) => push_line(group, line),
-            None => {
-                let member = Vec::from_slice(self.alloc, line)?;
-                self.push(member)
-            }
+        if let Some(group) = &mut self.group {
+            group.line.extend_from_slice(b"; ")?;
+            return group.push(command);
         }
+        let mut member = Member::new(self.alloc);
+        member.push(command)?;
+        self.push(member)
     }
 
     // The open group was ended. Without edits it leaves nothing.
     fn ended(&mut self) -> Result<(), AllocError> {
         match self.group.take() {
-            Some(mut group) if !group.is_empty() => {
-                let mut member = Vec::from_slice(self.alloc, b"begin")?;
-                member.extend_from_slice(group.as_slice())?;
-                member.extend_from_slice(b"; end")?;
-                self.push(member)
+            Some(mut group) if !group.line.is_empty() => {
+                let mut line = Vec::from_slice(self.alloc, b"begin")?;
+                line.extend_from_slice(group.line.as_slice())?;
+                line.extend_from_slice(b"; end")?;
+                group.line = line;
+                self.push(group)
             }
             _ => Ok(()),
         }
@@ -119,8 +150,8 @@ impl CommandLog {
     }
 
     // A command that has made no edit was done.
-    fn moved(&mut self, line: &[u8]) -> Result<(), AllocError> {
-        let Ok(steps) = parse_script(self.alloc, line) else {
+    fn moved(&mut self, command: &[u8]) -> Result<(), AllocError> {
+        let Ok(steps) = parse_script(self.alloc, command) else {
             return Err(AllocError);
         };
         let [Step::Alone(alone)] = steps.as_slice() else {
@@ -130,20 +161,20 @@ impl CommandLog {
             Command::Undo => return self.undone(),
             Command::Redo => return self.redone(),
             Command::End => return self.ended(),
-            Command::Begin => self.group = Some(Vec::new(self.alloc)),
+            Command::Begin => self.group = Some(Member::new(self.alloc)),
             Command::Cancel => self.group = None,
             Command::Apply(_) => {}
         }
         Ok(())
     }
 
-    /// The command of a line was done, and has made an edit or not.
-    pub fn note(&mut self, line: &[u8], made: &EditMade) {
-        let line = line.trim_ascii();
+    /// A command was done, and has made an edit or not. Its text is a line, or a line and below it those of
+    /// its blocks.
+    pub fn note(&mut self, command: &[u8], made: &EditMade) {
         let noted = if made.0 {
-            self.edited(line)
+            self.edited(command)
         } else {
-            self.moved(line)
+            self.moved(command)
         };
         self.keep(noted);
     }
@@ -163,7 +194,7 @@ impl CommandLog {
         }
     }
 
-    /// What can be undone and redone, a line each, the last first.
+    /// What can be undone and redone, the last first: a line each, and below it those of its blocks.
     ///
     /// # Errors
     ///
@@ -174,9 +205,7 @@ impl CommandLog {
         }
         let mut text = Vec::new(self.alloc);
         if let Some(group) = &self.group {
-            text.extend_from_slice(b"open begin")?;
-            text.extend_from_slice(group.as_slice())?;
-            text.extend_from_slice(b"\n")?;
+            group.put(b"open begin", &mut text)?;
         }
         push_members(&mut text, b"undo ", self.done.as_slice())?;
         push_members(&mut text, b"redo ", self.undone.as_slice())?;

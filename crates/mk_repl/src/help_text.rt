@@ -4,8 +4,9 @@
 pub const HELP: &str = "\
 Commands, of each of which `help COMMAND` says more:
     set append add drop prepend replace add-before add-after subst operator
-    unset assign rename rule unrule depend depend-order undepend
+    values-subst unset assign rename rule unrule depend depend-order undepend
     recipe recipe-insert recipe-set recipe-del recipe-replace recipe-remove
+    recipe-subst recipes-subst
     insert line-replace line-remove nth all try undo redo begin end cancel
 Requests:
     print    print FROM    print FROM TO     the text, or its lines from one number to another

@@ -1,18 +1,18 @@
 //! The replies of a makefile that is open, by the protocol.
-ghost use Rattle.std.specs.Prelude.{◌≡◌, ◌⊎◌, false, true, Err, IfErr, IfOk, IsOkAnd, Ok, OnOk, Some, is_ok};
+ghost use Rattle.std.specs.Prelude.{◌≡◌, ◌⊎◌, false, true, [], Err, IfErr, IfOk, IsOkAnd, Ok, OnOk, Some, is_ok};
 ghost use Rattle.mk_repl.specs.AnswerLines.{answer_lines};
 ghost use Rattle.mk_repl.specs.Quits.{IsLeftBy, IsWarned, MayQuit, left_with};
 ghost use Rattle.mk_repl.specs.Requests.{Word, request_in};
-ghost use Rattle.mk_repl.specs.Talks.{SaysOut, greeting, too_long};
+ghost use Rattle.mk_repl.specs.Talks.{SaysOut, greeting, unread_reply};
 ghost use Rattle.mk_repl.specs.SessionReplies.{IsHandled, IsOtherAnswered, IsReplyTo, answer_text};
 
 use crate::not_done::{NotDone, put_fault};
 use crate::server::Server;
 use crate::{
-    After, Executed, Handler, RequestWord, answer_lines, read_request, write_greeting, write_reply,
-    write_too_long,
+    After, Executed, Handler, RequestWord, Unread, answer_lines, read_request, write_greeting,
+    write_reply, write_unread,
 };
-use mk_lines::sink::write_parts;
+use mk_lines::sink::{write_all, write_parts};
 use mk_lines::{ByteSink, Fault};
 
 impl Server<'_> {
@@ -51,24 +51,24 @@ impl Server<'_> {
         }
     }
 
-    // Replies to a line that is no command.
-    fn answer_other<W: ByteSink>(&mut self, line: &[u8], out: &mut W) -> Result<After, Fault>
+    // Replies to a text that is no command.
+    fn answer_other<W: ByteSink>(&mut self, text: &[u8], out: &mut W) -> Result<After, Fault>
         requires { W.failed out.old ≡ false }
         ensures said { IfOk result (λ after. SaysOut (W.contents out.old) (W.contents out.new) (λ reply.
-            IsOtherAnswered (request_in line.now) self.old.opened self.old.session.shown reply after
+            IsOtherAnswered (request_in text.now) self.old.opened self.old.session.shown reply after
             self.new.session.shown)) }
         ensures opened { self.new.opened ≡ self.old.opened }
-        ensures quit { result ≡ Ok After.Ends → request_in line.now ≡ Some (Word RequestWord.Quit)
+        ensures quit { result ≡ Ok After.Ends → request_in text.now ≡ Some (Word RequestWord.Quit)
             → MayQuit self.old.is_warned (left_with self.old.opened self.old.written)
             self.new.session.shown.text }
-        ensures left { IsLeftBy self.old.opened (request_in line.now) self.new.session.shown.text
+        ensures left { IsLeftBy self.old.opened (request_in text.now) self.new.session.shown.text
             self.old.written self.new.written }
         ensures warned { self.new.is_warned ≡ true
-            → request_in line.now ≡ Some (Word RequestWord.Quit) }
+            → request_in text.now ≡ Some (Word RequestWord.Quit) }
         ensures fault { IfErr result (λ fault. (fault ≡ Fault.Write) × (W.failed out.new ≡ true)) }
         ensures works { OnOk result (W.failed out.new ≡ false) }
     {
-        let Some(request) = read_request(line) else {
+        let Some(request) = read_request(text) else {
             self.forget_quit();
             put_fault(NotDone::NotACommand, self.name().as_bytes(), out)?;
             return Ok(After::GoesOn);
@@ -78,23 +78,23 @@ impl Server<'_> {
         Ok(asked.after)
     }
 
-    // Replies to a line.
-    fn answer_to<W: ByteSink>(&mut self, line: &[u8], out: &mut W) -> Result<After, Fault>
+    // Replies to a text, which is a line, or a line and below it those of its blocks.
+    fn answer_to<W: ByteSink>(&mut self, text: &[u8], out: &mut W) -> Result<After, Fault>
         requires { W.failed out.old ≡ false }
         ensures said { IfOk result (λ after. SaysOut (W.contents out.old) (W.contents out.new) (λ reply.
-            IsHandled line.now self.old.opened self.old.session.shown reply after
+            IsHandled text.now self.old.opened self.old.session.shown reply after
             self.new.session.shown
-            × IsWarned (request_in line.now) reply self.old.is_warned self.new.is_warned
+            × IsWarned (request_in text.now) reply self.old.is_warned self.new.is_warned
             × (self.new.opened ≡ self.old.opened))) }
-        ensures quit { result ≡ Ok After.Ends → request_in line.now ≡ Some (Word RequestWord.Quit)
+        ensures quit { result ≡ Ok After.Ends → request_in text.now ≡ Some (Word RequestWord.Quit)
             → MayQuit self.old.is_warned (left_with self.old.opened self.old.written)
             self.new.session.shown.text }
         ensures fault { IfErr result (λ fault. (fault ≡ Fault.Write) × (W.failed out.new ≡ true)) }
         ensures works { OnOk result (W.failed out.new ≡ false) }
     {
-        let executed = self.execute(line);
+        let executed = self.execute(text);
         if executed == Executed::NoCommand {
-            return self.answer_other(line, out);
+            return self.answer_other(text, out);
         }
         write_reply(executed, out)?;
         Ok(After::GoesOn)
@@ -104,24 +104,30 @@ impl Server<'_> {
 impl Handler for Server<'_> {
     ghost greets = { λ _ text. text ≡ greeting };
 
-    ghost rejects = { λ old reply new. (reply ≡ too_long) × (new.session ≡ old.session)
+    ghost prompts = { λ _ text. text ≡ [] };
+
+    ghost rejects = { λ old why reply new. (reply ≡ unread_reply why) × (new.session ≡ old.session)
         × (new.opened ≡ old.opened) × (new.written ≡ old.written) × (new.is_warned ≡ false) };
 
-    ghost handles = { λ old line reply after new.
-        IsHandled line old.opened old.session.shown reply after new.session.shown
-        × IsWarned (request_in line) reply old.is_warned new.is_warned
+    ghost handles = { λ old text reply after new.
+        IsHandled text old.opened old.session.shown reply after new.session.shown
+        × IsWarned (request_in text) reply old.is_warned new.is_warned
         × (new.opened ≡ old.opened) };
 
     fn greet<W: ByteSink>(&self, out: &mut W) -> Result<(), Fault> {
         write_greeting(out)
     }
 
-    fn reject<W: ByteSink>(&mut self, out: &mut W) -> Result<(), Fault> {
-        self.forget_quit();
-        write_too_long(out)
+    fn prompt<W: ByteSink>(&self, out: &mut W) -> Result<(), Fault> {
+        write_all(out, b"")
     }
 
-    fn handle<W: ByteSink>(&mut self, line: &[u8], out: &mut W) -> Result<After, Fault> {
-        self.answer_to(line, out)
+    fn reject<W: ByteSink>(&mut self, why: Unread, out: &mut W) -> Result<(), Fault> {
+        self.forget_quit();
+        write_unread(why, out)
+    }
+
+    fn handle<W: ByteSink>(&mut self, text: &[u8], out: &mut W) -> Result<After, Fault> {
+        self.answer_to(text, out)
     }
 }

@@ -91,14 +91,14 @@ fn is_told(found: &ScriptMistake<'_>) -> bool {
     !matches!(found.mistake.cause, MistakeCause::UnknownCommand) || found.nearest.is_some()
 }
 
-/// What is wrong with a line that is no command, as the notes on a script say it. It is empty where the
-/// first word of the line is like that of no command.
+/// What is wrong with a text that is no command, as the notes on a script say it. It is empty where the
+/// first word of the text is like that of no command.
 ///
 /// # Errors
 ///
 /// Want of memory.
-pub fn mistake_sentence(alloc: Global, line: &[u8]) -> Result<String, AllocError> {
-    match script_mistake("", line, 1) {
+pub fn mistake_sentence(alloc: Global, text: &[u8]) -> Result<String, AllocError> {
+    match script_mistake("", text, 1) {
         Some(found) if is_told(&found) => {
             let column = found.mistake.column;
             format!(in alloc; "Column {column}: {found}\n")

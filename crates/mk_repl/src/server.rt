@@ -480,9 +480,9 @@ impl<'a> Server<'a> {
         }
     }
 
-    /// Executes the command of a line, if it is one.
-    pub fn execute(&mut self, line: &[u8]) -> Executed
-        ensures executed { IsLineExecuted line.now self.old.session.shown self.new.session.shown result }
+    /// Executes the command of a text, if it is one: a line, or a line and below it those of its blocks.
+    pub fn execute(&mut self, text: &[u8]) -> Executed
+        ensures executed { IsLineExecuted text.now self.old.session.shown self.new.session.shown result }
         ensures opened { self.new.opened ≡ self.old.opened }
         ensures written { self.new.written ≡ self.old.written }
         ensures warned { self.new.is_warned ≡ true
@@ -490,9 +490,9 @@ impl<'a> Server<'a> {
         ensures name { self.new.opened.name ≡ self.old.opened.name }
     {
         let mut made = EditMade(false);
-        let executed = execute_line(self.rt.alloc(), &mut self.session, line, &mut made);
+        let executed = execute_line(self.rt.alloc(), &mut self.session, text, &mut made);
         if executed == Executed::Done {
-            self.command_log.note(line, &made);
+            self.command_log.note(text, &made);
         }
         if matches!(executed, Executed::Done | Executed::Refused(_)) {
             self.is_warned = false;
@@ -500,7 +500,7 @@ impl<'a> Server<'a> {
         executed
     }
 
-    /// Takes note of a line that is neither a command nor a request: a `quit` behind it is the first one.
+    /// Takes note of a text that is neither a command nor a request: a `quit` behind it is the first one.
     pub(crate) fn forget_quit(&mut self)
         ensures session { self.new.session ≡ self.old.session }
         ensures opened { self.new.opened ≡ self.old.opened }

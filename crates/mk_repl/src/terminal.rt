@@ -1,7 +1,7 @@
 //! A makefile that is open at a terminal: a prompt before each line, and sentences for replies.
 //!
 //! This is a second handler, and not a second loop: the greeting is the first prompt, and each
-//! reply ends with the next one. An end of the input that does not end the session ends a talk, and
+//! reply ends with the next one. Before the line of a block stands a shorter prompt. An end of the input that does not end the session ends a talk, and
 //! another one begins. Which lines of a diff show an edit is told by the diff without colours: with
 //! colours a line begins with a sequence of the terminal.
 ghost use Rattle.std.specs.Prelude.{◌≡◌, ◌++◌, codes, false, true, ⊤, IfErr, IfOk, OnOk};
@@ -13,7 +13,9 @@ ghost use Rattle.mk_escape.specs.Escapes.{escaped};
 use crate::not_done::NotDone;
 use crate::sentences::{AS_IT_WAS, NO_MEMORY, TOO_LONG, changed_lines, mistake_sentence, sentence};
 use crate::server::Server;
-use crate::{After, Executed, Handler, Request, RequestOf, RequestWord, read_request, serve};
+use crate::{
+    After, Executed, Handler, Request, RequestOf, RequestWord, Unread, read_request, serve,
+};
 use mk_diff::{diff, patch_name, shown};
 use mk_escape::{Layout, escaped};
 use mk_lines::sink::{write_all, write_parts};
@@ -168,41 +170,41 @@ impl<'a> Terminal<'a> {
         }
     }
 
-    // That a line is neither a command nor a request, and what is wrong with it as a command.
-    fn no_command(&self, line: &[u8]) -> Result<Vec<u8>, NotDone> {
+    // That a text is neither a command nor a request, and what is wrong with it as a command.
+    fn no_command(&self, text: &[u8]) -> Result<Vec<u8>, NotDone> {
         let mut said = self.sentence(NotDone::NotACommand, b"")?;
-        let mistake = mistake_sentence(self.server.runtime().alloc(), line)?;
+        let mistake = mistake_sentence(self.server.runtime().alloc(), text)?;
         said.extend_from_slice(mistake.as_bytes())?;
         Ok(said)
     }
 
-    // What is said of a line that is no command.
-    fn said_of_other(&mut self, line: &[u8]) -> Result<Vec<u8>, NotDone> {
-        let request = match read_request(line) {
+    // What is said of a text that is no command.
+    fn said_of_other(&mut self, text: &[u8]) -> Result<Vec<u8>, NotDone> {
+        let request = match read_request(text) {
             Some(request) => Some(request),
-            None => usual_request(line),
+            None => usual_request(text),
         };
         match request {
             Some(request) => self.said_of(request),
             None => {
                 self.server.forget_quit();
-                self.no_command(line)
+                self.no_command(text)
             }
         }
     }
 
-    // What is said of a line.
-    fn said(&mut self, line: &[u8]) -> Result<Vec<u8>, NotDone> {
-        match self.server.execute(line) {
+    // What is said of a text, which is a line, or a line and below it those of its blocks.
+    fn said(&mut self, text: &[u8]) -> Result<Vec<u8>, NotDone> {
+        match self.server.execute(text) {
             Executed::Done => self.done(),
             Executed::Refused(Refusal::NoMemory) => Err(NotDone::NoMemory),
             Executed::Refused(refusal) => self.sentence(NotDone::Refused(refusal), b""),
             Executed::Nothing => Ok(Vec::new(self.server.runtime().alloc())),
-            Executed::NoCommand => self.said_of_other(line),
+            Executed::NoCommand => self.said_of_other(text),
         }
     }
 
-    // Says what is to be said of a line, and the next prompt if the session goes on.
+    // Says what is to be said of a text, and the next prompt if the session goes on.
     fn put_said<W: ByteSink>(
         &self,
         said: Result<Vec<u8>, NotDone>,
@@ -256,13 +258,21 @@ impl Handler for Terminal<'_> {
         self.put_prompt(b"", out)
     }
 
-    fn reject<W: ByteSink>(&mut self, out: &mut W) -> Result<(), Fault> {
-        self.server.forget_quit();
-        self.put_prompt(TOO_LONG, out)
+    fn prompt<W: ByteSink>(&self, out: &mut W) -> Result<(), Fault> {
+        write_all(out, b"> ")
     }
 
-    fn handle<W: ByteSink>(&mut self, line: &[u8], out: &mut W) -> Result<After, Fault> {
-        let said = self.said(line);
+    fn reject<W: ByteSink>(&mut self, why: Unread, out: &mut W) -> Result<(), Fault> {
+        self.server.forget_quit();
+        let sentence = match why {
+            Unread::TooLong => TOO_LONG,
+            Unread::NoMemory => NO_MEMORY.as_bytes(),
+        };
+        self.put_prompt(sentence, out)
+    }
+
+    fn handle<W: ByteSink>(&mut self, text: &[u8], out: &mut W) -> Result<After, Fault> {
+        let said = self.said(text);
         self.put_said(said, out)
     }
 }

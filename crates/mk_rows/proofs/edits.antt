@@ -7,6 +7,3 @@ mod CornerEdits
 mod WordEdits
 mod EveryValue
 mod FurtherEdits
-mod LineRuns
-mod EachOutcomes
-mod EachLine

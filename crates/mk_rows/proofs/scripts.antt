@@ -6,3 +6,4 @@ mod RandomScripts
 mod CornerScripts
 mod AlternativeScripts
 mod FurtherScripts
+mod BlockScripts

@@ -5,4 +5,4 @@ pub mod on_commands
 -- Lines and scripts
 pub mod on_scripts
 -- What is written is read
-mod WrittenLemmas
+pub mod on_written

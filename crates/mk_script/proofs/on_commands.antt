@@ -1,7 +1,11 @@
 pub mod TableLemmas
 pub mod BlockLemmas
+pub mod TextContents
 pub mod ReadLemmas
 pub mod WrittenLemmas
+pub mod FilledLemmas
+pub mod PlainLemmas
 pub mod SayingLemmas
+pub mod WordLemmas
 pub mod AllLemmas
 pub mod FirstLemmas

@@ -3,3 +3,7 @@ pub mod WrittenLemmas
 pub mod NumberLemmas
 pub mod BlankLemmas
 pub mod FirstLemmas
+pub mod LinesLemmas
+pub mod EndWords
+pub mod BlockTexts
+pub mod EndedLines

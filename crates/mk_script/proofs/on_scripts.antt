@@ -1,6 +1,6 @@
 pub mod LineLemmas
-pub mod SaidLemmas
 pub mod GroupLemmas
+pub mod SaidLemmas
 pub mod AddLemmas
 pub mod ScriptLemmas
 pub mod OneLemmas

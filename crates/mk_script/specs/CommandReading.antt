@@ -1,13 +1,12 @@
 -- How the fields of a line are read: which command they are, and what the line says.
 -- Told in docs/ARCHITECTURE.md, "From a script to a text".
 use Rattle.std.specs.Prelude.{ℕ, ◌-◌, true, false, List, [], ◌∷◌, length, take, drop, Option, Some, None, option_map, option_and_then}
-use Rattle.mk_edit_language.specs.Edits.{Place, Bottom, BeforeVar, AfterVar, BeforeRule, Site, Top, AtPlace, BeforeRun, AfterRun, OfRun, NewLine, NewAssign, NewRule, Which, One, Every, Set, Append, Add, Remove, LineChange, Prepend, ReplaceWord, InsertWord, Substitute, SetOperator, AddPrereq, RemovePrereq, ByNumber, ByText, Last, At, OfAssign, OfRule, OfRecipe, Edit, ChangeValue, ChangeLine, ChangePrereqs, AddLine, AddRecipe, SetRecipe, RemoveLines, RenameTarget, ExchangeLines}
+use Rattle.mk_edit_language.specs.Edits.{Place, Bottom, BeforeVar, AfterVar, BeforeRule, Site, Top, AtPlace, BeforeRun, AfterRun, OfRun, NewLine, NewAssign, NewRule, Which, One, Every, Set, Append, Add, Remove, LineChange, Prepend, ReplaceWord, InsertWord, Substitute, SetOperator, ChangeEach, SubstValues, SubstRecipe, SubstRecipes, AddPrereq, RemovePrereq, ByNumber, ByText, Last, At, OfAssign, OfRule, OfRecipe, Edit, ChangeValue, ChangeLine, ChangePrereqs, AddLine, AddRecipe, SetRecipe, RemoveLines, RenameTarget, ExchangeLines, EachLine}
 use Rattle.mk_edit_language.specs.declared.edit.Side.TheVariants.{Before, After}
 use Rattle.mk_edit_language.specs.LineRuns.{block_lines}
 use Rattle.mk_history.specs.Machine.{Command, Apply, Undo, Redo, Begin, End, Cancel}
 use Rattle.mk_script.specs.Lines.{Saying, Plain, Try, Or}
 use Rattle.mk_script.specs.Numbers.{number}
-use Rattle.mk_script.specs.FieldReading.{fields_within}
 use Rattle.mk_script.specs.WordReading.{named, words, places, operators, separators}
 use Rattle.mk_script.specs.declared.table.Word.{Word}
 use Rattle.mk_script.specs.declared.table.Word.TheVariants as word
@@ -128,6 +127,14 @@ change_line nth w fields =
     option_and_then (λ p. option_map (λ c. ChangeLine nth p.0 c) (line_change w p.1))
     (front fields)
 
+-- the same of each assignment of a name; no word goes beside others in each
+abbrev pub change_each : Word → Texts → Option Edit
+change_each word.AddBefore fields = None
+change_each word.AddAfter fields = None
+change_each w fields =
+    option_and_then (λ p. option_map (λ c. EachLine (ChangeEach p.0 c)) (line_change w p.1))
+    (front fields)
+
 -- an exchange of whole lines, by its word and the fields behind it; by another word a change of the
 -- line of an assignment
 abbrev pub exchange_lines : (nth : Option ℕ) → Word → Texts → Option Edit
@@ -152,9 +159,20 @@ recipe_edit nth word.RecipeReplace fields =
     option_map (λ p. SetRecipe nth p.0 (ByText p.1) p.2) (three fields)
 recipe_edit nth word.RecipeRemove fields =
     option_map (λ p. RemoveLines (OfRecipe nth p.0 (ByText p.1))) (two fields)
+recipe_edit nth word.RecipeSubst fields =
+    option_map (λ p. EachLine (SubstRecipe nth p.0 p.1 p.2)) (three fields)
 recipe_edit nth w fields = exchange_lines nth w fields
 
--- an edit before which a number may stand; none stands before a rename
+-- an edit before which no number may stand
+abbrev pub plain_edit : (nth : Option ℕ) → Word → Texts → Option Edit
+plain_edit None word.Rename fields = option_map (λ p. RenameTarget p.0 p.1) (two fields)
+plain_edit None word.ValuesSubst fields =
+    option_map (λ p. EachLine (SubstValues p.0 p.1)) (two fields)
+plain_edit None word.RecipesSubst fields =
+    option_map (λ p. EachLine (SubstRecipes p.0 p.1)) (two fields)
+plain_edit nth w fields = None
+
+-- an edit of one line, or one that may have no number before it
 abbrev pub line_edit : (nth : Option ℕ) → Word → Texts → Option Edit
 line_edit nth word.Unset fields = option_map (λ name. RemoveLines (OfAssign nth name)) (one fields)
 line_edit nth word.Assign fields = add_line nth new_assign fields
@@ -166,8 +184,9 @@ line_edit nth word.DependOrder fields =
     option_map (λ p. ChangePrereqs nth p.0 (AddPrereq true p.1)) (two fields)
 line_edit nth word.Undepend fields =
     option_map (λ p. ChangePrereqs nth p.0 (RemovePrereq p.1)) (two fields)
-line_edit None word.Rename fields = option_map (λ p. RenameTarget p.0 p.1) (two fields)
-line_edit (Some n) word.Rename fields = None
+line_edit nth word.Rename fields = plain_edit nth word.Rename fields
+line_edit nth word.ValuesSubst fields = plain_edit nth word.ValuesSubst fields
+line_edit nth word.RecipesSubst fields = plain_edit nth word.RecipesSubst fields
 line_edit nth w fields = recipe_edit nth w fields
 
 -- an edit of one line, or of every assignment of a name
@@ -179,7 +198,7 @@ edit_with which word.Add fields = option_map (λ p. ChangeValue which p.0 (Add p
 edit_with which word.Drop fields =
     option_map (λ p. ChangeValue which p.0 (Remove p.1)) (two fields)
 edit_with (One nth) w fields = line_edit nth w fields
-edit_with Every w fields = None
+edit_with Every w fields = change_each w fields
 
 abbrev pub edit_by : Which → Texts → Option Edit
 edit_by which fields = option_and_then (λ p. edit_with which p.0 p.1) (worded fields)
@@ -218,7 +237,3 @@ saying_after w fields = option_map Plain (command_after w fields)
 -- what fields say
 abbrev pub saying_in : Texts → Option Saying
 saying_in fields = option_and_then (λ p. saying_after p.0 p.1) (worded fields)
-
--- what a line that is not skipped says. No command has more than nine fields.
-abbrev pub saying : List ℕ → Option Saying
-saying line = option_and_then saying_in (fields_within 9 line)

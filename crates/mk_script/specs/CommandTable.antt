@@ -2,11 +2,13 @@
 -- Told in docs/EDITS.md, "The script".
 use Rattle.std.specs.Prelude.{◌≡◌, ℕ, Bool, true, false, List, [], ◌∷◌, ◌++◌, map, Option, Some, None, codes}
 use Rattle.mk_class.specs.OperatorTexts.{operator_text}
-use Rattle.mk_edit_language.specs.Edits.{Place, Bottom, BeforeVar, AfterVar, BeforeRule, Site, Top, AtPlace, BeforeRun, AfterRun, OfRun, NewAssign, NewRule, One, Every, ValueChange, Set, Append, Add, Remove, LineChange, Prepend, ReplaceWord, InsertWord, Substitute, SetOperator, AddPrereq, RemovePrereq, ByNumber, ByText, Last, At, OfAssign, OfRule, OfRecipe, Edit, ChangeValue, ChangeLine, ChangePrereqs, AddLine, AddRecipe, SetRecipe, RemoveLines, RenameTarget, ExchangeLines}
+use Rattle.mk_edit_language.specs.Edits.{Place, Bottom, BeforeVar, AfterVar, BeforeRule, Site, Top, AtPlace, BeforeRun, AfterRun, OfRun, NewAssign, NewRule, One, Every, ValueChange, Set, Append, Add, Remove, LineChange, Prepend, ReplaceWord, InsertWord, Substitute, SetOperator, EachEdit, ChangeEach, SubstValues, SubstRecipe, SubstRecipes, AddPrereq, RemovePrereq, ByNumber, ByText, Last, At, OfAssign, OfRule, OfRecipe, Edit, ChangeValue, ChangeLine, ChangePrereqs, AddLine, AddRecipe, SetRecipe, RemoveLines, RenameTarget, ExchangeLines, EachLine}
 use Rattle.mk_edit_language.specs.declared.edit.Side.TheVariants.{Before, After}
 use Rattle.mk_edit_language.specs.LineRuns.{block_lines}
 use Rattle.mk_edit_language.specs.NewLines.{rule_separator_text}
 use Rattle.mk_history.specs.Machine.{Command, Apply, Undo, Redo, Begin, End, Cancel}
+use Rattle.mk_script.specs.Fields.{Field, text}
+use Rattle.mk_script.specs.Blocks.{HasBlockText}
 use Rattle.mk_script.specs.Numbers.{number}
 
 -- what a field of a command has: a text; a number, which stands there in digits; or the lines of a
@@ -82,6 +84,16 @@ exchange_fields (OfRun nth old) [] = after_nth nth (Text (codes "line-remove") �
 exchange_fields (OfRun nth old) (line ∷ lines) =
     after_nth nth (Text (codes "line-replace") ∷ Block old ∷ Block (line ∷ lines) ∷ [])
 
+-- the fields of an edit of several lines; no command puts a word beside another one in each value, so that
+-- has fields that no line has: an insert without a new line
+abbrev pub each_fields : EachEdit → List Content
+each_fields (ChangeEach name (InsertWord side word new)) = exchange_fields Top []
+each_fields (ChangeEach name change) = texts (codes "all" ∷ line_change_words name change)
+each_fields (SubstValues from to) = texts (codes "values-subst" ∷ from ∷ to ∷ [])
+each_fields (SubstRecipe nth target from to) =
+    after_nth nth (texts (codes "recipe-subst" ∷ target ∷ from ∷ to ∷ []))
+each_fields (SubstRecipes from to) = texts (codes "recipes-subst" ∷ from ∷ to ∷ [])
+
 -- ---- the table
 
 -- the fields of a command
@@ -121,25 +133,31 @@ command_fields (Apply (RemoveLines (OfRecipe nth target (ByText old)))) =
     after_nth nth (texts (codes "recipe-remove" ∷ target ∷ old ∷ []))
 command_fields (Apply (RenameTarget old new)) = texts (codes "rename" ∷ old ∷ new ∷ [])
 command_fields (Apply (ExchangeLines site new)) = exchange_fields site new
+command_fields (Apply (EachLine e)) = each_fields e
 command_fields Undo = texts (codes "undo" ∷ [])
 command_fields Redo = texts (codes "redo" ∷ [])
 command_fields Begin = texts (codes "begin" ∷ [])
 command_fields End = texts (codes "end" ∷ [])
 command_fields Cancel = texts (codes "cancel" ∷ [])
 
--- a field of a line has this
-abbrev Has : (field : List ℕ) → Content → Type 0
-Has field (Text t) = field ≡ t
-Has field (Number n) = number field ≡ Some n
-Has field (Block lines) = block_lines field ≡ lines
+-- A field with these lines below it has this. Only a block has lines below its field.
+abbrev Has : Field → (below : List (List ℕ)) → Content → Type 0
+Has field below (Text t) = (below ≡ []) × (text field ≡ t)
+Has field below (Number n) = (below ≡ []) × (number (text field) ≡ Some n)
+Has field below (Block lines) =
+    (t : List ℕ) × HasBlockText field below t × (block_lines t ≡ lines)
 
--- fields of a line have these, each in its place
-abbrev pub HaveContents : (fields : List (List ℕ)) → List Content → Type 0
-HaveContents [] [] = Unit {0}
-HaveContents [] (c ∷ contents) = ⊥
-HaveContents (field ∷ fields) [] = ⊥
-HaveContents (field ∷ fields) (c ∷ contents) = Has field c × HaveContents fields contents
+-- Fields with these lines below them have these, each in its place. The lines of a field come before
+-- those of the next field.
+abbrev pub HaveContents : (fields : List Field) → (below : List (List ℕ)) → List Content → Type 0
+HaveContents [] below [] = below ≡ []
+HaveContents [] below (c ∷ contents) = ⊥
+HaveContents (field ∷ fields) below [] = ⊥
+HaveContents (field ∷ fields) below (c ∷ contents) =
+    (first : List (List ℕ)) × (others : List (List ℕ)) × (below ≡ first ++ others)
+    × Has field first c
+    × HaveContents fields others contents
 
--- some fields are this command
-abbrev pub IsCommand : (fields : List (List ℕ)) → Command Edit → Type 0
-IsCommand fields command = HaveContents fields (command_fields command)
+-- some fields with these lines below them are this command
+abbrev pub IsCommand : (fields : List Field) → (below : List (List ℕ)) → Command Edit → Type 0
+IsCommand fields below command = HaveContents fields below (command_fields command)

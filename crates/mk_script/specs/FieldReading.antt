@@ -3,7 +3,7 @@
 use Rattle.std.specs.Prelude.{◌≡◌, ℕ, zero, suc, Bool, true, false, not, ◌==◌, if◌then◌else◌, List, [], ◌∷◌, take, drop, Option, Some, None, option_map, option_and_then}
 use Rattle.std.specs.List.{prefix_len}
 use Rattle.mk_lines.specs.Bytes.{is_blank_byte}
-use Rattle.mk_script.specs.Fields.{is_special, escaped}
+use Rattle.mk_script.specs.Fields.{Field, Bare, Quoted, is_special, escaped}
 
 -- ---- blanks
 
@@ -61,29 +61,31 @@ until_quote false (b ∷ text) =
 
 -- a quoted field, from what stands between its quotes and what follows them, which has to end the
 -- field
-abbrev pub quoted_field : Option (List ℕ × List ℕ) → Option (List ℕ × List ℕ)
+abbrev pub quoted_field : Option (List ℕ × List ℕ) → Option (Field × List ℕ)
 quoted_field None = None
-quoted_field (Some p) = if ends_field p.1 then Some (unescaped false p.0, p.1) else None
+quoted_field (Some p) =
+    if ends_field p.1 then Some (Quoted (unescaped false p.0), p.1) else None
 
 -- the field at the front of a text, and what follows it
-abbrev pub field_at_front : List ℕ → Option (List ℕ × List ℕ)
+abbrev pub field_at_front : List ℕ → Option (Field × List ℕ)
 field_at_front [] = None
 field_at_front (b ∷ text) =
     if b == 34
     then quoted_field (until_quote false text)
-    else Some (take (bare_len (b ∷ text)) (b ∷ text), drop (bare_len (b ∷ text)) (b ∷ text))
+    else Some
+    (Bare (take (bare_len (b ∷ text)) (b ∷ text)), drop (bare_len (b ∷ text)) (b ∷ text))
 
 -- the first field of a line, and what follows it; None if the line has only blanks, or if a quote
 -- is bad
-abbrev pub first_field : List ℕ → Option (List ℕ × List ℕ)
+abbrev pub first_field : List ℕ → Option (Field × List ℕ)
 first_field line = field_at_front (after_blanks line)
 
 -- the fields of a line that has at most so many
-abbrev pub fields_within : (most : ℕ) → (line : List ℕ) → Option (List (List ℕ))
+abbrev pub fields_within : (most : ℕ) → (line : List ℕ) → Option (List Field)
 fields_within zero line = if is_blank line then Some [] else None
 fields_within (suc most) line =
     if is_blank line
     then Some []
     else option_and_then
-    (λ (p : List ℕ × List ℕ). option_map (λ fields. p.0 ∷ fields) (fields_within most p.1))
+    (λ (p : Field × List ℕ). option_map (λ fields. p.0 ∷ fields) (fields_within most p.1))
     (first_field line)

@@ -1,6 +1,6 @@
 -- The fields of a line of a script, and how they are written in it.
 -- Told in docs/EDITS.md, "The script".
-use Rattle.std.specs.Prelude.{◌≡◌, ◌⊎◌, ℕ, Bool, true, false, not, ◌==◌, ◌||◌, if◌then◌else◌, List, [], ◌∷◌, ◌++◌}
+use Rattle.std.specs.Prelude.{◌≡◌, ℕ, Bool, true, false, not, ◌==◌, ◌||◌, if◌then◌else◌, List, [], ◌∷◌, ◌++◌}
 use Rattle.mk_lines.specs.Lists.{Each}
 use Rattle.mk_lines.specs.Bytes.{is_blank_byte}
 
@@ -24,9 +24,20 @@ abbrev pub IsBare : List ℕ → Type 0
 IsBare [] = ⊥
 IsBare (b ∷ field) = ((b == 34) ≡ false) × Each (λ c. not (is_blank_byte c)) (b ∷ field)
 
--- a field is written as it is, or between quotes
-abbrev pub IsWritten : (written field : List ℕ) → Type 0
-IsWritten written field = (IsBare field × (written ≡ field)) ⊎ (written ≡ quoted field)
+-- a field of a line: it is written as it is, or between quotes
+pub data Field : Type 0 where
+  Bare : List ℕ → Field
+  Quoted : List ℕ → Field
+
+-- its text
+abbrev pub text : Field → List ℕ
+text (Bare t) = t
+text (Quoted t) = t
+
+-- how a field is written
+abbrev pub IsWritten : (written : List ℕ) → Field → Type 0
+IsWritten written (Bare t) = IsBare t × (written ≡ t)
+IsWritten written (Quoted t) = written ≡ quoted t
 
 -- ---- the fields of a line
 
@@ -36,7 +47,7 @@ EndsField [] = Unit {0}
 EndsField (b ∷ line) = is_blank_byte b ≡ true
 
 -- A line is blanks, a written field, and a rest that is empty or begins with a blank.
-pub record BeginsWithField (line field rest : List ℕ) : Type 0 where
+pub record BeginsWithField (line : List ℕ) (field : Field) (rest : List ℕ) : Type 0 where
   pub blanks : List ℕ
   pub written : List ℕ
   pub are_blanks : Each is_blank_byte blanks
@@ -46,7 +57,7 @@ pub record BeginsWithField (line field rest : List ℕ) : Type 0 where
 
 -- A line has these fields, in this order, with blanks between them, and perhaps before and after
 -- them.
-abbrev pub HasFields : (line : List ℕ) → (fields : List (List ℕ)) → Type 0
+abbrev pub HasFields : (line : List ℕ) → (fields : List Field) → Type 0
 HasFields line [] = Each is_blank_byte line
 HasFields line (field ∷ fields) =
     (rest : List ℕ) × BeginsWithField line field rest × HasFields rest fields

@@ -1,12 +1,12 @@
 -- The first commands: those that each script could have before there were others. This table stays as
 -- it is when the table of commands grows.
 -- Told in docs/EDITS.md, "The script".
-use Rattle.std.specs.Prelude.{ℕ, true, false, List, [], ◌∷◌, Option, Some, None, IsSomeAnd, codes}
+use Rattle.std.specs.Prelude.{◌≡◌, ℕ, true, false, List, [], ◌∷◌, Option, Some, None, IsSomeAnd, codes}
 use Rattle.mk_class.specs.OperatorTexts.{operator_text}
 use Rattle.mk_edit_language.specs.Edits.{Bottom, BeforeVar, AfterVar, BeforeRule, NewLine, NewAssign, NewRule, One, Set, Append, AddPrereq, RemovePrereq, ByNumber, Last, OfAssign, OfRule, OfRecipe, Edit, ChangeValue, ChangePrereqs, AddLine, AddRecipe, SetRecipe, RemoveLines, RenameTarget}
 use Rattle.mk_edit_language.specs.NewLines.{rule_separator_text}
 use Rattle.mk_history.specs.Machine.{Command, Apply, Undo, Redo, Begin, End, Cancel}
-use Rattle.mk_script.specs.Fields.{HasFields}
+use Rattle.mk_script.specs.Fields.{Field, HasFields}
 use Rattle.mk_script.specs.CommandTable.{Content, Text, Number, texts, HaveContents}
 use Rattle.mk_script.specs.Lines.{script_lines}
 use Rattle.mk_script.specs.Scripts.{CommandAt}
@@ -66,12 +66,12 @@ first_fields Cancel = row None (texts (codes "cancel" ∷ []))
 first_fields command = None
 
 -- the fields of a line are a first command
-abbrev pub IsFirstCommand : (fields : List (List ℕ)) → Command Edit → Type 0
-IsFirstCommand fields command = IsSomeAnd (first_fields command) (HaveContents fields)
+abbrev pub IsFirstCommand : (fields : List Field) → Command Edit → Type 0
+IsFirstCommand fields command = IsSomeAnd (first_fields command) (HaveContents fields [])
 
-abbrev pub HasFirstCommand : (line : List ℕ) → Command Edit → Type 0
-HasFirstCommand line command =
-    (fields : List (List ℕ)) × HasFields line fields × IsFirstCommand fields command
+abbrev pub HasFirstCommand : (line : List ℕ) → (block : List (List ℕ)) → Command Edit → Type 0
+HasFirstCommand line block command =
+    (block ≡ []) × ((fields : List Field) × HasFields line fields × IsFirstCommand fields command)
 
 -- the first commands of a script that has no others; its lines are counted from 1
 abbrev pub IsScriptOfFirstCommands : (script : List ℕ) → List CommandAt → Type 0

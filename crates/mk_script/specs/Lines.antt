@@ -6,7 +6,7 @@ use Rattle.mk_lines.specs.Lists.{Each}
 use Rattle.mk_lines.specs.Bytes.{is_blank_byte}
 use Rattle.mk_edit_language.specs.Edits.{Edit}
 use Rattle.mk_history.specs.Machine.{Command, Apply}
-use Rattle.mk_script.specs.Fields.{HasFields}
+use Rattle.mk_script.specs.Fields.{Field, text, HasFields}
 use Rattle.mk_script.specs.CommandTable.{IsCommand}
 
 -- the lines of a script, without their line ends, which are LF or CR LF
@@ -22,10 +22,10 @@ IsComment (b ∷ line) = b ≡ 35
 abbrev pub IsSkipped : List ℕ → Type 0
 IsSkipped line = IsComment line ⊎ Each is_blank_byte line
 
--- the fields of a line are a command
-abbrev pub HasCommand : (line : List ℕ) → Command Edit → Type 0
-HasCommand line command =
-    (fields : List (List ℕ)) × HasFields line fields × IsCommand fields command
+-- the fields of a line, with these lines of their blocks below it, are a command
+abbrev pub HasCommand : (line : List ℕ) → (block : List (List ℕ)) → Command Edit → Type 0
+HasCommand line block command =
+    (fields : List Field) × HasFields line fields × IsCommand fields block command
 
 -- ---- what a line says
 
@@ -35,13 +35,14 @@ pub data Saying : Type 0 where
   Try : Edit → Saying
   Or : Edit → Saying
 
--- the fields of a line are a word and an edit's command
-abbrev pub HasEditAfter : (word : List ℕ) → (line : List ℕ) → Edit → Type 0
-HasEditAfter word line e =
-    (fields : List (List ℕ)) × HasFields line (word ∷ fields) × IsCommand fields (Apply e)
+-- the fields of a line are a word and, with these lines of their blocks below it, an edit's command
+abbrev pub HasEditAfter : (word line : List ℕ) → (block : List (List ℕ)) → Edit → Type 0
+HasEditAfter word line block e =
+    (field : Field) × (fields : List Field) × (text field ≡ word) × HasFields line (field ∷ fields)
+    × IsCommand fields block (Apply e)
 
--- a line says this
-abbrev pub Says : (line : List ℕ) → Saying → Type 0
-Says line (Plain command) = HasCommand line command
-Says line (Try e) = HasEditAfter (codes "try") line e
-Says line (Or e) = HasEditAfter (codes "or") line e
+-- a line, with exactly these lines of its blocks below it, says this
+abbrev pub Says : (line : List ℕ) → (block : List (List ℕ)) → Saying → Type 0
+Says line block (Plain command) = HasCommand line block command
+Says line block (Try e) = HasEditAfter (codes "try") line block e
+Says line block (Or e) = HasEditAfter (codes "or") line block e

@@ -1,6 +1,6 @@
 -- What the readers of a line answer.
 -- Told in docs/ARCHITECTURE.md, "From a script to a text".
-use Rattle.std.specs.Prelude.{◌≡◌, ℕ, Bool, true, false, ◌||◌, ◌==◌, List, [], ◌∷◌, ◌++◌, Option, Some, None, Result, Ok, Err, Vec, is_some}
+use Rattle.std.specs.Prelude.{◌≡◌, ℕ, Bool, true, false, ◌||◌, ◌==◌, List, [], ◌∷◌, ◌++◌, length, Option, Some, None, Result, Ok, Err, Vec, is_some}
 use Rattle.mk_edit_language.specs.Edits as edits
 use Rattle.mk_history.specs.Machine.{Apply}
 use Rattle.mk_script.specs.Lines.{Saying}
@@ -26,6 +26,20 @@ is_short NoMemory = true
 abbrev pub IsRead : {V X : Type 0} → (seen : V → X) → Option X → Result V LineFault → Type 0
 IsRead seen stands (Ok v) = stands ≡ Some (seen v)
 IsRead seen stands (Err fault) = is_some stands ≡ is_short fault
+
+-- A reader that takes lines answers what stands there, and leaves the lines behind that; or nothing stands
+-- there.
+abbrev pub TakesLines : {V X E : Type 0} → (seen : V → X) → Option (X × List (List ℕ)) → Result V E
+    → (left : List (List ℕ)) → Type 0
+TakesLines seen stands (Ok v) left = stands ≡ Some (seen v, left)
+TakesLines seen stands (Err e) left = stands ≡ None
+
+-- Lines were passed up to a word, and these are left; so many stood before the word. Or there is no such
+-- line.
+abbrev pub Passes : Option (List (List ℕ) × List (List ℕ)) → Option ℕ → (left : List (List ℕ)) → Type 0
+Passes stands None left = stands ≡ None
+Passes stands (Some count) left =
+    (lines : List (List ℕ)) × (stands ≡ Some (lines, left)) × (count ≡ length lines)
 
 -- which assignments an edit means
 abbrev pub which_of : Which → edits.Which
@@ -73,6 +87,19 @@ Adds old n stands new (Err NotACommand) =
     → SayMore old (record { line = n; saying = x }) others → ⊥
 Adds old n stands new (Err NoMemory) =
     (x : Saying) × (stands ≡ Some x)
+    × ((others : List Step) × SayMore old (record { line = n; saying = x }) others)
+
+-- The same of a line and the lines below it, of which these are left.
+abbrev pub AddsLine : (old : List Step) → (number : ℕ) → Option (Saying × List (List ℕ))
+    → (new : List Step) → Result (Unit {0}) LineFault → (left : List (List ℕ)) → Type 0
+AddsLine old n stands new (Ok u) left =
+    (x : Saying) × (stands ≡ Some (x, left))
+    × SayMore old (record { line = n; saying = x }) new
+AddsLine old n stands new (Err NotACommand) left =
+    (x : Saying) (rest : List (List ℕ)) → stands ≡ Some (x, rest) → (others : List Step)
+    → SayMore old (record { line = n; saying = x }) others → ⊥
+AddsLine old n stands new (Err NoMemory) left =
+    (x : Saying) × (stands ≡ Some (x, left))
     × ((others : List Step) × SayMore old (record { line = n; saying = x }) others)
 
 -- A value was put behind others, if memory was found for it.

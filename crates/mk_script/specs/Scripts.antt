@@ -1,7 +1,8 @@
 -- What a script says: its steps with the numbers of their lines, or its first line that is no
 -- command.
 -- Told in docs/EDITS.md, "Running a script" and "The script".
-use Rattle.std.specs.Prelude.{◌≡◌, ◌⊎◌, ℕ, ◌+◌, List, [], ◌∷◌, ◌++◌, length, map}
+use Rattle.std.specs.Prelude.{◌≡◌, ℕ, ◌+◌, List, [], ◌∷◌, ◌++◌, length, map}
+use Rattle.std.specs.List.{AllByRecursion}
 use Rattle.mk_lines.specs.Lists.{concat}
 use Rattle.mk_edit_language.specs.Edits.{Edit}
 use Rattle.mk_edit_language.specs.EditViews.{edit_of}
@@ -54,15 +55,31 @@ sayings_of (Chain first second others) =
 abbrev pub sayings : List Step → List SayingAt
 sayings steps = concat (map sayings_of steps)
 
--- Lines, the first of which has this number, say this, each with its number; every other line is
--- skipped.
-abbrev pub AreSaid : (number : ℕ) → (lines : List (List ℕ)) → List SayingAt → Type 0
-AreSaid n [] [] = Unit {0}
-AreSaid n [] (x ∷ said) = ⊥
-AreSaid n (line ∷ lines) [] = IsSkipped line × AreSaid (n + 1) lines []
-AreSaid n (line ∷ lines) (x ∷ said) =
-    (IsSkipped line × AreSaid (n + 1) lines (x ∷ said))
-    ⊎ ((x.line ≡ n) × Says line x.saying × AreSaid (n + 1) lines said)
+-- Some lines, the first of which has the number `n`, begin with this, and with lines that are skipped
+-- before it. `Says` tells what a line says with the lines of its blocks below it.
+pub record BeginWith {X : Type 0} (Says : (line : List ℕ) → (block : List (List ℕ)) → X → Type 0)
+    (line_of : X → ℕ) (n : ℕ) (lines : List (List ℕ)) (x : X) : Type 0 where
+  pub skipped : List (List ℕ)
+  pub line : List ℕ
+  pub block : List (List ℕ)
+  pub rest : List (List ℕ)
+  pub lines_are : lines ≡ skipped ++ line ∷ (block ++ rest)
+  pub are_skipped : AllByRecursion IsSkipped skipped
+  pub number_is : line_of x ≡ n + length skipped
+  pub says : Says line block x
+
+-- Some lines, the first of which has the number `n`, say these things, each with its number; every other
+-- line is skipped, or is a line of a block.
+abbrev pub AreAll : {X : Type 0} → (Says : (line : List ℕ) → (block : List (List ℕ)) → X → Type 0)
+    → (line_of : X → ℕ) → (n : ℕ) → (lines : List (List ℕ)) → List X → Type 0
+AreAll Says line_of n lines [] = AllByRecursion IsSkipped lines
+AreAll Says line_of n lines (x ∷ xs) =
+    (first : BeginWith Says line_of n lines x)
+    × AreAll Says line_of (line_of x + 1 + length first.block) first.rest xs
+
+-- some lines say this
+abbrev pub AreSaid : (n : ℕ) → (lines : List (List ℕ)) → List SayingAt → Type 0
+AreSaid n lines said = AreAll (λ line block (x : SayingAt). Says line block x.saying) (λ (x : SayingAt). x.line) n lines said
 
 -- some lines are these steps; they are counted from 1
 abbrev pub AreSteps : (lines : List (List ℕ)) → List Step → Type 0
@@ -74,9 +91,10 @@ IsScript script steps = AreSteps (script_lines script) steps
 
 -- ---- a line that is no command
 
--- The lines before the line of this number, from 1, are steps, and the lines up to it have this
--- property.
-pub record IsReached (Property : (before : List (List ℕ)) → (line : List ℕ) → Type 0)
+-- The lines before the line of this number, from 1, are steps, and this is so of them, the line and the
+-- lines below it.
+pub record IsReached
+    (Property : (before : List (List ℕ)) → (line : List ℕ) → (after : List (List ℕ)) → Type 0)
     (script : List ℕ) (number : ℕ) : Type 0 where
   pub before : List (List ℕ)
   pub line : List ℕ
@@ -85,22 +103,27 @@ pub record IsReached (Property : (before : List (List ℕ)) → (line : List ℕ
   pub number_is : number ≡ length before + 1
   pub steps : List Step
   pub are : AreSteps before steps
-  pub property : Property before line
+  pub property : Property before line after
 
--- The lines before the line of this number are steps, and together with it they are no steps.
+-- The lines before the line of this number are steps, and together with it, and with any lines directly
+-- below it as the lines of its blocks, they are no steps.
 abbrev pub HasNoCommand : (script : List ℕ) → (number : ℕ) → Type 0
 HasNoCommand script number =
-    IsReached (λ before line. (steps : List Step) → AreSteps (before ++ line ∷ []) steps → ⊥) script
-    number
+    IsReached
+    (λ before line after.
+    (block rest : List (List ℕ)) (steps : List Step) → after ≡ block ++ rest
+    → AreSteps (before ++ line ∷ block) steps → ⊥)
+    script number
 
--- The lines before the line of this number are steps, the line says something, and together with it
--- they are steps.
-abbrev ReachesCommand : (script : List ℕ) → (number : ℕ) → Type 0
+-- The lines before the line of this number are steps; the line, with lines directly below it, says
+-- something; and together with these they are steps.
+abbrev pub ReachesCommand : (script : List ℕ) → (number : ℕ) → Type 0
 ReachesCommand script number =
     IsReached
-    (λ before line.
-    ((saying : Saying) × Says line saying)
-    × ((steps : List Step) × AreSteps (before ++ line ∷ []) steps))
+    (λ before line after.
+    (block : List (List ℕ)) × (rest : List (List ℕ)) × (after ≡ block ++ rest)
+    × ((saying : Saying) × Says line block saying)
+    × ((steps : List Step) × AreSteps (before ++ line ∷ block) steps))
     script number
 
 -- ---- what the code gives

@@ -6,7 +6,7 @@ ghost use Rattle.std.specs.Prelude.{◌≡◌, option_map};
 ghost use Rattle.mk_edit_language.specs.Edits as edits;
 ghost use Rattle.mk_edit_language.specs.EditViews.{edit_of, line_change_of, place_of, site_of, value_change_of};
 ghost use Rattle.mk_script.specs.SeenFields.{field_texts};
-ghost use Rattle.mk_script.specs.CommandReading.{add_line, before_last, change_line, edit_with, exchange_lines, insert_lines, last_fields, line_change, line_edit, new_assign, new_rule, numbered, place_in, place_with, recipe_edit, site_in, site_with, three, two};
+ghost use Rattle.mk_script.specs.CommandReading.{add_line, before_last, change_each, change_line, edit_with, exchange_lines, insert_lines, last_fields, line_change, line_edit, new_assign, new_rule, numbered, place_in, place_with, plain_edit, recipe_edit, site_in, site_with, three, two};
 ghost use Rattle.mk_script.specs.ReaderAnswers.{IsRead, copied_numbered, copied_three, copied_two, which_of};
 
 use crate::fault::LineFault;
@@ -15,7 +15,7 @@ use crate::fields::{front, one, three, two};
 use crate::number::number_of;
 use crate::table::Word;
 use crate::word::{PlaceWord, flavor, place_word, rule_separator};
-use mk_edit_language::{Edit, LineChange, Place, Side, Site, ValueChange};
+use mk_edit_language::{EachEdit, Edit, LineChange, Place, Side, Site, ValueChange};
 use std::alloc::Allocator;
 
 /// Which assignments an edit of a value means.
@@ -197,7 +197,7 @@ pub(crate) fn make_edit<A: Allocator + Copy>(
         }
         _ => match which {
             Which::One(nth) => make_line_edit(alloc, nth, word, fields),
-            Which::Every => Err(LineFault::NotACommand),
+            Which::Every => make_change_each(alloc, word, fields),
         },
     }
 }
@@ -219,7 +219,7 @@ fn changing<A: Allocator>(which: Which, name: Vec<u8, A>, change: ValueChange<A>
     }
 }
 
-// An edit before which a number may stand, and a rename, before which none may.
+// An edit of one line, or one that may have no number before it.
 #[tactic(auto, using(crate::proofs::on_commands::TableLemmas::is_some_mapped))]
 fn make_line_edit<A: Allocator + Copy>(
     alloc: A,
@@ -246,14 +246,37 @@ fn make_line_edit<A: Allocator + Copy>(
             let (target, word) = two_copied(alloc, fields)?;
             Ok(Edit::RemovePrereq { nth, target, word })
         }
-        Word::Rename => {
-            if nth.is_some() {
-                return Err(LineFault::NotACommand);
-            }
+        Word::Rename | Word::ValuesSubst | Word::RecipesSubst => {
+            make_plain_edit(alloc, nth, word, fields)
+        }
+        _ => make_recipe_edit(alloc, nth, word, fields),
+    }
+}
+
+// An edit before which no number may stand.
+#[tactic(auto, using(crate::proofs::on_commands::TableLemmas::is_some_mapped))]
+fn make_plain_edit<A: Allocator + Copy>(
+    alloc: A,
+    nth: Option<u32>,
+    word: Word,
+    fields: &[Field<'_>],
+) -> Result<Edit<A>, LineFault>
+    ensures { IsRead edit_of (plain_edit nth word (field_texts fields.now)) result }
+{
+    match (nth, word) {
+        (None, Word::Rename) => {
             let (from, to) = two_copied(alloc, fields)?;
             Ok(Edit::RenameTarget { from, to })
         }
-        _ => make_recipe_edit(alloc, nth, word, fields),
+        (None, Word::ValuesSubst) => {
+            let (from, to) = two_copied(alloc, fields)?;
+            Ok(Edit::EachLine(EachEdit::SubstValues { from, to }))
+        }
+        (None, Word::RecipesSubst) => {
+            let (from, to) = two_copied(alloc, fields)?;
+            Ok(Edit::EachLine(EachEdit::SubstRecipes { from, to }))
+        }
+        _ => Err(LineFault::NotACommand),
     }
 }
 
@@ -382,8 +405,29 @@ fn make_recipe_edit<A: Allocator + Copy>(
             let (target, old) = two_copied(alloc, fields)?;
             Ok(Edit::RemoveRecipeByText { nth, target, old })
         }
+        Word::RecipeSubst => make_recipe_subst(alloc, nth, fields),
         _ => make_exchange(alloc, nth, word, fields),
     }
+}
+
+// `recipe-subst TARGET FROM TO`.
+#[tactic(auto, using(crate::proofs::on_commands::TableLemmas::is_some_mapped))]
+fn make_recipe_subst<A: Allocator + Copy>(
+    alloc: A,
+    nth: Option<u32>,
+    fields: &[Field<'_>],
+) -> Result<Edit<A>, LineFault>
+    ensures { IsRead edit_of
+        (option_map (λ p. edits.EachLine (edits.SubstRecipe nth p.0 p.1 p.2))
+        (three (field_texts fields.now))) result }
+{
+    let (target, from, to) = three_copied(alloc, fields)?;
+    Ok(Edit::EachLine(EachEdit::SubstRecipe {
+        nth,
+        target,
+        from,
+        to,
+    }))
 }
 
 // An exchange of whole lines; by another word a change of the line of an assignment.
@@ -447,6 +491,25 @@ fn make_change_line<A: Allocator + Copy>(
     let change = make_line_change(alloc, word, others)?;
     let name = name.to_vec(alloc)?;
     Ok(Edit::ChangeLine { nth, name, change })
+}
+
+// The same of each assignment of a name. No word goes beside others in each.
+fn make_change_each<A: Allocator + Copy>(
+    alloc: A,
+    word: Word,
+    fields: &[Field<'_>],
+) -> Result<Edit<A>, LineFault>
+    ensures { IsRead edit_of (change_each word (field_texts fields.now)) result }
+{
+    match word {
+        Word::AddBefore | Word::AddAfter => Err(LineFault::NotACommand),
+        _ => {
+            let (name, others) = front(fields)?;
+            let change = make_line_change(alloc, word, others)?;
+            let name = name.to_vec(alloc)?;
+            Ok(Edit::EachLine(EachEdit::ChangeEach { name, change }))
+        }
+    }
 }
 
 // What is done to the line, by the fields behind the name.

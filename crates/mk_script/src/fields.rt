@@ -6,7 +6,7 @@ ghost use Rattle.mk_lines.specs.Bytes.{is_blank_byte};
 ghost use Rattle.mk_script.specs.Fields.{is_special};
 ghost use Rattle.mk_script.specs.FieldReading.{after_blanks, bare_len, blanks_before, ends_field, fields_within, first_field, is_blank, quoted_field, until_quote};
 ghost use Rattle.mk_script.specs.CommandReading.{front, one, three, two};
-ghost use Rattle.mk_script.specs.SeenFields.{field_and_others, field_and_rest, field_text, field_texts, gathered_texts, three_texts, two_parts, two_texts};
+ghost use Rattle.mk_script.specs.SeenFields.{field_and_others, field_and_rest, field_text, field_texts, gathered, three_texts, two_parts, two_texts};
 ghost use Rattle.mk_script.specs.ReaderAnswers.{IsFound};
 
 use crate::fault::NotThere;
@@ -124,7 +124,7 @@ pub(crate) fn first_field(line: &[u8]) -> Result<(Field<'_>, &[u8]), NotThere>
 ///
 /// [`NotThere`] if the line has more than nine fields, or if its quotes are bad.
 pub(crate) fn fields_of(line: &[u8]) -> Result<ArrayVec<Field<'_>, 9>, NotThere>
-    ensures { IsFound gathered_texts (fields_within 9 line.now) result }
+    ensures { IsFound gathered (fields_within 9 line.now) result }
 {
     let mut fields = ArrayVec::new();
     let mut rest = line;

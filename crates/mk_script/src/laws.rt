@@ -1,5 +1,5 @@
 //! Laws that hold for every script, each as the contract of a function that does nothing.
-ghost use Rattle.mk_script.specs.ScriptLaws.{AllBeginsItsEdits, CommandsAreSteps, EachSayingHasALine, EachScriptIsRead, FaultsWithoutAlternativesStay, FieldsAreOne, FirstCommandsStay, FirstFaultIsOne, LineSaysOneThing, NoScriptIsBoth, SkippedLineSaysNothing, StepsAreOne, WrittenFieldsAreRead};
+ghost use Rattle.mk_script.specs.ScriptLaws.{AllBeginsItsEdits, BlocksEndAtTheirWords, CommandsAreSteps, EachSayingHasALine, EachScriptIsRead, FaultsWithoutAlternativesStay, FieldsAreOne, FirstCommandsStay, FirstFaultIsOne, LineSaysOneThing, LinesWithoutMarksStandAlone, NoScriptIsBoth, SkippedLineSaysNothing, StepsAreOne, WrittenFieldsAreRead};
 
 /// A line has at most one list of fields, and any fields have a line.
 pub fn lines_and_fields()
@@ -7,12 +7,15 @@ pub fn lines_and_fields()
     ensures written { WrittenFieldsAreRead }
 {}
 
-/// A line is at most one command, alone or behind `try` or `or`; a line that is skipped is none.
-/// Each command whose numbers a script can write has a line, and so has each edit behind `try` and
-/// behind `or`.
+/// With the lines below it a line is at most one command, alone or behind `try` or `or`, and at most one
+/// list of these lines is that of its blocks: none, if no field of the line is `<<` and a word, without
+/// quotes. These lines are those up to the words of its blocks. A line that is skipped is no command. Each command whose numbers a script can write has a line,
+/// and so has each edit behind `try` and behind `or`.
 pub fn lines_and_commands()
     ensures one { LineSaysOneThing }
     ensures skipped { SkippedLineSaysNothing }
+    ensures alone { LinesWithoutMarksStandAlone }
+    ensures ends { BlocksEndAtTheirWords }
     ensures written { EachSayingHasALine }
 {}
 
@@ -32,9 +35,9 @@ pub fn scripts_say_one_thing()
     ensures fault { FirstFaultIsOne }
 {}
 
-/// A script without `try` and `or` says what its lines say, each by itself: its steps are its
-/// commands, each alone; and its first line that is neither skipped nor a command is the first that
-/// is no command.
+/// A script without `try` and `or` says what its lines say, each with the lines of its blocks: its steps are
+/// its commands, each alone; and its first line that is neither skipped nor a command, nor of a block, is
+/// the first that is no command.
 pub fn scripts_of_commands_are_read()
     ensures steps { CommandsAreSteps }
     ensures fault { FaultsWithoutAlternativesStay }

@@ -3,14 +3,17 @@
 //! The fields of a line are looked at from its front, as they are read. The first thing that may not
 //! stand where it does is the mistake. docs/EDITS.md, "If a line is not a command", has examples.
 
+use crate::block::{pass_block, plain_fields};
 use crate::command::is_skipped;
 use crate::field::Field;
-use crate::fields::{after_blanks, bare_len, first_field, is_blank, is_special, split_at_quote};
+use crate::fields::{
+    after_blanks, bare_len, fields_of, first_field, is_blank, is_special, split_at_quote,
+};
+use crate::lines::LinesBelow;
 use crate::number::number_of;
 use crate::spelling::nearest_command;
 use crate::table::{CommandKind, Row, Word, row_of};
 use crate::word::{PlaceWord, flavor, place_word, rule_separator};
-use bstr::ByteSlice;
 
 /// What is wrong with a line that is no command.
 #[derive(Clone, Copy, Debug, PartialEq, Eq)]
@@ -50,6 +53,10 @@ pub enum MistakeCause {
     NthBottom,
     /// The line above is no edit without `try`, and no `or`. Or there is none.
     StrayOr,
+    /// No line below is the word of this block.
+    OpenBlock,
+    /// This block has no line: its word is the next line.
+    EmptyBlock,
 }
 
 /// What is wrong with a line that is no command, and where.
@@ -237,26 +244,69 @@ fn check_line(line: &[u8]) -> Result<(), Fault> {
     }
 }
 
-// The line of a number, from 1.
-fn line_at(script: &[u8], number: u64) -> Option<&[u8]> {
-    let mut left = number;
-    for line in script.lines() {
-        if left == 1 {
-            return Some(line);
-        }
-        left = left.saturating_sub(1);
+// Whether the lines of a block that this field may have stand below, behind those of the fields before it.
+fn check_block(field: Field<'_>, text: &[u8], below: &mut LinesBelow<'_>) -> Result<(), Fault> {
+    let Some(word) = field.end_word() else {
+        return Ok(());
+    };
+    match pass_block(below, word) {
+        None => Err(Fault::at_field(text, MistakeCause::OpenBlock)),
+        Some(0) => Err(Fault::at_field(text, MistakeCause::EmptyBlock)),
+        Some(_) => Ok(()),
     }
-    None
+}
+
+// Whether the lines of the blocks of a line that is right by itself stand below it.
+fn check_blocks(line: &[u8], below: &mut LinesBelow<'_>) -> Result<(), Fault> {
+    let Ok(fields) = fields_of(line) else {
+        return Ok(());
+    };
+    let plain = plain_fields(fields.as_slice());
+    let mut rest = line;
+    for (at, field) in fields.as_slice().iter().enumerate() {
+        if at >= plain {
+            check_block(*field, rest, below)?;
+        }
+        rest = after_first(rest);
+    }
+    Ok(())
+}
+
+// What follows the first field of a line.
+fn after_first(line: &[u8]) -> &[u8] {
+    match first_field(line) {
+        Ok((_, rest)) => rest,
+        Err(_) => b"",
+    }
+}
+
+// Whether a line and its blocks are right by themselves.
+fn check_command(line: &[u8], below: &mut LinesBelow<'_>) -> Result<(), Fault> {
+    check_line(line)?;
+    check_blocks(line, below)
+}
+
+// The line of a number, from 1, and the lines below it.
+fn line_at(script: &[u8], number: u64) -> Option<(&[u8], LinesBelow<'_>)> {
+    if number == 0 {
+        return None;
+    }
+    let mut below = LinesBelow::new(script);
+    for _ in 1..number {
+        below.next()?;
+    }
+    let line = below.next()?;
+    Some((line, below))
 }
 
 /// What is wrong with the first line of a script that is no command, by its number, from 1. `None` if the
 /// script has no line of this number.
 ///
-/// A line that is right by itself, and is no command where it stands, has an `or` that may not stand
-/// there.
+/// A line that is right by itself, as are its blocks, and is no command where it stands, has an `or` that
+/// may not stand there.
 pub fn mistake_at(script: &[u8], number: u64) -> Option<Mistake> {
-    let line = line_at(script, number)?;
-    let fault = match check_line(line) {
+    let (line, mut below) = line_at(script, number)?;
+    let fault = match check_command(line, &mut below) {
         Ok(()) => Fault::at_field(line, MistakeCause::StrayOr),
         Err(fault) => fault,
     };
@@ -269,7 +319,7 @@ pub fn mistake_at(script: &[u8], number: u64) -> Option<Mistake> {
 /// The word of a command that is spelled like the word at a column of a line, both counted from 1, of a
 /// script. `None` if there is no such word.
 pub fn nearest_at(script: &[u8], number: u64, column: usize) -> Option<&'static str> {
-    let line = line_at(script, number)?;
+    let (line, _below) = line_at(script, number)?;
     let text = &line[line.len().min(column.saturating_sub(1))..];
     nearest_command(&text[..bare_len(text)])
 }

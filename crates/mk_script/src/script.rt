@@ -1,22 +1,23 @@
 //! A script: its steps, from its lines.
 //!
-//! By itself a line says one thing, and what the lines say is what the steps say: so no definition
-//! goes over the lines with a state. An `or` that may not stand in its line is found before its
+//! With the lines of its blocks a line says one thing, and what the lines say is what the steps say: so
+//! no definition goes over the lines with a state. An `or` that may not stand in its line is found before its
 //! edit is read, so want of memory never hides it.
-ghost use Rattle.std.specs.Prelude.{map, option_map, IfOk, IfErr};
+ghost use Rattle.std.specs.Prelude.{◌≡◌, ◌+◌, length, map, option_map, IfOk, IfErr};
 ghost use Rattle.mk_script.specs.Lines.{Or};
 ghost use Rattle.mk_script.specs.Scripts.{IsScript, IsScriptFault, step_of};
-ghost use Rattle.mk_script.specs.CommandReading.{edit_in, saying};
+ghost use Rattle.mk_script.specs.BlockReading.{saying};
+ghost use Rattle.mk_script.specs.CommandReading.{edit_in, saying_in};
 ghost use Rattle.mk_script.specs.SeenFields.{field_texts};
-ghost use Rattle.mk_script.specs.ReaderAnswers.{Adds, Pushes};
+ghost use Rattle.mk_script.specs.ReaderAnswers.{Adds, AddsLine, Pushes};
 
+use crate::block::fields_with_blocks;
 use crate::command::{is_skipped, read_command, read_edit};
 use crate::fault::LineFault;
 use crate::field::Field;
-use crate::fields::fields_of;
+use crate::lines::LinesBelow;
 use crate::step::{Chain, NumberedCommand, NumberedEdit, Step};
 use crate::table::{Word, front_word};
-use bstr::ByteSlice;
 use std::alloc::Allocator;
 use thiserror::Error;
 
@@ -37,9 +38,9 @@ pub enum ScriptFault {
 /// # Errors
 ///
 /// - [`ScriptFault::NotACommand`] with the number of the first line that is no command, or that has
-///   `or` where none may stand.
+///   `or` where none may stand. A command whose block has no lines, or never ends, is none.
 /// - [`ScriptFault::NoMemory`] if a growth was refused for a command. Each line before that command
-///   is skipped or is a command.
+///   is skipped, is a command, or is of a block.
 pub fn parse_script<A: Allocator + Copy>(
     alloc: A,
     script: &[u8],
@@ -48,13 +49,13 @@ pub fn parse_script<A: Allocator + Copy>(
     ensures fault { IfErr result (λ fault. IsScriptFault script.now fault) }
 {
     let mut steps = Vec::new(alloc);
-    let mut number = 0u64;
-    for line in script.lines() {
-        number += 1;
+    let mut below = LinesBelow::new(script);
+    'lines: while let Some(line) = below.next() {
         if is_skipped(line) {
             continue;
         }
-        match add_line(alloc, &mut steps, number, line) {
+        let number = below.number();
+        match add_line(alloc, &mut steps, number, line, &mut below) {
             Ok(()) => {}
             Err(LineFault::NotACommand) => return Err(ScriptFault::NotACommand(number)),
             Err(LineFault::NoMemory) => return Err(ScriptFault::NoMemory),
@@ -63,18 +64,35 @@ pub fn parse_script<A: Allocator + Copy>(
     Ok(steps)
 }
 
-// Adds what a line says to the steps of the lines above it. The line is not skipped.
-fn add_line<A: Allocator + Copy>(
+// Adds what a line, with the lines of its blocks below it, says to the steps of the lines above. The line is
+// not skipped.
+fn add_line<'a, A: Allocator + Copy>(
     alloc: A,
     steps: &mut Vec<Step<A>, A>,
     number: u64,
-    line: &[u8],
+    line: &'a [u8],
+    below: &mut LinesBelow<'a>,
 ) -> Result<(), LineFault>
-    ensures { Adds (map step_of steps.old.items) number (saying line.now)
+    ensures line { AddsLine (map step_of steps.old.items) number
+        (saying line.now below.old.lines) (map step_of steps.new.items) result below.new.lines }
+    ensures number { below.new.number + length below.new.lines
+        ≡ below.old.number + length below.old.lines }
+{
+    let fields = fields_with_blocks(line, below)?;
+    add_fields(alloc, steps, number, fields.as_slice())
+}
+
+// Adds what some fields say to the steps.
+fn add_fields<A: Allocator + Copy>(
+    alloc: A,
+    steps: &mut Vec<Step<A>, A>,
+    number: u64,
+    fields: &[Field<'_>],
+) -> Result<(), LineFault>
+    ensures { Adds (map step_of steps.old.items) number (saying_in (field_texts fields.now))
         (map step_of steps.new.items) result }
 {
-    let fields = fields_of(line)?;
-    let (word, rest) = front_word(fields.as_slice())?;
+    let (word, rest) = front_word(fields)?;
     match word {
         Word::Try => {
             let edit = read_edit(alloc, rest)?;

@@ -40,6 +40,7 @@ pub(crate) enum Word {
     AddAfter,
     Subst,
     Operator,
+    ValuesSubst,
     Unset,
     Assign,
     Rule,
@@ -53,6 +54,8 @@ pub(crate) enum Word {
     RecipeDel,
     RecipeReplace,
     RecipeRemove,
+    RecipeSubst,
+    RecipesSubst,
     Insert,
     LineReplace,
     LineRemove,
@@ -88,17 +91,18 @@ impl CommandForm {
 pub(crate) type Row = (&'static str, CommandKind, Word);
 
 /// All commands of a script, and the words that may stand before one.
-pub(crate) const COMMANDS: [(&str, CommandKind, Word); 36] = [
+pub(crate) const COMMANDS: [(&str, CommandKind, Word); 39] = [
     ("set NAME VALUE", ValueEdit, Word::Set),
     ("append NAME VALUE", ValueEdit, Word::Append),
     ("add NAME WORD", ValueEdit, Word::Add),
     ("drop NAME WORD", ValueEdit, Word::Drop),
-    ("prepend NAME VALUE", NumberedEdit, Word::Prepend),
-    ("replace NAME WORD VALUE", NumberedEdit, Word::Replace),
+    ("prepend NAME VALUE", ValueEdit, Word::Prepend),
+    ("replace NAME WORD VALUE", ValueEdit, Word::Replace),
     ("add-before NAME WORD NEW", NumberedEdit, Word::AddBefore),
     ("add-after NAME WORD NEW", NumberedEdit, Word::AddAfter),
-    ("subst NAME FROM TO", NumberedEdit, Word::Subst),
-    ("operator NAME OP", NumberedEdit, Word::Operator),
+    ("subst NAME FROM TO", ValueEdit, Word::Subst),
+    ("operator NAME OP", ValueEdit, Word::Operator),
+    ("values-subst FROM TO", PlainEdit, Word::ValuesSubst),
     ("unset NAME", NumberedEdit, Word::Unset),
     ("assign PLACE NAME OP VALUE", NumberedEdit, Word::Assign),
     ("rule PLACE TARGETS SEP PREREQS", NumberedEdit, Word::Rule),
@@ -120,6 +124,12 @@ pub(crate) const COMMANDS: [(&str, CommandKind, Word); 36] = [
         Word::RecipeReplace,
     ),
     ("recipe-remove TARGET OLD", NumberedEdit, Word::RecipeRemove),
+    (
+        "recipe-subst TARGET FROM TO",
+        NumberedEdit,
+        Word::RecipeSubst,
+    ),
+    ("recipes-subst FROM TO", PlainEdit, Word::RecipesSubst),
     ("insert PLACE BLOCK", NumberedEdit, Word::Insert),
     ("line-replace OLD BLOCK", NumberedEdit, Word::LineReplace),
     ("line-remove OLD", NumberedEdit, Word::LineRemove),

@@ -1,35 +1,36 @@
-//! The line of a script that says an edit.
+//! The lines of a script that say an edit.
 //!
-//! The line is bytes, and `Edit` has no `Display`: the names and values of a makefile need not be
+//! They are bytes, and `Edit` has no `Display`: the names and values of a makefile need not be
 //! UTF-8, and a text with other bytes in their place would not read back as the same edit.
-ghost use Rattle.std.specs.Prelude.{ℕ, ◌≡◌, ◌↔◌, ◌++◌, ◌∷◌, [], Err, List, false, true, IfOk, OnOk, codes, map};
-ghost use Rattle.std.specs.List.{list_any};
-ghost use Rattle.mk_lines.specs.Spacing.{each_after_space};
+ghost use Rattle.std.specs.Prelude.{ℕ, ◌≡◌, ◌↔◌, ◌++◌, ◌∷◌, [], Err, List, false, true, IfOk, OnOk, codes};
 ghost use Rattle.mk_class.specs.OperatorTexts.{operator_text};
-ghost use Rattle.mk_edit_language.specs.EditViews.{edit_of, line_change_of, lines_of, place_of, site_of, value_change_of};
-ghost use Rattle.mk_edit_language.specs.Edits.{ExchangeLines};
+ghost use Rattle.mk_edit_language.specs.EditViews.{each_edit_of, edit_of, line_change_of, lines_of, place_of, site_of, value_change_of};
+ghost use Rattle.mk_edit_language.specs.Edits.{ChangeEach, EachLine, ExchangeLines};
 ghost use Rattle.mk_edit_language.specs.LineRuns.{block_lines};
 ghost use Rattle.mk_edit_language.specs.NewLines.{rule_separator_text};
 ghost use Rattle.mk_history.specs.Machine.{Apply};
-ghost use Rattle.mk_script.specs.CommandTable.{IsCommand, Number, Text, after_nth, change_words, command_fields, depend_word, exchange_fields, line_change_words, nth_of_place, place_words, texts};
-ghost use Rattle.mk_script.specs.Fields.{escaped, quoted};
-ghost use Rattle.mk_script.specs.WrittenEdits.{SaysOnly, fields_of, has_line_feed, is_plain, is_quoted_byte, lacks_block, line_with, written};
-ghost use Rattle.mk_script.specs.WrittenLines.{IsCommandText, fields_in, is_of_recipe};
+ghost use Rattle.mk_script.specs.CommandTable.{Block, IsCommand, Number, Text, after_nth, change_words, command_fields, depend_word, each_fields, exchange_fields, line_change_words, nth_of_place, place_words, texts};
+ghost use Rattle.mk_script.specs.Fields as fields;
+ghost use Rattle.mk_script.specs.WrittenEdits.{SaysOnly, has_no_command, inserts_word, is_lost, is_plain, script_of};
+ghost use Rattle.mk_script.specs.WrittenLines.{IsCommandText, IsTextOf, fields_in, is_of_recipe, site_fields};
 
+use crate::written_block::CommandText;
+use crate::written_field::push_fields;
 use mk_class::Flavor;
-use mk_edit_language::{Edit, LineChange, Place, RuleSeparator, Side, Site, ValueChange};
+use mk_edit_language::{EachEdit, Edit, LineChange, Place, RuleSeparator, Side, Site, ValueChange};
 use std::alloc::{AllocError, Allocator};
 use thiserror::Error;
 
 /// Why an edit has no line.
 #[derive(Clone, Copy, Debug, PartialEq, Eq, Error)]
 pub enum LineError {
-    /// A text of the edit has a line feed, which no line has: a block of several lines, for one.
+    /// A text of the edit that is no block has a line feed, or a block of several lines a carriage return.
     #[error("a text of the edit has a line feed")]
     LineFeed,
-    /// The edit is to put in lines and has no block: no command does so.
-    #[error("the edit puts in lines and has no block")]
-    NoBlock,
+    /// No command is the edit: it is to put in lines and has no block, or to put a word beside another one in
+    /// each value.
+    #[error("no command is the edit")]
+    NoCommand,
     /// A growth was refused: the allocator had no memory for the line.
     #[error("no memory")]
     NoMemory,
@@ -46,60 +47,69 @@ impl From<AllocError> for LineError {
     }
 }
 
-/// The line of a script that says an edit, with its line feed: `nth 2 set CC "clang -m32"`. A script
-/// that has this line, and no other, is this edit alone, so [`parse_script`](crate::parse_script) gives it back,
+/// The lines of a script that say an edit, with their line feeds: `nth 2 set CC "clang -m32"`. A script that
+/// has these lines, and no others, is this edit alone, so [`parse_script`](crate::parse_script) gives it back,
 /// as the command of line 1. Lines of edits in a row are a script of these edits.
 ///
-/// A field stands between quotes if it is empty, or has a blank, a carriage return or a quote. The
-/// fields have one space between them. A script writes edits so by this project's profile.
+/// Only a block of several lines stands below the line of the command, which has the field `<<E` for it. The
+/// block ends with the line `E`, or, if one of its own lines is that, with the first of `E1`, `E2` and so on
+/// that none of them is. Any other field stands between quotes if it is empty, has a blank, a carriage return
+/// or a quote, or is `<<` and a word. The fields have one space between them. A script writes edits so by this
+/// project's profile.
 ///
 /// # Errors
 ///
-/// - [`LineError::LineFeed`] if a text of the edit has a line feed, as a block of several lines has.
-///   No line of a script says such an edit.
-/// - [`LineError::NoBlock`] if the edit is to put in lines and has no block. No command is such an
-///   edit, which is refused wherever it is made.
+/// - [`LineError::LineFeed`] if a text of the edit that is no block has a line feed, or if a block of several
+///   lines has a carriage return. Such an edit is refused wherever it is made.
+/// - [`LineError::NoCommand`] if the edit is to put in lines and has no block, or to put a word beside another
+///   one in each value. No command is such an edit, which is refused wherever it is made.
 /// - [`LineError::NoMemory`] if a growth was refused.
 pub fn line_of_edit<A: Allocator + Copy, B: Allocator>(
     alloc: A,
     edit: &Edit<B>,
 ) -> Result<Vec<u8, A>, LineError>
-    ensures text { IfOk result (λ line.
-        line.items ≡ line_with (fields_of (edit_of edit.now)) ++ codes "\n") }
-    ensures read { IfOk result (λ line. SaysOnly line.items (edit_of edit.now)) }
-    ensures feed { result ≡ Err LineError.LineFeed
-        → has_line_feed (line_with (fields_of (edit_of edit.now))) ≡ true }
-    ensures one_line { OnOk result
-        (has_line_feed (line_with (fields_of (edit_of edit.now))) ≡ false) }
-    ensures block { result ≡ Err LineError.NoBlock ↔ (lacks_block (edit_of edit.now) ≡ true) }
-    ensures unsaid { result ≡ Err LineError.NoBlock → (fields : List (List ℕ))
-        → IsCommand fields (Apply (edit_of edit.now)) → ⊥ }
+    ensures text { IfOk result (λ text. text.items ≡ script_of (edit_of edit.now)) }
+    ensures read { IfOk result (λ text. SaysOnly text.items (edit_of edit.now)) }
+    ensures feed { result ≡ Err LineError.LineFeed → is_lost (edit_of edit.now) ≡ true }
+    ensures kept { OnOk result (is_lost (edit_of edit.now) ≡ false) }
+    ensures no_command { result ≡ Err LineError.NoCommand
+        ↔ (has_no_command (edit_of edit.now) ≡ true) }
+    ensures unsaid { result ≡ Err LineError.NoCommand → (said : List fields.Field) (below : List (List ℕ))
+        → IsCommand said below (Apply (edit_of edit.now)) → ⊥ }
 {
-    if lacks_block(edit) {
-        return Err(LineError::NoBlock);
+    if has_no_command(edit) {
+        return Err(LineError::NoCommand);
     }
-    let mut line = command_text(alloc, edit)?;
-    if has_line_feed(&line) {
+    let text = command_text(alloc, edit)?;
+    if text.is_lost() {
         return Err(LineError::LineFeed);
     }
-    line.extend_from_slice(b"\n")?;
-    Ok(line)
+    let script = text.into_script()?;
+    Ok(script)
 }
 
-// Whether an edit is to put in lines, and has none.
-fn lacks_block<B: Allocator>(edit: &Edit<B>) -> bool
-    ensures { result ≡ lacks_block (edit_of edit.now) }
+// Whether no command is an edit.
+fn has_no_command<B: Allocator>(edit: &Edit<B>) -> bool
+    ensures { result ≡ has_no_command (edit_of edit.now) }
 {
     match edit {
         Edit::ExchangeLines { site, block } => lacks_lines(site, block),
+        Edit::EachLine(EachEdit::ChangeEach { change, .. }) => inserts_word(change),
         _ => false,
     }
+}
+
+// Whether a change puts a word beside another one.
+fn inserts_word<B: Allocator>(change: &LineChange<B>) -> bool
+    ensures { result ≡ inserts_word (line_change_of change.now) }
+{
+    matches!(change, LineChange::InsertWord { .. })
 }
 
 // Whether new lines are to go to a site, and there are none.
 #[tactic(auto, using(crate::proofs::on_commands::BlockLemmas::some_lines))]
 fn lacks_lines<B: Allocator>(site: &Site<B>, block: &Option<Vec<u8, B>>) -> bool
-    ensures { result ≡ lacks_block (ExchangeLines (site_of site.now) (lines_of block.now)) }
+    ensures { result ≡ has_no_command (ExchangeLines (site_of site.now) (lines_of block.now)) }
 {
     match (site, block) {
         (_, Some(_)) | (Site::OfLines { .. }, None) => false,
@@ -107,14 +117,14 @@ fn lacks_lines<B: Allocator>(site: &Site<B>, block: &Option<Vec<u8, B>>) -> bool
     }
 }
 
-// The command of an edit, without a line feed behind it.
+// The command of an edit.
 fn command_text<A: Allocator + Copy, B: Allocator>(
     alloc: A,
     edit: &Edit<B>,
-) -> Result<Vec<u8, A>, AllocError>
-    requires { lacks_block (edit_of edit.now) ≡ false }
+) -> Result<CommandText<A>, AllocError>
+    requires { has_no_command (edit_of edit.now) ≡ false }
     ensures { IfOk result
-        (λ text. IsCommandText (command_fields (Apply (edit_of edit.now))) text.items) }
+        (λ text. IsTextOf (command_fields (Apply (edit_of edit.now))) text) }
 {
     match edit {
         Edit::SetValue { nth, name, value } => said(alloc, *nth, b"set", &[name, value]),
@@ -153,6 +163,7 @@ fn command_text<A: Allocator + Copy, B: Allocator>(
         }
         Edit::RenameTarget { from, to } => said(alloc, None, b"rename", &[from, to]),
         Edit::ExchangeLines { site, block } => exchange_text(alloc, site, block),
+        Edit::EachLine(each) => each_text(alloc, each),
         _ => recipe_text(alloc, edit),
     }
 }
@@ -162,9 +173,9 @@ fn change_text<A: Allocator + Copy, B: Allocator>(
     alloc: A,
     name: &[u8],
     change: &ValueChange<B>,
-) -> Result<Vec<u8, A>, AllocError>
-    ensures { IfOk result (λ text. IsCommandText
-        (texts (codes "all" ∷ change_words name.now (value_change_of change.now))) text.items) }
+) -> Result<CommandText<A>, AllocError>
+    ensures { IfOk result (λ text. IsTextOf
+        (texts (codes "all" ∷ change_words name.now (value_change_of change.now))) text) }
 {
     match change {
         ValueChange::Set(value) => said(alloc, None, b"all", &[b"set", name, value]),
@@ -180,9 +191,9 @@ fn line_change_text<A: Allocator + Copy, B: Allocator>(
     nth: Option<u32>,
     name: &[u8],
     change: &LineChange<B>,
-) -> Result<Vec<u8, A>, AllocError>
-    ensures { IfOk result (λ text. IsCommandText (after_nth nth
-        (texts (line_change_words name.now (line_change_of change.now)))) text.items) }
+) -> Result<CommandText<A>, AllocError>
+    ensures { IfOk result (λ text. IsTextOf (after_nth nth
+        (texts (line_change_words name.now (line_change_of change.now)))) text) }
 {
     match change {
         LineChange::Prepend(value) => said(alloc, nth, b"prepend", &[name, value]),
@@ -206,19 +217,65 @@ fn line_change_text<A: Allocator + Copy, B: Allocator>(
     }
 }
 
+// The command of an edit of several lines.
+fn each_text<A: Allocator + Copy, B: Allocator>(
+    alloc: A,
+    edit: &EachEdit<B>,
+) -> Result<CommandText<A>, AllocError>
+    requires { has_no_command (EachLine (each_edit_of edit.now)) ≡ false }
+    ensures { IfOk result (λ text. IsTextOf (each_fields (each_edit_of edit.now)) text) }
+{
+    match edit {
+        EachEdit::ChangeEach { name, change } => change_each_text(alloc, name, change),
+        EachEdit::SubstValues { from, to } => said(alloc, None, b"values-subst", &[from, to]),
+        EachEdit::SubstRecipe {
+            nth,
+            target,
+            from,
+            to,
+        } => said(alloc, *nth, b"recipe-subst", &[target, from, to]),
+        EachEdit::SubstRecipes { from, to } => said(alloc, None, b"recipes-subst", &[from, to]),
+    }
+}
+
+// The command of a change of the line of each assignment of a name.
+fn change_each_text<A: Allocator + Copy, B: Allocator>(
+    alloc: A,
+    name: &[u8],
+    change: &LineChange<B>,
+) -> Result<CommandText<A>, AllocError>
+    requires { inserts_word (line_change_of change.now) ≡ false }
+    ensures { IfOk result (λ text. IsTextOf
+        (each_fields (ChangeEach name.now (line_change_of change.now))) text) }
+{
+    match change {
+        LineChange::Prepend(value) => said(alloc, None, b"all", &[b"prepend", name, value]),
+        LineChange::ReplaceWord { word, value } => {
+            said(alloc, None, b"all", &[b"replace", name, word, value])
+        }
+        LineChange::Substitute { from, to } => {
+            said(alloc, None, b"all", &[b"subst", name, from, to])
+        }
+        LineChange::SetOperator(flavor) => {
+            said(alloc, None, b"all", &[b"operator", name, operator(*flavor)])
+        }
+        LineChange::InsertWord { .. } => unreachable!(),
+    }
+}
+
 // The command of an exchange of lines.
 fn exchange_text<A: Allocator + Copy, B: Allocator>(
     alloc: A,
     site: &Site<B>,
     block: &Option<Vec<u8, B>>,
-) -> Result<Vec<u8, A>, AllocError>
-    requires { lacks_block (ExchangeLines (site_of site.now) (lines_of block.now)) ≡ false }
-    ensures { IfOk result (λ text. IsCommandText
-        (exchange_fields (site_of site.now) (lines_of block.now)) text.items) }
+) -> Result<CommandText<A>, AllocError>
+    requires { has_no_command (ExchangeLines (site_of site.now) (lines_of block.now)) ≡ false }
+    ensures { IfOk result (λ text. IsTextOf
+        (exchange_fields (site_of site.now) (lines_of block.now)) text) }
 {
     match (site, block) {
         (_, Some(block)) => block_text(alloc, site, block),
-        (Site::OfLines { nth, old }, None) => said(alloc, *nth, b"line-remove", &[old]),
+        (Site::OfLines { nth, old }, None) => said_with(alloc, *nth, b"line-remove", &[], old),
         _ => unreachable!(),
     }
 }
@@ -228,20 +285,31 @@ fn block_text<A: Allocator + Copy, B: Allocator>(
     alloc: A,
     site: &Site<B>,
     block: &[u8],
-) -> Result<Vec<u8, A>, AllocError>
-    ensures { IfOk result (λ text. IsCommandText
-        (exchange_fields (site_of site.now) (block_lines block.now)) text.items) }
+) -> Result<CommandText<A>, AllocError>
+    ensures { IfOk result (λ text. IsTextOf
+        (exchange_fields (site_of site.now) (block_lines block.now)) text) }
+{
+    let text = site_text(alloc, site)?;
+    text.with_block(alloc, block)
+}
+
+// The command that puts a block to a site, up to the block.
+fn site_text<A: Allocator + Copy, B: Allocator>(
+    alloc: A,
+    site: &Site<B>,
+) -> Result<CommandText<A>, AllocError>
+    ensures { IfOk result (λ text. IsTextOf (site_fields (site_of site.now)) text) }
 {
     match site {
-        Site::Top => said(alloc, None, b"insert", &[b"top", block]),
-        Site::AtPlace(place) => said_at(alloc, b"insert", place, &[block]),
+        Site::Top => said(alloc, None, b"insert", &[b"top"]),
+        Site::AtPlace(place) => said_at(alloc, b"insert", place, &[]),
         Site::BeforeLines { nth, old } => {
-            said(alloc, *nth, b"insert", &[b"before-line", old, block])
+            said_with(alloc, *nth, b"insert", &[b"before-line"], old)
         }
         Site::AfterLines { nth, old } => {
-            said(alloc, *nth, b"insert", &[b"after-line", old, block])
+            said_with(alloc, *nth, b"insert", &[b"after-line"], old)
         }
-        Site::OfLines { nth, old } => said(alloc, *nth, b"line-replace", &[old, block]),
+        Site::OfLines { nth, old } => said_with(alloc, *nth, b"line-replace", &[], old),
     }
 }
 
@@ -249,10 +317,10 @@ fn block_text<A: Allocator + Copy, B: Allocator>(
 fn recipe_text<A: Allocator + Copy, B: Allocator>(
     alloc: A,
     edit: &Edit<B>,
-) -> Result<Vec<u8, A>, AllocError>
+) -> Result<CommandText<A>, AllocError>
     requires { is_of_recipe (edit_of edit.now) ≡ true }
     ensures { IfOk result
-        (λ text. IsCommandText (command_fields (Apply (edit_of edit.now))) text.items) }
+        (λ text. IsTextOf (command_fields (Apply (edit_of edit.now))) text) }
 {
     match edit {
         Edit::AddRecipe { nth, target, line } => said(alloc, *nth, b"recipe", &[target, line]),
@@ -317,10 +385,10 @@ fn said_at<A: Allocator + Copy, B: Allocator>(
     word: &[u8],
     place: &Place<B>,
     fields: &[&[u8]],
-) -> Result<Vec<u8, A>, AllocError>
+) -> Result<CommandText<A>, AllocError>
     requires { is_plain word.now ≡ true }
-    ensures { IfOk result (λ text. IsCommandText (after_nth (nth_of_place (place_of place.now))
-        (texts (word.now ∷ (place_words (place_of place.now) ++ fields_in fields.now)))) text.items) }
+    ensures { IfOk result (λ text. IsTextOf (after_nth (nth_of_place (place_of place.now))
+        (texts (word.now ∷ (place_words (place_of place.now) ++ fields_in fields.now)))) text) }
 {
     match place {
         Place::Bottom => said_after(alloc, None, word, &[b"bottom"], fields),
@@ -344,10 +412,10 @@ fn said_of_number<A: Allocator + Copy>(
     target: &[u8],
     number: u32,
     fields: &[&[u8]],
-) -> Result<Vec<u8, A>, AllocError>
+) -> Result<CommandText<A>, AllocError>
     requires { is_plain word.now ≡ true }
-    ensures { IfOk result (λ text. IsCommandText (after_nth nth
-        (Text word.now ∷ Text target.now ∷ Number number ∷ texts (fields_in fields.now))) text.items) }
+    ensures { IfOk result (λ text. IsTextOf (after_nth nth
+        (Text word.now ∷ Text target.now ∷ Number number ∷ texts (fields_in fields.now))) text) }
 {
     let mut digits = itoa::Buffer::new();
     let digits = digits.format(number).as_bytes();
@@ -360,30 +428,49 @@ fn said<A: Allocator + Copy>(
     nth: Option<u32>,
     word: &[u8],
     fields: &[&[u8]],
-) -> Result<Vec<u8, A>, AllocError>
+) -> Result<CommandText<A>, AllocError>
     requires { is_plain word.now ≡ true }
     ensures { IfOk result
-        (λ text. IsCommandText (after_nth nth (texts (word.now ∷ fields_in fields.now))) text.items) }
+        (λ text. IsTextOf (after_nth nth (texts (word.now ∷ fields_in fields.now))) text) }
 {
     said_after(alloc, nth, word, &[], fields)
 }
 
-// The same, with more fields between the word and these.
+// A command: its word after `nth` and a number if there is one, these fields, and a block.
+fn said_with<A: Allocator + Copy>(
+    alloc: A,
+    nth: Option<u32>,
+    word: &[u8],
+    fields: &[&[u8]],
+    block: &[u8],
+) -> Result<CommandText<A>, AllocError>
+    requires { is_plain word.now ≡ true }
+    ensures { IfOk result (λ text. IsTextOf (after_nth nth
+        (texts (word.now ∷ fields_in fields.now) ++ Block (block_lines block.now) ∷ [])) text) }
+{
+    let text = said(alloc, nth, word, fields)?;
+    text.with_block(alloc, block)
+}
+
+// A command: its word after `nth` and a number if there is one, and two lists of fields.
 fn said_after<A: Allocator + Copy>(
     alloc: A,
     nth: Option<u32>,
     word: &[u8],
     first: &[&[u8]],
     others: &[&[u8]],
-) -> Result<Vec<u8, A>, AllocError>
+) -> Result<CommandText<A>, AllocError>
     requires { is_plain word.now ≡ true }
-    ensures { IfOk result (λ text. IsCommandText (after_nth nth
-        (texts (word.now ∷ (fields_in first.now ++ fields_in others.now)))) text.items) }
+    ensures { IfOk result (λ text. IsTextOf (after_nth nth
+        (texts (word.now ∷ (fields_in first.now ++ fields_in others.now)))) text) }
 {
     let mut line = begun(alloc, nth, word)?;
     push_fields(&mut line, first)?;
     push_fields(&mut line, others)?;
-    Ok(line)
+    Ok(CommandText {
+        line,
+        below: Vec::new(alloc),
+    })
 }
 
 // The word of a command, after `nth` and a number if there is one.
@@ -393,7 +480,7 @@ fn begun<A: Allocator + Copy>(
     word: &[u8],
 ) -> Result<Vec<u8, A>, AllocError>
     requires { is_plain word.now ≡ true }
-    ensures { IfOk result (λ text. IsCommandText (after_nth nth (texts (word.now ∷ []))) text.items) }
+    ensures { IfOk result (λ line. IsCommandText (after_nth nth (texts (word.now ∷ []))) line.items []) }
 {
     let Some(number) = nth else {
         return Vec::from_slice(alloc, word);
@@ -403,82 +490,4 @@ fn begun<A: Allocator + Copy>(
     let mut line = Vec::from_slice(alloc, b"nth")?;
     push_fields(&mut line, &[digits, word])?;
     Ok(line)
-}
-
-// Puts fields behind a line, each after a space.
-fn push_fields<A: Allocator>(line: &mut Vec<u8, A>, fields: &[&[u8]]) -> Result<(), AllocError>
-    ensures { OnOk result (line.new.items
-        ≡ line.old.items ++ each_after_space (map written (fields_in fields.now))) }
-{
-    for field in fields {
-        push_field(line, field)?;
-    }
-    Ok(())
-}
-
-// Puts a field behind a line, after a space.
-fn push_field<A: Allocator>(line: &mut Vec<u8, A>, field: &[u8]) -> Result<(), AllocError>
-    ensures { OnOk result (line.new.items ≡ line.old.items ++ (codes " " ++ written field.now)) }
-{
-    line.extend_from_slice(b" ")?;
-    if is_plain(field) {
-        line.extend_from_slice(field)
-    } else {
-        push_quoted(line, field)
-    }
-}
-
-// Puts a field between quotes behind a line.
-fn push_quoted<A: Allocator>(line: &mut Vec<u8, A>, field: &[u8]) -> Result<(), AllocError>
-    ensures { OnOk result (line.new.items ≡ line.old.items ++ quoted field.now) }
-{
-    line.extend_from_slice(b"\"")?;
-    for byte in field {
-        push_escaped(line, *byte)?;
-    }
-    line.extend_from_slice(b"\"")?;
-    Ok(())
-}
-
-// Puts a byte of a field between quotes behind a line: a backslash stands before a quote and before a
-// backslash.
-fn push_escaped<A: Allocator>(line: &mut Vec<u8, A>, byte: u8) -> Result<(), AllocError>
-    ensures { OnOk result (line.new.items ≡ line.old.items ++ escaped (byte ∷ [])) }
-{
-    if matches!(byte, b'"' | b'\\') {
-        line.extend_from_slice(&[b'\\', byte])
-    } else {
-        line.extend_from_slice(&[byte])
-    }
-}
-
-// Whether a field can stand as it is.
-fn is_plain(field: &[u8]) -> bool
-    ensures { result ≡ is_plain field.now }
-{
-    match field {
-        [] => false,
-        _ => !has_quoted_byte(field),
-    }
-}
-
-// Whether a byte of a field has to stand between quotes.
-fn has_quoted_byte(field: &[u8]) -> bool
-    ensures { result ≡ list_any is_quoted_byte field.now }
-{
-    field.iter().any(|byte| is_quoted_byte(*byte))
-}
-
-// Whether a byte has to stand between quotes.
-fn is_quoted_byte(byte: u8) -> bool
-    ensures { result ≡ is_quoted_byte byte }
-{
-    matches!(byte, b' ' | b'\t' | b'\r' | b'"')
-}
-
-// Whether a text has a line feed.
-fn has_line_feed(text: &[u8]) -> bool
-    ensures { result ≡ has_line_feed text.now }
-{
-    text.iter().any(|byte| *byte == b'\n')
 }

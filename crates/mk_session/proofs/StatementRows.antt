@@ -1,10 +1,10 @@
 -- Edits of small makefiles, by the statement in bytes and lines: those that it allows, and careless ones that it does not.
-use Rattle.std.proofs.Common.{◌≡◌, refl, sym, ap, ◌∙◌, subst, arith, ℕ, suc, ◌<◌, List, [], ◌∷◌, ◌++◌, length, length-append, get_or, inl, inr}
-use Rattle.std.specs.Prelude.{◌⊎◌, codes}
+use Rattle.std.proofs.Common.{◌≡◌, refl, sym, ap, ◌∙◌, subst, arith, ℕ, zero, suc, ◌<◌, List, [], ◌∷◌, ◌++◌, length, length-append, get_or, inl, inr}
+use Rattle.std.specs.Prelude.{◌⊎◌, codes, slice_index_or}
 use Rattle.std.specs.List.{AllZip}
 use Rattle.mk_lines.specs.PhysicalLines.{without_line_end}
 use Rattle.mk_lines.specs.LogicalLines.{logical_lines}
-use Rattle.mk_session.specs.Statement.{Names, Lines, Line, Say, Become, Renames}
+use Rattle.mk_session.specs.Statement.{Has, Names, Lines, Line, Say, Become, Replaces, Each, Recipes}
 use Rattle.mk_session.proofs.on_statement.CellTexts.{solid-all}
 
 -- a folded assignment, a rule and its recipe line
@@ -78,8 +78,8 @@ operator_0 = (
 )
 
 -- `rename a.o b.o`
-rename_0 : Renames (codes "a.o") (codes "b.o") (codes "all: a.o x/a.o a.o") (codes "all: b.o x/a.o b.o")
-rename_0 plain = (codes "all: " ∷ codes " x/a.o " ∷ [] ∷ [], refl, refl)
+rename_0 : Replaces (codes "a.o") (codes "b.o") (codes "all: a.o x/a.o a.o") (codes "all: b.o x/a.o b.o")
+rename_0 = (codes "all: " ∷ codes " x/a.o " ∷ [] ∷ [], refl, refl)
 
 -- `line-replace` of the folded assignment, by what it says, by `ifdef CC`
 line_replace_0 : Become (Say (codes "CC = gcc " ++ (92 ∷ 10 ∷ codes "  -m32"))) (Say (codes "ifdef CC")) (rule ∷ value ∷ []) (rule ∷ (codes "ifdef CC" ++ (13 ∷ 10 ∷ [])) ∷ [])
@@ -90,7 +90,27 @@ line_replace_0 = (rule ∷ [], value ∷ [], (codes "ifdef CC" ++ (13 ∷ 10 ∷
 insert_0 : Become (λ up ls. ls ≡ []) (Say (codes "endif")) (codes "X = 1" ∷ []) ((codes "X = 1" ++ (10 ∷ [])) ∷ (codes "endif" ++ (10 ∷ [])) ∷ [])
 insert_0 = (codes "X = 1" ∷ [], [], (codes "endif" ++ (10 ∷ [])) ∷ [], [], (codes "X = 1" ++ (10 ∷ [])) ∷ [], refl, refl, refl, refl, (inr refl, tt))
 
+-- `recipe-subst all -s ""`, twice in one line; a line that has no such text stays
+recipes_0 : Recipes (codes " -s") [] (rule ∷ (9 ∷ codes "cc -s a; ld -s a") ∷ (9 ∷ codes "cc b") ∷ []) (rule ∷ (9 ∷ codes "cc a; ld a") ∷ (9 ∷ codes "cc b") ∷ [])
+recipes_0 = (inl refl, (inr (inl refl, ((9 ∷ codes "cc") ∷ codes " a; ld" ∷ codes " a" ∷ [], refl, refl)), (inl refl, tt)))
+
+-- `values-subst /usr/local /usr`
+values_0 : Each (λ l m. Has (61 ∷ []) l × Has (61 ∷ []) m × Has (codes "/usr") m) (codes "D = /usr/local" ∷ rule ∷ []) (codes "D = /usr" ∷ rule ∷ [])
+values_0 = (inr ((codes "D ", codes " /usr/local", refl), (codes "D ", codes " /usr", refl), (codes "D = ", [], refl)), (inl refl, tt))
+
 -- ---- careless edits
+
+-- `recipes-subst a b` does not touch the line of an assignment
+other_class_0 : Recipes (codes "a") (codes "b") (codes "X = a" ∷ []) (codes "X = b" ∷ []) → ⊥
+other_class_0 (inl e, r) = let n : 98 ≡ 97 = ap (λ z. get_or z 4 0) e in absurd (omega (arith, n))
+other_class_0 (inr (inl e, h), r) = let n : 88 ≡ 9 = ap (λ z. get_or z 0 0) e in absurd (omega (arith, n))
+other_class_0 (inr (inr h, k), r) = go h.1.0 h.1.1 h.1.2 h.1.3 h.1.4.0 h.1.4.1 h.1.4.2
+  where
+    go : (k : ℕ) (x : List ℕ) → k < 1 → slice_index_or (codes "X = a" ∷ []) k x ≡ x → (a b : List ℕ) → x ≡ a ++ (codes ".RECIPEPREFIX" ++ b) → ⊥
+    go zero x l e a b h =
+        let n : 5 ≡ length (a ++ (codes ".RECIPEPREFIX" ++ b)) = ap length (e ∙ h) in
+        absurd (omega (arith, n, length-append a (codes ".RECIPEPREFIX" ++ b)))
+    go (suc k) x l e a b h = absurd (omega (arith, l))
 
 -- the name `A` does not stand in the line of `BA`: what comes before its `A` is a `B`
 other_name_0 : Names (codes "A") 61 (codes "BA=1") → ⊥

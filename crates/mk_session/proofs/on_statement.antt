@@ -8,7 +8,9 @@ pub mod LinesStated
 pub mod RulesStated
 pub mod NewRulesStated
 pub mod RuleGoesStated
+pub mod ReplacedTexts
 pub mod RenamesStated
+pub mod EachStated
 pub mod SaidLines
 pub mod ExchangesStated
 pub mod CallsStated

@@ -36,8 +36,8 @@ pub record AreLinesKept (e : Edit) (before after : List ℕ) : Type 0 where
   pub lines_after : classed_lines after
       ≡ above_after before (insertion (classed_lines before) e) touched ++ (new ++ touched.below)
 
--- An edit of one place, which is any but a rename, an edit of all values of a name and an edit of
--- whole lines, leaves the lines above and below its place.
+-- An edit of one place, which is any but a rename, an edit of several lines and an edit of whole
+-- lines, leaves the lines above and below its place.
 abbrev pub EditsKeepTheirOtherLines : Type 0
 EditsKeepTheirOtherLines = (e : Edit) (s t : State) → IsOfOnePlace e
     → answer (Apply e) s ≡ Ok t → AreLinesKept e s.text t.text

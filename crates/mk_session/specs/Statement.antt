@@ -11,8 +11,9 @@ use Rattle.mk_history.specs.Shown.{Shown, shown_opened, shown_edited, shown_ende
 use Rattle.mk_edit_language.specs.declared.edit.LineChange.{LineChange}
 use Rattle.mk_edit_language.specs.declared.edit.LineChange.TheVariants.{Prepend, ReplaceWord, InsertWord, Substitute, SetOperator}
 use Rattle.mk_edit_language.specs.declared.edit.Site.TheVariants.{OfLines}
+use Rattle.mk_edit_language.specs.declared.edit.EachEdit.TheVariants.{ChangeEach, SubstValues, SubstRecipe, SubstRecipes}
 use Rattle.mk_edit_language.specs.declared.edit.Edit.{Edit}
-use Rattle.mk_edit_language.specs.declared.edit.Edit.TheVariants.{SetValue, AppendValue, AddWord, RemoveWord, ChangeValues, ChangeLine, AddAssign, RemoveAssign, AddRule, RemoveRule, AddPrereq, RemovePrereq, AddRecipe, SetRecipe, RemoveRecipe, InsertRecipe, SetRecipeByText, RemoveRecipeByText, RenameTarget, ExchangeLines}
+use Rattle.mk_edit_language.specs.declared.edit.Edit.TheVariants.{SetValue, AppendValue, AddWord, RemoveWord, ChangeValues, ChangeLine, AddAssign, RemoveAssign, AddRule, RemoveRule, AddPrereq, RemovePrereq, AddRecipe, SetRecipe, RemoveRecipe, InsertRecipe, SetRecipeByText, RemoveRecipeByText, RenameTarget, ExchangeLines, EachLine}
 use Rattle.mk_edit_language.specs.declared.command.Command.{Command}
 use Rattle.mk_edit_language.specs.declared.command.Command.TheVariants.{Apply, Undo, Redo, Begin, End, Cancel}
 
@@ -67,11 +68,18 @@ abbrev pub Become : (Old New : (above lines : Lines) → Type 0) → (before aft
 Become P Q ls ms = (up old new down top : Lines) × (ls ≡ up ++ (old ++ down)) × P up old × Q up new
     × (ms ≡ top ++ (new ++ down)) × AllZip (λ l m. (m ≡ l) ⊎ (without_line_end m ≡ l)) up top
 
--- a line with a word in the place of another one, wherever that stood or at some of these places:
--- the same parts, with the one word or the other between each two
-abbrev pub Renames : (word other : List ℕ) → (old new : List ℕ) → Type 0
-Renames w v l m = All (λ b. 32 < b) w
-    → (ps : List (List ℕ)) × (l ≡ join_by (λ p. p) w ps) × (m ≡ join_by (λ p. p) v ps)
+-- a line with a text in the place of another one, wherever that stood or at some of these places:
+-- the same parts, with the one text or the other between each two
+abbrev pub Replaces : (text other : List ℕ) → (old new : List ℕ) → Type 0
+Replaces w v l m = (ps : List (List ℕ)) × (l ≡ join_by (λ p. p) w ps) × (m ≡ join_by (λ p. p) v ps)
+
+-- each line stays in its place, and is as before or becomes another
+abbrev pub Each : (Becomes : (old new : List ℕ) → Type 0) → (before after : Lines) → Type 0
+Each P = AllZip (λ l m. (m ≡ l) ⊎ P l m)
+
+-- in some recipe lines a text becomes another
+abbrev pub Recipes : (text other : List ℕ) → (before after : Lines) → Type 0
+Recipes f t ls = Each (λ l m. IsRecipe ls l × Replaces f t l m) ls
 
 -- the text that a change puts into the line of an assignment
 abbrev put_in : {A : _} → LineChange A → List ℕ
@@ -88,7 +96,12 @@ Does (AppendValue k n v) = Become (Line n.items 61 []) (Line n.items 61 v.items)
 Does (AddWord k n w) = Become (Line n.items 61 []) (Line n.items 61 w.items)
 Does (RemoveWord k n w) = Become (Line n.items 61 []) (Line n.items 61 [])
 Does (ChangeLine k n c) = Become (Line n.items 61 []) (Line n.items 61 (put_in c))
-Does (ChangeValues n c) = AllZip (λ l m. (m ≡ l) ⊎ (Names n.items 61 l × Names n.items 61 m))
+Does (ChangeValues n c) = Each (λ l m. Names n.items 61 l × Names n.items 61 m)
+Does (EachLine (ChangeEach n c)) =
+    Each (λ l m. Names n.items 61 l × Names n.items 61 m × Has (put_in c) m)
+Does (EachLine (SubstValues f t)) = Each (λ l m. Has (61 ∷ []) l × Has (61 ∷ []) m × Has t.items m)
+Does (EachLine (SubstRecipe k g f t)) = λ ls ms. Any (Names g.items 58) ls × Recipes f.items t.items ls ms
+Does (EachLine (SubstRecipes f t)) = Recipes f.items t.items
 Does (AddAssign p n f v) = Become (λ up ls. ls ≡ []) (Line n.items 61 v.items)
 Does (RemoveAssign k n) = Become (Line n.items 61 []) (λ up ls. ls ≡ [])
 Does (AddRule p gs s ws) = Become (λ up ls. ls ≡ []) (Line gs.items 58 [])
@@ -101,7 +114,7 @@ Does (RemoveRecipe k g i) = Become (Recipe g.items []) (λ up ls. ls ≡ [])
 Does (InsertRecipe k g i c) = Become (λ up ls. ls ≡ []) (Recipe g.items c.items)
 Does (SetRecipeByText k g o c) = Become (Recipe g.items o.items) (Recipe g.items c.items)
 Does (RemoveRecipeByText k g o) = Become (Recipe g.items o.items) (λ up ls. ls ≡ [])
-Does (RenameTarget o n) = AllZip (Renames o.items n.items)
+Does (RenameTarget o n) = λ ls ms. All (λ b. 32 < b) o.items → AllZip (Replaces o.items n.items) ls ms
 Does (ExchangeLines (OfLines k o) (Some n)) = Become (Say o.items) (Say n.items)
 Does (ExchangeLines (OfLines k o) None) = Become (Say o.items) (λ up ls. ls ≡ [])
 Does (ExchangeLines s (Some n)) = Become (λ up ls. ls ≡ []) (Say n.items)

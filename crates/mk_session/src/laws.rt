@@ -34,9 +34,9 @@ pub fn edits_are_made_or_nothing_changes()
 
 /// For a program that says what an edit makes of the text: an edit that is made has spans, and the text
 /// is the text before with these replaced, so that the laws of `mk_edit_language::laws` speak of it. An
-/// edit of one place, which is any but a rename, an edit of all values of a name and an edit of whole
-/// lines, leaves the lines above and below its place, bytes and classes; a last line without a line end
-/// gets one where a new line follows it.
+/// edit of one place, which is any but a rename, an edit of several lines and an edit of whole lines,
+/// leaves the lines above and below its place, bytes and classes; a last line without a line end gets
+/// one where a new line follows it.
 pub fn edits_leave_the_rest()
     ensures spans { EditsReplaceTheirSpans }
     ensures lines { EditsKeepTheirOtherLines }

@@ -18,8 +18,8 @@ pub use command::Command;
 pub use mk_class::Flavor;
 pub use mk_edit::{Detail, Edit, Field, Place, Refusal, RuleSeparator, ValueChange};
 pub use mk_edit_language::{
-    LineChange, Side, Site, clone_edit, clone_place, is_same_edit, is_same_place, number_edit,
-    number_place,
+    EachEdit, LineChange, Side, Site, clone_edit, clone_place, is_same_edit, is_same_place,
+    number_edit, number_place,
 };
 pub use mk_index::Expected;
 pub use session::Session;

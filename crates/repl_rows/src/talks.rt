@@ -1,8 +1,8 @@
 //! The lines of a source, and a whole talk: with devices that move little or fail, and without memory.
 
-use mk_lines::sink::write_parts;
+use mk_lines::sink::{write_all, write_parts};
 use mk_lines::{ByteSink, ByteSource, Fault};
-use mk_repl::{After, Handler, LineRead, read_line, serve, write_greeting, write_too_long};
+use mk_repl::{After, Handler, LineRead, Unread, read_line, serve, write_greeting, write_unread};
 use test_support::text::{joined, number};
 use test_support::{Case, MemorySink, MemorySource};
 
@@ -46,7 +46,8 @@ pub fn failing_line(
     Ok(Vec::from_slice(case.alloc, b"each fails")?)
 }
 
-/// Replies to a line with the line between brackets, and ends at a line that begins with `q`.
+/// Replies to a command with its text between brackets, prompts for each line of a block, and ends at a command
+/// that begins with `q`.
 #[derive(Drop)]
 struct Echo;
 
@@ -55,13 +56,17 @@ impl Handler for Echo {
         write_greeting(out)
     }
 
-    fn reject<W: ByteSink>(&mut self, out: &mut W) -> Result<(), Fault> {
-        write_too_long(out)
+    fn prompt<W: ByteSink>(&self, out: &mut W) -> Result<(), Fault> {
+        write_all(out, b"?")
     }
 
-    fn handle<W: ByteSink>(&mut self, line: &[u8], out: &mut W) -> Result<After, Fault> {
-        write_parts(out, &[b"[", line, b"]\n"])?;
-        Ok(if line.first() == Some(&b'q') {
+    fn reject<W: ByteSink>(&mut self, why: Unread, out: &mut W) -> Result<(), Fault> {
+        write_unread(why, out)
+    }
+
+    fn handle<W: ByteSink>(&mut self, text: &[u8], out: &mut W) -> Result<After, Fault> {
+        write_parts(out, &[b"[", text, b"]\n"])?;
+        Ok(if text.first() == Some(&b'q') {
             After::Ends
         } else {
             After::GoesOn
@@ -71,7 +76,7 @@ impl Handler for Echo {
 
 /// What goes out in a talk about some lines whose read of a number fails: the answer, how many flushes come,
 /// how many bytes are not read, and the bytes that are out. Nothing may be out without memory: that would be
-/// a write fault.
+/// a write fault. Where there is none for the lines of a block, the talk goes on.
 pub fn talk(case: &Case<'_>, lines: &[u8], call: &[u8]) -> Result<Vec<u8>, Fault> {
     let mut source = MemorySource::new(lines, 1_000).failing_at(Some(number(call)));
     let mut out = MemorySink::new(Vec::new(case.alloc), 100);
@@ -82,6 +87,9 @@ pub fn talk(case: &Case<'_>, lines: &[u8], call: &[u8]) -> Result<Vec<u8>, Fault
         } else {
             Fault::Write
         });
+    }
+    if out.bytes().ends_with(b"fault no memory\n[q\n]\n") {
+        return Err(Fault::NoMemory);
     }
     let (flushes, left) = (out.flushes(), source.left());
     let said = format!(in case.alloc; "{talked:?}, flushes {flushes}, left {left}: ")?;

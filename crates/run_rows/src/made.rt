@@ -60,7 +60,23 @@ fn edit_at(heap: &Heap, number: u64) -> Result<Edit<&Heap>, AllocError> {
         36 => Edit::line_remove(heap, b"A"),
         37 => Site::AtPlace(place_at(heap, 24)?).insert(heap, b"b"),
         38 => Ok(lines_before(heap)?.insert(heap, b"b")?.nth(2)),
+        39..=46 => each_line_at(heap, number),
+        47 => Site::Top.insert(heap, b"b\nc"),
         place => place_at(heap, place)?.assign(heap, b"A", Flavor::Simple, b"b"),
+    }
+}
+
+/// The edit of several lines of a number.
+fn each_line_at(heap: &Heap, number: u64) -> Result<Edit<&Heap>, AllocError> {
+    match number {
+        39 => Edit::all_prepend(heap, b"A", b"b"),
+        40 => Edit::all_replace_word(heap, b"A", b"b", b"c"),
+        41 => Edit::all_substitute(heap, b"A", b"b", b"c"),
+        42 => Edit::all_operator(heap, b"A", Flavor::Simple),
+        43 => Edit::values_substitute(heap, b"A", b"b"),
+        44 => Edit::recipe_substitute(heap, b"A", b"b", b"c"),
+        45 => Edit::recipes_substitute(heap, b"A", b"b"),
+        _ => Ok(Edit::recipe_substitute(heap, b"A", b"b", b"c")?.nth(2)),
     }
 }
 
@@ -130,6 +146,20 @@ fn apply_at(session: &mut Session<&Heap>, number: u64) -> Result<(), Refusal> {
         28 => session.insert(Site::Top, b"A"),
         29 => session.line_replace(b"ifdef B", b"ifndef B"),
         30 => session.line_remove(b"A=b"),
+        31..=37 => apply_to_lines_at(session, number),
         _ => session.rule(Place::Bottom, b"A", RuleSeparator::Single, b"b"),
+    }
+}
+
+/// Makes the call of a number that is an edit of several lines.
+fn apply_to_lines_at(session: &mut Session<&Heap>, number: u64) -> Result<(), Refusal> {
+    match number {
+        31 => session.all_prepend(b"A", b"b"),
+        32 => session.all_replace_word(b"A", b"b", b"c"),
+        33 => session.all_substitute(b"A", b"b", b"c"),
+        34 => session.all_operator(b"A", Flavor::Simple),
+        35 => session.values_substitute(b"A", b"b"),
+        36 => session.recipe_substitute(b"A", b"b", b"c"),
+        _ => session.recipes_substitute(b"A", b"b"),
     }
 }

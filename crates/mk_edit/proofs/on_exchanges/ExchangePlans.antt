@@ -34,7 +34,7 @@ use Rattle.mk_edit_language.specs.LineRuns.{is_block, site_found}
 use Rattle.mk_edit_language.specs.Refusals.{first_cause, spans, text_after}
 use Rattle.mk_edit_language.specs.Stretches.{Stretch}
 use Rattle.mk_edit_language.specs.declared.refusal.Field.TheVariants as field
-use Rattle.mk_edit_language.proofs.on_edits.Accepted.{first-passed, none-first, two-passed, where_holds-none}
+use Rattle.mk_edit_language.proofs.on_edits.Accepted.{first-passed, no-cause, two-passed, where_holds-none}
 use Rattle.mk_edit_language.proofs.on_line_runs.BlockNumbers.{block-number, length-classed}
 use Rattle.mk_edit_language.proofs.on_line_runs.LinesExchanged.{lines-exchanged}
 use Rattle.mk_edit_parts.specs.SitesFound.{IsSited, causes_of_site}
@@ -85,7 +85,7 @@ room-there s ts ls w gone n m f S g h =
 
 -- the new lines are those of a block, or none
 allowed-block : (t : List ℕ) (s : Site) (ts : List (List ℕ)) → first_cause (causes_of_site t s ts) ≡ None → (is_empty ts || is_block ts) ≡ true
-allowed-block t s ts h = go s (none-first (bad_argument (ExchangeLines s ts)) _ h).0
+allowed-block t s ts h = go s (no-cause (causes_of_site t s ts) h).0
   where
     right : (a b : Bool) → b ≡ true → (a || b) ≡ true
     right true b h = refl

@@ -5,9 +5,6 @@ use Rattle.std.specs.Prelude.{◌==◌, nat_lt, ◌⊎◌, if◌then◌else◌, 
 use Rattle.std.proofs.lemmas.Bool.{and_parts}
 use Rattle.std.proofs.lemmas.Grind.{common_steps}
 use Rattle.std.proofs.lemmas.List.{append-nil, length-map}
-use Rattle.mk_lines.specs.Lists.{concat}
-use Rattle.mk_lines.specs.LogicalLines.{logical_lines}
-use Rattle.mk_lines.proofs.on_lines.LineLemmas.{concat-logical_lines}
 use Rattle.mk_lines.specs.Limits.{max_text}
 use Rattle.mk_lines.specs.Cells.{Cell, joined_byte, line_cells}
 use Rattle.mk_lines.specs.Pieces.{replaced}
@@ -24,7 +21,6 @@ use Rattle.mk_class.specs.Contexts.{Context}
 use Rattle.mk_class.specs.LocatedClasses.{located_class}
 use Rattle.mk_class.specs.RecipePrefix.{is_prefix_name}
 use Rattle.mk_class.specs.ClassedLines.{ClassedLine, classed_lines}
-use Rattle.mk_class.specs.declared.assignment.Flavor.{Flavor}
 use Rattle.mk_class.specs.declared.assignment.Assignment as offsets
 use Rattle.mk_tree.specs.Documents.{IsFaithful, text_of, context_of}
 use Rattle.mk_tree.specs.LineTexts.{StandingLine, line_in}
@@ -34,11 +30,12 @@ use Rattle.mk_edit_language.specs.Addresses.{Variable}
 use Rattle.mk_edit_language.specs.ArgumentCauses.{Tested, line_change_tests, bad_argument}
 use Rattle.mk_edit_language.specs.Causes.{where_holds}
 use Rattle.mk_edit_language.specs.Edits.{LineChange, Prepend, ReplaceWord, InsertWord, Substitute, SetOperator, Edit, ChangeLine}
+use Rattle.mk_edit_language.specs.EachLine.{InAssignment, each_bytes}
 use Rattle.mk_edit_language.specs.EditSpans.{spans_of, where_found}
 use Rattle.mk_edit_language.specs.KeptLines.{respanned_bytes}
 use Rattle.mk_edit_language.specs.Lengths.{bytes_taken, bytes_put}
 use Rattle.mk_edit_language.specs.LineCauses.{misread, is_found_misread, too_long}
-use Rattle.mk_edit_language.specs.LineChanges.{line_pieces, line_change_spans, is_line_changed, line_after, value_after, flavor_after, assigned_after, is_one, fits_line, reads_as, is_misread}
+use Rattle.mk_edit_language.specs.LineChanges.{line_pieces, line_change_spans, is_line_changed, line_after, is_misread}
 use Rattle.mk_edit_language.specs.Refusals.{causes, first_cause, spans}
 use Rattle.mk_edit_language.specs.RuleCauses.{absent, already, class_found, not_inserted}
 use Rattle.mk_edit_language.specs.Stretches.{this_line}
@@ -56,7 +53,7 @@ use Rattle.mk_edit_parts.specs.RenamedRanges.{bytes_in}
 use Rattle.mk_edit_parts.specs.SeenAssignments.{IsAssignmentAt}
 use Rattle.mk_edit_parts.specs.declared.seek.Found.{Found}
 use Rattle.mk_edit_parts.proofs.CauseLemmas.{refused, unrefused}
-use Rattle.mk_edit.specs.LineChangePlans.{IsLineChange, IsAssignmentIn, IsAssigning, IsMadeOf, IsSought, Reads, first_of_words, not_inserted_in, with_parts}
+use Rattle.mk_edit.specs.LineChangePlans.{IsLineChange, IsAssignmentIn, IsAssigning, IsSought, first_of_words, is_changed_misread, meant_in, not_inserted_in}
 use Rattle.mk_patch.specs.Moves.{Move, Exchange}
 use Rattle.mk_tree.specs.Counting.{AreCounted}
 use Rattle.mk_edit.specs.PlannedMoves.{replacing_moves}
@@ -66,12 +63,13 @@ use Rattle.mk_edit.specs.ValueChangeLines.{value_text_located}
 use Rattle.mk_edit.proofs.on_plans.CausePlans.{AreBalanced, addressed-all, first-before, long-by}
 use Rattle.mk_edit.proofs.on_plans.LinePlans.{IsReplaced, line-replaced}
 use Rattle.mk_edit.proofs.on_renaming.CausesOfRenameTarget.{after-cause}
-use Rattle.mk_edit.proofs.on_renaming.LinesRenamed.{apart-bytes, replaced-some}
+use Rattle.mk_edit_parts.proofs.on_renaming.WrittenLemmas.{apart-bytes, replaced-some}
 use Rattle.mk_edit.proofs.on_renaming.SizesOfTexts.{put-moved, taken-moved}
 use Rattle.mk_edit.proofs.on_renaming.SizesOfWords.{put-replacing, taken-replacing}
 use Rattle.mk_edit_language.proofs.on_edits.MadeEdits.{line_change-by_itself}
 use Rattle.mk_edit.proofs.on_values.ValuePlaces.{IsValuePlace, IsVariablePlace, value-place, variable-place}
 use Rattle.mk_edit.proofs.on_line_changes.LinesMade.{HasPlaces, IsWritten, has-places, is-written, words-told}
+use Rattle.mk_edit.proofs.on_line_changes.MisreadLines.{bytes-in, misread-in}
 
 -- ---- the sizes of replacements
 
@@ -251,18 +249,6 @@ module _ (ls : List LocatedLine) (nth : Option ℕ) (n : List ℕ) (c : LineChan
   misread-there : first_cause (causes text lines edit) ≡ first_cause (misread lines edit ∷ []) → is_misread c f.context l.bytes (Assign a None) ≡ true → spans text edit ≡ Err Misread
   misread-there k e = refused text edit Misread (only-misread true k e)
 
-  -- it is if the line does not fit
-  unfit-misread : (m : List ℕ) → m ≡ line_after c l.bytes a → fits_line l.bytes m ≡ false → is_misread c f.context l.bytes (Assign a None) ≡ true
-  unfit-misread m k e = ap (λ b. not (b && reads_as (assigned_after c a) (class_of f.context (line_after c l.bytes a)))) (ap (fits_line l.bytes) (sym k) ∙ e)
-
-  -- and otherwise where it does not read as stated
-  read-misread : (m v : List ℕ) (o : Flavor) (b : Bool) → m ≡ line_after c l.bytes a → v ≡ value_after c a.value → o ≡ flavor_after c a.flavor → fits_line l.bytes m ≡ true → reads_as (with_parts a o v) (class_of f.context m) ≡ b
-      → is_misread c f.context l.bytes (Assign a None) ≡ not b
-  read-misread m v o b k i j e r =
-      let parts : with_parts a o v ≡ assigned_after c a = ap (λ z. with_parts a z v) j ∙ ap (with_parts a (flavor_after c a.flavor)) i in
-      let told : reads_as (assigned_after c a) (class_of f.context (line_after c l.bytes a)) ≡ b = ap (λ z. reads_as z (class_of f.context (line_after c l.bytes a))) (sym parts) ∙ (ap (λ z. reads_as (with_parts a o v) (class_of f.context z)) (sym k) ∙ r) in
-      ap (λ z. not (z && reads_as (assigned_after c a) (class_of f.context (line_after c l.bytes a)))) (ap (fits_line l.bytes) (sym k) ∙ e) ∙ ap not told
-
   -- ---- the plan
 
   planned-there : (m : List ℕ) → m ≡ line_after c l.bytes a → first_cause (causes text lines edit) ≡ first_cause (misread lines edit ∷ []) → is_misread c f.context l.bytes (Assign a None) ≡ false → IsReplaced edit ls f.at m
@@ -272,15 +258,6 @@ module _ (ls : List LocatedLine) (nth : Option ℕ) (n : List ℕ) (c : LineChan
       ap (respanned_bytes (this_line P.spot)) spans-are
       ∙ (ap (λ z. replaced base z (line_change_spans c base a)) (append-nil P.spot.line.bytes ∙ bytes-are) ∙ (line_change-by_itself c base a l.bytes ∙ sym k)) in
       line-replaced edit ls rs P.spot f.at m h (unrefused text edit (only-misread false o e)) (ap (option_map this_line) P.found_is) P.place_is (ap (λ z. z ∷ []) bytes)
-
--- a line that fits is one line
-only-line : (ks : List (List ℕ)) (m : List ℕ) → is_one ks ≡ true → concat ks ≡ m → ks ≡ m ∷ []
-only-line [] m h k = absurd (cc)
-only-line (l ∷ []) m h k = ap (λ z. z ∷ []) (sym (append-nil l) ∙ k)
-only-line (l ∷ l' ∷ ks) m h k = absurd (cc)
-
-pub fits-one : (l m : List ℕ) → fits_line l m ≡ true → logical_lines m ≡ m ∷ []
-fits-one l m h = only-line (logical_lines m) m (and_parts (is_one (logical_lines m)) _ h).0 (concat-logical_lines m)
 
 -- a refusal that is handed on, perhaps after a line was read
 pub handed-on : (e : Edit) (ls : List LocatedLine) (before after : ℕ) (r : Refusal) (result : Result (List Move) Refusal) → IsErrAnd result (λ q. q ≡ r) → IsRefusal (located_text ls) e r
@@ -294,11 +271,8 @@ handed-on e ls before after r (Err q) i h few forward =
 -- nothing but Misread is left, and it is decided by the new line
 pub record IsLeft (c : LineChange) (e : Edit) (ls : List LocatedLine) (f : Found) (l : LocatedLine) : Type 0 where
   pub unrefused : IsUnrefused (located_text ls) e
-  pub a : Assignment Cell
-  pub is : IsAssignmentIn f.context l a
-  pub unfit : (m : List ℕ) → m ≡ line_after c l.bytes a → fits_line l.bytes m ≡ false → spans (located_text ls) e ≡ Err Misread
-  pub unread : (m v : List ℕ) (o : Flavor) → m ≡ line_after c l.bytes a → v ≡ value_after c a.value → o ≡ flavor_after c a.flavor → fits_line l.bytes m ≡ true → reads_as (with_parts a o v) (class_of f.context m) ≡ false → spans (located_text ls) e ≡ Err Misread
-  pub read : (m v : List ℕ) (o : Flavor) → m ≡ line_after c l.bytes a → v ≡ value_after c a.value → o ≡ flavor_after c a.flavor → fits_line l.bytes m ≡ true → reads_as (with_parts a o v) (class_of f.context m) ≡ true → IsReplaced e ls f.at m
+  pub misread : is_changed_misread (InAssignment c) f.context l.bytes ≡ true → spans (located_text ls) e ≡ Err Misread
+  pub read : is_changed_misread (InAssignment c) f.context l.bytes ≡ false → IsReplaced e ls f.at (each_bytes (InAssignment c) (meant_in f.context l.bytes))
 
 -- What the code asks of a document if the line of an assignment is changed and checked by reading, and what follows from the answers.
 pub record IsLineChangeOf (c : LineChange) (e : Edit) (ls : List LocatedLine) (f : Found) : Type 0 where
@@ -330,11 +304,10 @@ change_line nth n c ls f h A = record {
       let o = left-misread ls nth n c f l h A P at q ss s v t m w one k in
       record {
         unrefused = unrefused-but ls nth n c f l h A P o;
-        a = P.assigned;
-        is = own-in ls nth n c f l h A P;
-        unfit = λ m i e. misread-there ls nth n c f l h A P o (unfit-misread ls nth n c f l h A P m i e);
-        unread = λ m v x i j k e r. misread-there ls nth n c f l h A P o (read-misread ls nth n c f l h A P m v x false i j k e r);
-        read = λ m v x i j k e r. planned-there ls nth n c f l h A P m i o (read-misread ls nth n c f l h A P m v x true i j k e r);
+        misread = λ e. misread-there ls nth n c f l h A P o (sym (misread-in c f.context l P.assigned (own-in ls nth n c f l h A P)) ∙ e);
+        read = λ e.
+            let I = own-in ls nth n c f l h A P in
+            planned-there ls nth n c f l h A P _ (bytes-in c f.context l P.assigned I) o (sym (misread-in c f.context l P.assigned I) ∙ e);
       };
 }
   where
@@ -349,11 +322,11 @@ change_line-of c e ls f h K A = subst (λ z. IsLineChangeOf c z ls f) (sym K.is)
 
 -- ---- what the answers of the calls say
 
--- a refusal when the new line was read: a growth was refused, or it does not read as stated
-pub left-refused : (c : LineChange) (e : Edit) (ls : List LocatedLine) (f : Found) (l : LocatedLine) (m v : List ℕ) (o : Flavor) (r : Refusal) → IsLeft c e ls f l → IsMadeOf c f.context l m v
-    → ((a : Assignment Cell) → IsAssignmentIn f.context l a → o ≡ flavor_after c a.flavor) → fits_line l.bytes m ≡ true → (r ≡ NoMemory) ⊎ ((r ≡ Misread) × Reads false f.context l m o v) → IsRefusal (located_text ls) e r
-left-refused c e ls f l m v o r L M F fit (inl n) = inr (n, L.unrefused)
-left-refused c e ls f l m v o r L M F fit (inr (k, x)) = inl (L.unread m v o (M.bytes_are L.a L.is) (M.value_is L.a L.is) (F L.a L.is) fit (x L.a L.is) ∙ ap Err (sym k))
+-- a refusal when the new line was made: a growth was refused, or it does not read as stated
+pub left-refused : (c : LineChange) (e : Edit) (ls : List LocatedLine) (f : Found) (l : LocatedLine) (r : Refusal) → IsLeft c e ls f l → (r ≡ NoMemory) ⊎ ((r ≡ Misread) × (is_changed_misread (InAssignment c) f.context l.bytes ≡ true))
+    → IsRefusal (located_text ls) e r
+left-refused c e ls f l r L (inl n) = inr (n, L.unrefused)
+left-refused c e ls f l r L (inr k) = inl (L.misread k.1 ∙ ap Err (sym k.0))
 
 -- the line was read
 on-ok : {A B : Type 0} {X : Type 0} (r : Result A B) → X → OnOk r X

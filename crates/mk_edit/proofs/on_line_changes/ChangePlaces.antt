@@ -40,33 +40,13 @@ use Rattle.mk_edit_parts.proofs.on_prerequisites.RawPartLemmas.{raw-rises, raw-w
 use Rattle.mk_edit_parts.proofs.on_prerequisites.WordRangeLemmas.{part-ranges}
 use Rattle.mk_edit_parts.proofs.on_renaming.PieceRanges.{replacing}
 use Rattle.mk_edit.specs.LineChangePlans.{IsSought, is_operator, value_made, CanRewrite}
-use Rattle.mk_edit.proofs.on_renaming.LinesRenamed.{apart-bytes, written-replaced}
-use Rattle.mk_edit.proofs.on_line_changes.PiecePlaces.{places, AllBecome, places-raw, places-text}
-use Rattle.mk_edit.proofs.on_line_changes.WordsAndTexts.{words-places, words-become, texts-places, texts-become}
+use Rattle.mk_edit_parts.proofs.on_renaming.WrittenLemmas.{apart-bytes, written-replaced}
+use Rattle.mk_edit_parts.proofs.on_line_changes.PiecePlaces.{places, AllBecome, places-raw, places-text}
+use Rattle.mk_edit_parts.proofs.on_line_changes.WordsAndTexts.{words-places, words-become, texts-old, texts-places, texts-become}
 use Rattle.mk_edit.proofs.on_line_changes.WordsBeside.{IsSeparator, begin-in_word, beside-places, count_among, end-in_word, first_separator, one-become, separator-is}
 use Rattle.mk_edit.proofs.on_line_changes.OperatorPlaces.{HasOperator, cut-operator, starts-behind}
 
 -- ---- the cells of the pieces
-
-drop-none : (k : ℕ) (cs : List Cell) → cs ≡ [] → cs ≡ drop k cs
-drop-none zero cs h = refl
-drop-none (suc k) [] h = refl
-drop-none (suc k) (c ∷ cs) h = absurd (cc)
-
-texts-old : (f n : List ℕ) (k : ℕ) (cs : List Cell) → 1 ≤ length f → old_cells (substituted f n k cs) ≡ drop k cs
-texts-old f n k [] h = drop-none k [] refl
-texts-old f n (suc k) (c ∷ cs) h = texts-old f n k cs h
-texts-old f n zero (c ∷ cs) h = go (begins_with f (c ∷ cs)) f h (texts-old f n (length f - 1) cs h) (texts-old f n zero cs h)
-  where
-    go : (b : Bool) (g : List ℕ) → 1 ≤ length g → old_cells (substituted f n (length f - 1) cs) ≡ drop (length f - 1) cs → old_cells (substituted f n zero cs) ≡ cs
-        → old_cells (cond b (Replace (take (length f) (c ∷ cs)) n ∷ substituted f n (length f - 1) cs) (Keep (c ∷ []) ∷ substituted f n zero cs)) ≡ c ∷ cs
-    go true g k d e = front (length f) (length f - 1) (omega (arith, h)) d
-      where
-        front : (l m : ℕ) → l ≡ m + 1 → old_cells (substituted f n (length f - 1) cs) ≡ drop m cs → take l (c ∷ cs) ++ old_cells (substituted f n (length f - 1) cs) ≡ c ∷ cs
-        front l m q d =
-            let s : l ≡ suc m = omega (arith, q) in
-            ap (λ z. take z (c ∷ cs) ++ old_cells (substituted f n (length f - 1) cs)) s ∙ (ap (λ z. c ∷ (take m cs ++ z)) d ∙ ap (λ z. c ∷ z) (take-append-drop m cs))
-    go false g k d e = ap (λ z. c ∷ z) e
 
 value-old : (said : List Cell → List ℕ) (c : LineChange) (us : List (List Cell)) → IsSought c → old_cells (value_pieces said c us) ≡ concat us
 value-old said (Prepend v) us h = append-nil (concat us)

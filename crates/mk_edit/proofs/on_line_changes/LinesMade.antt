@@ -44,7 +44,7 @@ use Rattle.mk_edit.specs.ValueChangeLines.{value_text_located}
 use Rattle.mk_edit.proofs.on_values.OwnLines.{IsValueText, own_line, own-text}
 use Rattle.mk_edit.proofs.on_values.ValuePlaces.{assignment-located}
 use Rattle.mk_edit.proofs.on_line_changes.OperatorPlaces.{HasOperator, assignment-operator}
-use Rattle.mk_edit.proofs.on_line_changes.PiecePlaces.{places, AllBecome}
+use Rattle.mk_edit_parts.proofs.on_line_changes.PiecePlaces.{places, AllBecome}
 use Rattle.mk_edit.proofs.on_line_changes.WordsBeside.{beside-number, first_separator, separator_cells, separator-bytes, separator-text}
 use Rattle.mk_edit.proofs.on_line_changes.ChangePlaces.{Separates, pieces_said, line-places, line-become, line-within, line-apart, line-can_rewrite, line-rewritten, line-separator, value-made, line-raw, line-can_note}
 
@@ -76,7 +76,7 @@ parts-in x l a I =
     }
 
 -- the offsets of its parts
-pub offsets-are : (x : Context) (l : LocatedLine) (a : Assignment Cell) (at : offsets.Assignment) → IsAssignmentIn x l a → IsAssignmentAt l at → at ≡ located_assignment 0 a
+offsets-are : (x : Context) (l : LocatedLine) (a : Assignment Cell) (at : offsets.Assignment) → IsAssignmentIn x l a → IsAssignmentAt l at → at ≡ located_assignment 0 a
 offsets-are x l a at I q =
     let same : variants.Assign at q.prefix ≡ variants.Assign (located_assignment 0 a) None = sym q.class_is ∙ I.class_is in
     cc

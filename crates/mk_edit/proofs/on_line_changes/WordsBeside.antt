@@ -20,7 +20,7 @@ use Rattle.mk_edit_language.specs.declared.edit.Side.TheVariants.{Before, After}
 use Rattle.mk_edit_parts.specs.LineChangePlaces.{gap_after, gap_before, gap_beside, new_text, separator_among, separator_bytes, separator_text, word_place, word_places}
 use Rattle.mk_edit_parts.specs.RenamedRanges.{span, IsWithin}
 use Rattle.mk_edit_parts.proofs.on_prerequisites.WordRangeLemmas.{slice-at}
-use Rattle.mk_edit.proofs.on_line_changes.PiecePlaces.{places, AllBecome}
+use Rattle.mk_edit_parts.proofs.on_line_changes.PiecePlaces.{places, AllBecome}
 
 -- some cells of a line, by their range
 cells-at : (cs b x q : List Cell) (s e : ℕ) → cs ≡ b ++ (x ++ q) → s ≡ length b → e ≡ s + length x → text_at cs (span s e) ≡ x

@@ -6,7 +6,7 @@ use Rattle.mk_lines.specs.Limits.{max_text}
 use Rattle.mk_lines.specs.Pieces.{Replacement, replaced}
 use Rattle.mk_class.specs.ClassedLines.{ClassedLine, classed_lines}
 use Rattle.mk_tree.specs.LocatedLines.{LocatedLine, located_text}
-use Rattle.mk_edit_language.specs.Edits.{Edit, ChangeValue, ChangeLine, ChangePrereqs, AddLine, AddRecipe, SetRecipe, RemoveLines, RenameTarget, ExchangeLines}
+use Rattle.mk_edit_language.specs.Edits.{Edit, ChangeValue, ChangeLine, ChangePrereqs, AddLine, AddRecipe, SetRecipe, RemoveLines, RenameTarget, ExchangeLines, EachLine}
 use Rattle.mk_edit_language.specs.EditSpans.{spans_of}
 use Rattle.mk_edit_language.specs.Stretches.{Stretch, insertion, removal}
 use Rattle.mk_edit_language.specs.Causes.{where_holds}
@@ -15,10 +15,10 @@ use Rattle.mk_edit_language.specs.AddressCauses.{unread_prefix, no_such, ambiguo
 use Rattle.mk_edit_language.specs.RuleCauses.{absent, already, taken, shared_rule, straddles}
 use Rattle.mk_edit_language.specs.LineCauses.{open_value, open_line, open_define, leaning, new_line_leans, removal_leans, too_long, misread}
 use Rattle.mk_edit_language.specs.Lengths.{bytes_taken, bytes_put}
-use Rattle.mk_edit_language.specs.Refusals.{first_cause, causes}
+use Rattle.mk_edit_language.specs.Refusals.{first_cause, causes, not_exchanged}
 use Rattle.mk_edit_language.specs.declared.refusal.Refusal.{Refusal}
 use Rattle.mk_edit_language.specs.declared.refusal.Refusal.TheVariants.{Leans, TooLong}
-use Rattle.mk_edit_language.proofs.on_edits.Accepted.{one_place-causes}
+use Rattle.mk_edit_language.proofs.on_edits.Accepted.{one_place-not_exchanged}
 use Rattle.mk_edit_language.proofs.on_edits.LengthLemmas.{length-replaced}
 use Rattle.mk_edit_language.proofs.on_edits.SpansRise.{spans-rise}
 use Rattle.mk_edit_parts.specs.Found.{IsAddressed}
@@ -42,16 +42,35 @@ own_causes t ls e =
     ∷ too_long t (spans_of t ls e)
     ∷ []
 
+-- a cause among others that does not hold
+pub dropped : (cs : List (Option Refusal)) (o : Option Refusal) (ds : List (Option Refusal)) → o ≡ None → first_cause (cs ++ o ∷ ds) ≡ first_cause (cs ++ ds)
+dropped [] o ds h = ap (λ z. first_cause (z ∷ ds)) h
+dropped (None ∷ cs) o ds h = dropped cs o ds h
+dropped (Some r ∷ cs) o ds h = refl
+
 -- the edit's own causes, with Misread, decide, once the line is found
 pub addressed-all : (e : Edit) (ls : List LocatedLine) (f : Found) (r : Option Refusal) → IsAddressed e ls f
     → first_cause (own_causes (located_text ls) (classed_lines (located_text ls)) e ++ misread (classed_lines (located_text ls)) e ∷ []) ≡ r
     → first_cause (causes (located_text ls) (classed_lines (located_text ls)) e) ≡ r
 addressed-all e ls f r A h =
     let cs = classed_lines (located_text ls) in
-    ap first_cause (one_place-causes (located_text ls) cs e A.one_place)
-    ∙ passed (bad_argument e) _ r A.arguments
+    let t = located_text ls in
+    let places =
+    prefix_led cs e
+    ∷ absent cs e
+    ∷ already cs e
+    ∷ taken cs e
+    ∷ shared_rule cs e
+    ∷ straddles cs e
+    ∷ open_value cs e
+    ∷ open_line cs e
+    ∷ open_define cs e
+    ∷ leaning cs e
+    ∷ [] in
+    let own = dropped places (not_exchanged t cs e) (too_long t (spans_of t cs e) ∷ misread cs e ∷ []) (one_place-not_exchanged t cs e A.one_place) in
+    passed (bad_argument e) _ r A.arguments
     (passed (reserved e) _ r A.not_reserved
-    (passed (unread_prefix cs) _ r A.prefix_read (passed (no_such cs e) _ r A.is_there (passed (ambiguous cs e) _ r A.is_one h))))
+    (passed (unread_prefix cs) _ r A.prefix_read (passed (no_such cs e) _ r A.is_there (passed (ambiguous cs e) _ r A.is_one (own ∙ h)))))
 
 -- causes before another that does not hold
 pub last-none : (cs : List (Option Refusal)) (o : Option Refusal) → o ≡ None → first_cause (cs ++ o ∷ []) ≡ first_cause cs
@@ -90,6 +109,7 @@ removal-read ls (SetRecipe nth g w c) s h = refl
 removal-read ls (RemoveLines r) s h = refl
 removal-read ls (RenameTarget o n) s h = refl
 removal-read ls (ExchangeLines x ts) s h = refl
+removal-read ls (EachLine e) s h = absurd (cc)
 
 pub removal-leaning : (ls : List ClassedLine) (e : Edit) (s : Stretch) (b : Bool) → insertion ls e ≡ None → removal ls e ≡ Some s → b ≡ removal_leans (Some s) → leaning ls e ≡ where_holds b Leans
 removal-leaning ls e s b i h k =

@@ -13,7 +13,7 @@ use Rattle.mk_class.specs.Texts.{is_one_of}
 use Rattle.mk_tree.specs.Documents.{IsFaithful}
 use Rattle.mk_tree.specs.LocatedLines.{LocatedLine, located_text, size_of}
 use Rattle.mk_tree.proofs.on_changes.Sizes.{size_of-text}
-use Rattle.mk_edit_language.specs.Edits.{Edit, RenameTarget, ExchangeLines}
+use Rattle.mk_edit_language.specs.Edits.{Edit, RenameTarget}
 use Rattle.mk_edit_language.specs.Addresses.{is_a_target, targets_of}
 use Rattle.mk_edit_language.specs.ArgumentCauses.{bad_argument, reserved}
 use Rattle.mk_edit_language.specs.AddressCauses.{ambiguous, begins_some_renamed_line, is_unread_prefix, no_such, prefix_led, unread_prefix}
@@ -52,7 +52,7 @@ new-some o n h =
 
 -- ---- the causes of an edit
 
--- the causes after those that the fields decide; `long` is TooLong
+-- the causes of a rename after those that the fields decide; `long` is TooLong
 abbrev after_fields : List ClassedLine → Edit → (long : Option Refusal) → List (Option Refusal)
 after_fields ls e long =
     unread_prefix ls
@@ -68,6 +68,7 @@ after_fields ls e long =
     ∷ open_line ls e
     ∷ open_define ls e
     ∷ leaning ls e
+    ∷ None
     ∷ long
     ∷ misread ls e
     ∷ []
@@ -76,15 +77,11 @@ after_fields ls e long =
 
 -- a bad field is told first, and then a reserved name
 pub bad-first : (t : List ℕ) (ls : List ClassedLine) (e : Edit) (r : Refusal) → bad_argument e ≡ Some r → Some r ≡ first_cause (causes t ls e)
-bad-first t ls (ExchangeLines s ts) r h = sym (holds (bad_argument (ExchangeLines s ts)) (drop 1 (causes t ls (ExchangeLines s ts))) r h)
-bad-first t ls e r h = sym (holds (bad_argument e) (reserved e ∷ after_fields ls e (too_long t (spans_of t ls e))) r h)
+bad-first t ls e r h = sym (holds (bad_argument e) (drop 1 (causes t ls e)) r h)
 
 pub reserved-first : (t : List ℕ) (ls : List ClassedLine) (e : Edit) (r : Refusal) → bad_argument e ≡ None → reserved e ≡ Some r → Some r ≡ first_cause (causes t ls e)
-reserved-first t ls (ExchangeLines s ts) r b h =
-    let after = drop 2 (causes t ls (ExchangeLines s ts)) in
-    sym (passed (bad_argument (ExchangeLines s ts)) (reserved (ExchangeLines s ts) ∷ after) (Some r) b (holds (reserved (ExchangeLines s ts)) after r h))
 reserved-first t ls e r b h =
-    let after = after_fields ls e (too_long t (spans_of t ls e)) in
+    let after = drop 2 (causes t ls e) in
     sym (passed (bad_argument e) (reserved e ∷ after) (Some r) b (holds (reserved e) after r h))
 
 -- ---- the causes after those of the fields
@@ -99,7 +96,7 @@ only-these : (t : List ℕ) (ls : List ClassedLine) (o n : List ℕ) (long : Opt
     → first_cause (after_fields ls (RenameTarget o n) long) ≡ first_cause (unread_prefix ls ∷ no_such ls (RenameTarget o n) ∷ prefix_led ls (RenameTarget o n) ∷ taken ls (RenameTarget o n) ∷ long ∷ [])
 only-these t ls o n long =
     let e = RenameTarget o n in
-    let last = long ∷ None ∷ [] in
+    let last = None ∷ long ∷ None ∷ [] in
     let end = long ∷ [] in
     let others = shared_rule ls e ∷ straddles ls e ∷ open_value ls e ∷ open_line ls e ∷ open_define ls e ∷ leaning ls e ∷ last in
     let from_taken = absent ls e ∷ already ls e ∷ taken ls e ∷ others in

@@ -21,7 +21,8 @@ use Rattle.mk_edit_parts.specs.RenamedRanges.{renamed_ranges}
 use Rattle.mk_edit_parts.specs.RenamedTexts.{renamed_text}
 use Rattle.mk_edit.specs.RenameTargetPatches.{holds_word, line_renamed, HasFewWords, HaveFewWords, CanBeRenamed, CanEachBeRenamed}
 use Rattle.mk_edit_parts.proofs.on_renaming.LinePieces.{line-begins}
-use Rattle.mk_edit.proofs.on_renaming.LinesRenamed.{apart-bytes, line-apart, line-rewritten, holds-renamed}
+use Rattle.mk_edit_parts.proofs.on_renaming.WrittenLemmas.{apart-bytes}
+use Rattle.mk_edit.proofs.on_renaming.LinesRenamed.{line-apart, line-rewritten, holds-renamed}
 use Rattle.mk_edit.proofs.on_renaming.SizesOfWords.{renamed-few}
 
 -- a line, or the one after the rename

@@ -21,45 +21,8 @@ use Rattle.mk_edit_parts.specs.RenamedTexts.{AreApart, written, renamed_text}
 use Rattle.mk_edit.specs.RenameTargetPatches.{holds_word}
 use Rattle.mk_edit_parts.proofs.on_renaming.PieceRanges.{replacing}
 use Rattle.mk_edit_parts.proofs.on_renaming.LinePieces.{line-pieces}
+use Rattle.mk_edit_parts.proofs.on_renaming.WrittenLemmas.{apart-rise, written-replaced, written-length, replacing-number, replaced-some}
 use Rattle.mk_edit_parts.specs.WordCuts.{last_end}
-
--- ---- ranges that stand apart
-
--- ranges stand apart if their replacements rise
-apart-rise : (a b : ℕ) (n : List ℕ) (ss : List Span) → Rise a b (replacing n ss) → AreApart a b ss
-apart-rise a b n [] h = h
-apart-rise a b n (s ∷ ss) h = (h.0, h.1, apart-rise s.end b n ss h.2)
-
--- such ranges have at most as many bytes as the text in which they stand
-pub apart-bytes : (a b : ℕ) (ss : List Span) → AreApart a b ss → a + bytes_in ss ≤ b
-apart-bytes a b [] h = omega (arith, h)
-apart-bytes a b (s ∷ ss) h = omega (arith, h.0, h.1, apart-bytes s.end b ss h.2)
-
--- a text from an offset on with a text for each of them is the text with the replacements made
-pub written-replaced : (l : List ℕ) (at : ℕ) (n : List ℕ) (ss : List Span) → AreApart at (length l) ss → written l at n ss ++ drop (last_end at ss) l ≡ replaced at (drop at l) (replacing n ss)
-written-replaced l at n [] h = refl
-written-replaced l at n (s ∷ ss) h =
-    let S = slice_range l at s.start in
-    let W = written l s.end n ss in
-    let D = drop (last_end s.end ss) l in
-    let m : at + (s.end - at) ≡ s.end = omega (arith, h.0, h.1) in
-    let d : drop (s.end - at) (drop at l) ≡ drop s.end l = drop-drop (s.end - at) at l ∙ ap (λ k. drop k l) m in
-    append_assoc S (n ++ W) D
-    ∙ ap (λ z. S ++ z) (append_assoc n W D ∙ ap (λ z. n ++ z) (written-replaced l s.end n ss h.2 ∙ ap (λ z. replaced s.end z (replacing n ss)) (sym d)))
-
--- the length of what is written
-written-length : (l : List ℕ) (at : ℕ) (n : List ℕ) (ss : List Span) → AreApart at (length l) ss → length (written l at n ss ++ drop (last_end at ss) l) + (bytes_in ss + at) ≡ length l + length ss * length n
-written-length l at n [] h = omega (arith, length-drop at l, h)
-written-length l at n (s ∷ ss) h =
-    let S = slice_range l at s.start in
-    let W = written l s.end n ss in
-    let D = drop (last_end s.end ss) l in
-    let i = written-length l s.end n ss h.2 in
-    let b = apart-bytes s.end (length l) ss h.2 in
-    let k : length S ≡ s.start - at = length-take-le (s.start - at) (drop at l) (omega (arith, length-drop at l, h.0, h.1, b)) in
-    let e : length ((S ++ (n ++ W)) ++ D) ≡ length S + (length n + length (W ++ D)) =
-    ap length (append_assoc S (n ++ W) D ∙ ap (λ z. S ++ z) (append_assoc n W D)) ∙ (length-append S (n ++ (W ++ D)) ∙ ap (λ z. length S + z) (length-append n (W ++ D))) in
-    omega (arith, e, k, i, h.0, h.1)
 
 -- ---- the words of a line
 
@@ -85,15 +48,6 @@ pub renamed-length : (o n : List ℕ) (l : LocatedLine) → AreApart 0 (length l
 renamed-length o n l h = omega (arith, written-length l.bytes 0 n (renamed_ranges o l) h)
 
 -- ---- which lines hold a word
-
-replacing-number : (n : List ℕ) (ss : List Span) → length (replacing n ss) ≡ length ss
-replacing-number n [] = refl
-replacing-number n (s ∷ ss) = omega (arith, replacing-number n ss)
-
-pub replaced-some : (at : ℕ) (ps : List Piece) → nat_lt 0 (length (replacements at ps)) ≡ list_any is_replaced ps
-replaced-some at [] = refl
-replaced-some at (Keep cs ∷ ps) = replaced-some (at + length (raw_text cs)) ps
-replaced-some at (Replace cs v ∷ ps) = lt-ltb 0 (length (replacements at (Replace cs v ∷ ps))) (omega arith)
 
 -- a line holds a word where a piece of it is replaced
 pub holds-renamed : (c : Context) (l : ClassedLine) (o n : List ℕ) → class_of c l.bytes ≡ l.class → holds_word o (located_line l) ≡ is_renamed o n l

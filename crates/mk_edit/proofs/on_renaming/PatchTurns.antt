@@ -11,7 +11,8 @@ use Rattle.mk_edit.specs.RenameTargetPatches.{holds_word, is_turn_of, is_exchang
 use Rattle.mk_edit.specs.declared.rename_target_effect.Turn.{Turn}
 use Rattle.mk_edit.specs.declared.rename_target_effect.Turn.TheVariants as turn
 use Rattle.mk_edit_parts.specs.declared.tally.Tally.{Tally}
-use Rattle.mk_edit.proofs.on_renaming.LinesRenamed.{apart-bytes, renamed-length}
+use Rattle.mk_edit_parts.proofs.on_renaming.WrittenLemmas.{apart-bytes}
+use Rattle.mk_edit.proofs.on_renaming.LinesRenamed.{renamed-length}
 
 -- ---- by numbers
 

@@ -27,7 +27,7 @@ use Rattle.mk_edit_parts.proofs.on_finding.SeekLemmas.{any-told, unread-told}
 use Rattle.mk_edit.specs.ChangeValuesSurveys.{findings_on, first_of_findings, first_said, idle, nothing_found}
 use Rattle.mk_edit.specs.ValueChangeLines.{is_changed_located, put_by}
 use Rattle.mk_edit.specs.declared.change_values_survey.Findings.{Findings}
-use Rattle.mk_edit.proofs.on_plans.CausePlans.{last-none}
+use Rattle.mk_edit.proofs.on_plans.CausePlans.{dropped, last-none}
 use Rattle.mk_edit.proofs.on_renaming.CausesOfRenameTarget.{after-cause}
 use Rattle.mk_edit.proofs.on_value_changes.LinesTold.{changed-told, opened-told}
 use Rattle.mk_edit.proofs.on_value_changes.SizesOfChanges.{change-long, found-lines, found-open, found-spared, found-there, found-unread, is_long, is_opened, none-pass, spared_in}
@@ -71,13 +71,14 @@ causes-are : (t : List ℕ) (ls : List ClassedLine) (n : List ℕ) (c : ValueCha
 causes-are t ls n c i g b r j k =
     let e = ChangeValue Every n c in
     let long = too_long t (spans_of t ls e) in
-    let tail = from_absent ls e long ++ None ∷ [] in
+    let front = absent ls e ∷ already ls e ∷ taken ls e ∷ shared_rule ls e ∷ straddles ls e ∷ open_value ls e ∷ open_line ls e ∷ open_define ls e ∷ leaning ls e ∷ [] in
+    let tail = front ++ None ∷ long ∷ None ∷ [] in
     let short = idle_cause ls Every n c ∷ open_value ls e ∷ long ∷ [] in
     let whole : Option Refusal → Option Refusal → Option Refusal = λ y z. first_cause (unread_prefix ls ∷ no_such ls e ∷ y ∷ open_value ls e ∷ z ∷ []) in
     passed (bad_argument e) _ (whole i (where_holds g TooLong)) b
     (passed (reserved e) _ (whole i (where_holds g TooLong)) r
     (after-cause (unread_prefix ls) (no_such ls e ∷ ambiguous ls e ∷ prefix_led ls e ∷ tail) (no_such ls e ∷ short)
-    (after-cause (no_such ls e) (ambiguous ls e ∷ prefix_led ls e ∷ tail) short (last-none (from_absent ls e long) None refl ∙ few-own ls Every n c long))
+    (after-cause (no_such ls e) (ambiguous ls e ∷ prefix_led ls e ∷ tail) short (dropped front None (long ∷ None ∷ []) refl ∙ (last-none (from_absent ls e long) None refl ∙ few-own ls Every n c long)))
     ∙ (ap (λ z. whole z long) j ∙ ap (whole i) k)))
 
 -- ---- by what is found

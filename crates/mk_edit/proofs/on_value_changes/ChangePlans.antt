@@ -4,6 +4,7 @@ use Rattle.std.proofs.Common.{◌≡◌, refl, sym, ap, ◌∙◌, subst, arith,
 use Rattle.std.specs.Prelude.{Ok, ◌&&◌, if◌then◌else◌}
 use Rattle.std.specs.List.{list_any}
 use Rattle.std.proofs.lemmas.Bool.{and_parts}
+use Rattle.std.proofs.lemmas.List.{map-id}
 use Rattle.mk_lines.specs.Limits.{max_text}
 use Rattle.mk_class.specs.ClassedLines.{ClassedLine, classed_lines}
 use Rattle.mk_class.specs.Contexts.{Context, start, context_after}
@@ -30,7 +31,7 @@ use Rattle.mk_edit.specs.ChangeValuesSurveys.{meant_places}
 use Rattle.mk_edit.specs.ValueChangeLines.{is_changed_located, is_longer}
 use Rattle.mk_edit.specs.declared.rename_target_effect.Turn.TheVariants as turn
 use Rattle.mk_edit.proofs.on_plans.PlanLemmas.{after-fits, faithful-length, lead-planned}
-use Rattle.mk_edit.proofs.on_plans.TurnPlans.{first_turn, second_turn, turns-held, turns-lead, turns-taken}
+use Rattle.mk_edit.proofs.on_plans.TurnPlans.{first_turn, itself, second_turn, turns-held, turns-lead, turns-taken}
 use Rattle.mk_edit.proofs.on_renaming.PatchPlans.{filter-step}
 use Rattle.mk_edit.proofs.on_value_changes.ChangeTurns.{CanEachChange, changed_where, is_exchanged_in, lines-become, lines-changeable, lines-turn, meant-number, new_line, turn-exchanges}
 use Rattle.mk_edit.proofs.on_value_changes.LinesTold.{changed-told}
@@ -81,13 +82,16 @@ change_values-planned n c ls f few_bytes few h =
     let new = new_line n c in
     let first = turn-exchanges n c turn.NoLonger one (λ l z. z) 0 start own in
     let second = turn-exchanges n c turn.Longer all (λ l z. (and_parts (is_changed_located n c l) (is_longer c l) z).0) 0 start own in
-    let moves : first_turn one two all new start own ++ second_turn one two all new start own ≡ changing_moves c (meant_places n c own) =
-    ap (λ z. z ++ second_turn one two all new start own) first ∙ ap (λ z. turn_moves turn.NoLonger c (meant_places n c own) ++ z) second in
+    let moves : first_turn itself one two all new start own ++ second_turn itself one two all new start own ≡ changing_moves c (meant_places n c own) =
+    ap (λ z. z ++ second_turn itself one two all new start own) first ∙ ap (λ z. turn_moves turn.NoLonger c (meant_places n c own) ++ z) second in
     let L : LeadTo (changing_moves c (meant_places n c own)) own (located_lines after) =
-    subst (λ z. LeadTo z own (located_lines after)) moves (subst (LeadTo (first_turn one two all new start own ++ second_turn one two all new start own) own) become (turns-lead one two all new start own C old_bytes new_bytes)) in
+    subst (λ z. LeadTo z own (located_lines after)) moves
+    (subst (LeadTo (first_turn itself one two all new start own ++ second_turn itself one two all new start own) own) become
+    (subst (λ (z : List LocatedLine). LeadTo (first_turn itself one two all new start own ++ second_turn itself one two all new start own) z (changed_where n c all start own)) (map-id own)
+    (turns-lead itself one two all new start own C (subst (λ (z : List LocatedLine). size_of z ≤ max_text) (sym (map-id own)) old_bytes) new_bytes))) in
     let number : length (filter all own) ≡ cost t e = changed-number n c p start before A in
-    let held : held_by (changing_moves c (meant_places n c own)) ≡ length (filter all own) = ap held_by (sym moves) ∙ turns-held one two all new start own C in
-    let taken : taken_by (changing_moves c (meant_places n c own)) ≡ length (filter all own) = ap taken_by (sym moves) ∙ turns-taken one two all new start own C in
+    let held : held_by (changing_moves c (meant_places n c own)) ≡ length (filter all own) = ap held_by (sym moves) ∙ turns-held itself one two all new start own C in
+    let taken : taken_by (changing_moves c (meant_places n c own)) ≡ length (filter all own) = ap taken_by (sym moves) ∙ turns-taken itself one two all new start own C in
     record {
       can = subst (λ (z : List LocatedLine). AreChangeable c (meant_places n c z)) (sym f) (lines-changeable n c p 0 start before after A closed K.in_place low);
       costs = ap (λ (z : List LocatedLine). length (meant_places n c z)) f ∙ (meant-number n c 0 start own ∙ number);

@@ -33,7 +33,7 @@ use Rattle.mk_edit.specs.declared.rename_target_effect.Turn.{Turn}
 use Rattle.mk_edit.specs.declared.rename_target_effect.Turn.TheVariants as turn
 use Rattle.mk_edit.proofs.on_renaming.LinesAlong.{line_where}
 use Rattle.mk_edit.proofs.on_renaming.PatchPlans.{ArePartedTests}
-use Rattle.mk_edit.proofs.on_plans.TurnPlans.{CanEachTurn, CanTurn, lines_where}
+use Rattle.mk_edit.proofs.on_plans.TurnPlans.{CanEachTurn, CanTurn, itself, lines_where}
 use Rattle.mk_edit.proofs.on_value_changes.ChangedBytes.{longer, no-longer}
 use Rattle.mk_edit.proofs.on_value_changes.LinesTold.{changed-assigns, changed-told, named-line}
 
@@ -50,10 +50,10 @@ module _ (n : List ℕ) (c : ValueChange) where
 
   -- lines after the change of those that pass a test
   abbrev pub changed_where : (test : LocatedLine → Bool) → Context → List LocatedLine → List LocatedLine
-  changed_where p x ls = lines_where (is_exchanged_in turn.NoLonger) (is_exchanged_in turn.Longer) (is_changed_located n c) new_line p x ls
+  changed_where p x ls = lines_where itself (is_exchanged_in turn.NoLonger) (is_exchanged_in turn.Longer) (is_changed_located n c) new_line p x ls
 
   abbrev pub CanEachChange : Context → List LocatedLine → Type 0
-  CanEachChange x ls = CanEachTurn (is_exchanged_in turn.NoLonger) (is_exchanged_in turn.Longer) (is_changed_located n c) new_line x ls
+  CanEachChange x ls = CanEachTurn itself (is_exchanged_in turn.NoLonger) (is_exchanged_in turn.Longer) (is_changed_located n c) new_line x ls
 
   -- the moves of a turn are exchanges of the lines that pass its test
   pub turn-exchanges : (t : Turn) (p : LocatedLine → Bool) → ((l : LocatedLine) → is_exchanged_in t l ≡ true → p l ≡ true) → (at : ℕ) (x : Context) (ls : List LocatedLine)
@@ -147,7 +147,7 @@ module _ (n : List ℕ) (c : ValueChange) where
         go false k = record { both = λ e. absurd (cc); one = λ e. refl }
 
     line-turns : (x : Context) (k m : ClassedLine) → class_of x k.bytes ≡ k.class → (is_changed n c k && is_open_to c (Some k.class)) ≡ false → IsLineChanged n c x k m
-        → CanTurn (is_exchanged_in turn.NoLonger) (is_exchanged_in turn.Longer) (is_changed_located n c) new_line x (located_line k)
+        → CanTurn itself (is_exchanged_in turn.NoLonger) (is_exchanged_in turn.Longer) (is_changed_located n c) new_line x (located_line k)
     line-turns x k m h o R =
         let l = located_line k in
         let told = changed-told n c f x k h in

@@ -31,7 +31,7 @@ use Rattle.mk_edit_language.specs.Changes.{value_item, value_changed, changed_it
 use Rattle.mk_edit_language.specs.RisingSpans.{Rise}
 use Rattle.mk_edit_language.specs.LinesInPlace.{AreInPlace, changed_bytes, IsLineChanged}
 use Rattle.mk_edit_language.proofs.on_edits.RisingSpanLemmas.{replaced-append}
-use Rattle.mk_edit_language.proofs.on_edits.SpansRise.{spot-rises, rise-changed, rise-in_line, rise-lines}
+use Rattle.mk_edit_language.proofs.on_edits.LineSpansRise.{spot-rises, rise-changed, rise-in_line, rise-lines}
 use Rattle.mk_edit_language.proofs.on_edits.MadeLines.{line-respanned}
 use Rattle.mk_edit_language.proofs.on_values.FoundAssignments.{assigned-by_name, assigned-by_item}
 use Rattle.mk_edit_language.proofs.on_changes.SpansShifted.{change-by_itself}

@@ -23,8 +23,9 @@ use Rattle.mk_edit_language.specs.Edits.{LineChange}
 use Rattle.mk_edit_language.specs.WordPieces.{is_replaced}
 use Rattle.mk_edit_language.specs.LineChanges.{line_pieces, line_change_spans, assigned_after, line_after, reads_as, is_one, fits_line}
 use Rattle.mk_edit_language.specs.RisingSpans.{Rise}
-use Rattle.mk_edit_language.specs.EachLine.{EachChange, InAssignment, InRecipe, MarkedLine, recipe_text, recipe_text_pieces, recipe_pieces, recipe_after, reads_as_recipe, items_said, is_change_misread, marked_pieces, is_each_changed, each_items}
-use Rattle.mk_edit_language.specs.EachLineInPlace.{IsEachInPlace}
+use Rattle.mk_edit_language.specs.EachLine.{EachChange, InAssignment, InRecipe, MarkedLine, recipe_text, recipe_text_pieces, recipe_pieces, recipe_after, reads_as_recipe, is_change_misread, marked_pieces, is_each_changed}
+use Rattle.mk_edit_language.specs.Changes.{items_said, each_items}
+use Rattle.mk_edit_language.specs.LinesInPlace.{IsEachInPlace}
 use Rattle.mk_edit_language.proofs.on_lines.SpotLemmas.{recipe-class}
 use Rattle.mk_edit_language.proofs.on_edits.MadeLines.{line-respanned}
 use Rattle.mk_edit_language.proofs.on_changes.LinesReadAnew.{only-line, ends-too, line-read_anew}

@@ -11,15 +11,21 @@ use Rattle.mk_class.specs.Assignments.{Assignment}
 use Rattle.mk_class.specs.PartOffsets.{raw_width}
 use Rattle.mk_class.specs.Classes.{Class, is_recipe}
 use Rattle.mk_class.specs.Classes.Class.{Endef, Body, Recipe, Opaque, Blank, Comment, Assign, DefineHead, If, Else, Endif, Directive, TargetAssign, Rough, Header}
-use Rattle.mk_class.specs.Contexts.{Context}
+use Rattle.mk_class.specs.Contexts.{Context, start, context_after}
 use Rattle.mk_class.specs.ClassTable.{class_of}
+use Rattle.mk_class.specs.ClassedLines.{ClassedLine, classed_lines}
+use Rattle.mk_tree.specs.Documents.{text_of}
+use Rattle.mk_tree.specs.LineTexts.{StandingLine}
+use Rattle.mk_tree.proofs.on_documents.LinesInText.{AreClassed, AreClassed-class, AreClassed-tail, AreClassed-lines}
+use Rattle.mk_tree.proofs.on_documents.DocumentLemmas.{text_of-classed_lines}
 use Rattle.mk_class.specs.declared.assignment.Flavor.TheVariants.{Recursive}
 use Rattle.mk_tree.specs.Items.{Assigned}
-use Rattle.mk_edit_language.specs.Edits.{LineChange, Substitute}
+use Rattle.mk_edit_language.specs.Edits.{LineChange, Substitute, EachEdit}
 use Rattle.mk_edit_language.specs.LineChanges.{substituted, line_pieces, reads_as}
-use Rattle.mk_edit_language.specs.EachLine.{EachChange, InAssignment, InRecipe, MarkedLine, assignment_pieces, recipe_text, recipe_pieces, change_pieces, marked_pieces}
+use Rattle.mk_edit_language.specs.EachLine.{EachChange, InAssignment, InRecipe, MarkedLine, lines_meant, marked_by, marked, each_change, assignment_pieces, recipe_text, recipe_pieces, change_pieces, marked_pieces, marked_spans}
 use Rattle.mk_edit_language.specs.RisingSpans.{Rise}
-use Rattle.mk_edit_language.proofs.on_edits.SpansRise.{line_change-rises}
+use Rattle.mk_edit_language.proofs.on_edits.LineSpansRise.{line_change-rises}
+use Rattle.mk_edit_language.proofs.on_edits.RisingSpanLemmas.{Rise-append}
 use Rattle.mk_edit_language.proofs.on_lines.ClassParts.{part_units, parts-within}
 use Rattle.mk_edit_language.proofs.on_changes.SpansShifted.{replaced-shifted, replacements-shifted}
 
@@ -112,6 +118,40 @@ marked-rises c context m at h = go m.is_meant
     go : (b : Bool) → Rise at (at + length m.line.bytes) (replacements at (cond b (change_pieces c k m.line.bytes) []))
     go true = change-rises c k m.line.bytes at (subst (λ (z : Class Cell). raw_width (part_units z) ≤ length m.line.bytes) h (parts-within context m.line.bytes))
     go false = omega arith
+
+-- ---- the lines of a text
+
+-- the lines without their marks
+abbrev pub unmarked : List MarkedLine → List ClassedLine
+unmarked ms = map (λ (m : MarkedLine). m.line) ms
+
+pub unmarked-marked_by : (ss : List StandingLine) (n : ℕ) (ls : List ClassedLine) → unmarked (marked_by ss n ls) ≡ ls
+unmarked-marked_by ss n [] = refl
+unmarked-marked_by ss n (l ∷ ls) = ap (λ z. l ∷ z) (unmarked-marked_by ss (n + 1) ls)
+
+-- the spans rise within the lines
+pub marked_spans-rise : (c : EachChange) (context : Context) (ms : List MarkedLine) (at : ℕ) → AreClassed context (unmarked ms) → Rise at (at + length (text_of (unmarked ms))) (marked_spans c at ms)
+marked_spans-rise c context [] at h = omega arith
+marked_spans-rise c context (m ∷ ms) at h =
+    let l = m.line in
+    let ls = unmarked ms in
+    let n = at + length l.bytes in
+    let e : n + length (text_of ls) ≡ at + length (l.bytes ++ text_of ls) = omega (arith, length-append l.bytes (text_of ls)) in
+    Rise-append at n (at + length (l.bytes ++ text_of ls)) (replacements at (marked_pieces c m)) (marked_spans c n ms)
+    (marked-rises c context m at (AreClassed-class context l ls h))
+    (subst (λ z. Rise n z (marked_spans c n ms)) e (marked_spans-rise c (context_after context l.class) ms n (AreClassed-tail context l ls h)))
+
+-- the spans of an edit rise within the text
+pub each-rises : (t : List ℕ) (e : EachEdit) → Rise 0 (length t) (marked_spans (each_change e) 0 (marked e (classed_lines t)))
+each-rises t e =
+    let ls = classed_lines t in
+    let c = each_change e in
+    let ms = marked e ls in
+    let whole : ls ≡ unmarked ms = sym (unmarked-marked_by (lines_meant ls e) 0 ls) in
+    let end : 0 + length (text_of (unmarked ms)) ≡ length t = omega (arith, ap length (ap text_of (sym whole) ∙ text_of-classed_lines t)) in
+    subst (λ z. Rise 0 z (marked_spans c 0 ms)) end (marked_spans-rise c start ms 0 (AreClassed-lines t (unmarked ms) whole))
+
+-- ---- a line by itself
 
 -- a line with its pieces replaced does not depend on the offset where it begins
 pub pieces-by_itself : (at : ℕ) (ps : List Piece) (l : List ℕ) → replaced at l (replacements at ps) ≡ replaced 0 l (replacements 0 ps)

@@ -1,5 +1,5 @@
 -- The lines of a text after an edit of several lines that is checked by reading, each in the place of the old one.
-use Rattle.std.proofs.Common.{◌≡◌, refl, sym, ap, ◌∙◌, subst, arith, ℕ, List, [], ◌∷◌, ◌++◌, map, false, ◌&&◌, append_assoc, length, length-append, ◌+◌}
+use Rattle.std.proofs.Common.{◌≡◌, refl, sym, ap, ◌∙◌, subst, ℕ, List, [], ◌∷◌, ◌++◌, map, false, ◌&&◌, append_assoc, length, length-append, ◌+◌}
 use Rattle.std.proofs.lemmas.List.{append-nil}
 use Rattle.mk_lines.specs.Lists.{concat}
 use Rattle.mk_lines.specs.LogicalLines.{EndsWhereFollowed}
@@ -9,46 +9,25 @@ use Rattle.mk_class.specs.Contexts.{Context, start, context_after}
 use Rattle.mk_class.specs.ClassedLines.{ClassedLine, classed_lines}
 use Rattle.mk_tree.specs.Documents.{text_of, context_of}
 use Rattle.mk_tree.specs.Items.{items}
-use Rattle.mk_tree.specs.LineTexts.{StandingLine, bytes_of}
+use Rattle.mk_tree.specs.LineTexts.{bytes_of}
 use Rattle.mk_tree.specs.EachReplaced.{ReplaceEach}
 use Rattle.mk_tree.proofs.on_documents.LinesInText.{run-in_text, text_of-append, context_of-last, AreClassed, AreClassed-class, AreClassed-tail}
 use Rattle.mk_tree.proofs.on_documents.DocumentLemmas.{text_of-classed_lines}
 use Rattle.mk_tree.proofs.on_changes.EachReplacedLemmas.{lines-replaced}
-use Rattle.mk_edit_language.specs.RisingSpans.{Rise}
-use Rattle.mk_edit_language.specs.EachLine.{EachChange, MarkedLine, marked_by, marked_pieces, marked_spans, is_each_changed, is_change_misread, is_any_misread, each_bytes, each_items}
-use Rattle.mk_edit_language.specs.EachLineInPlace.{AreEachInPlace}
-use Rattle.mk_edit_language.proofs.on_edits.RisingSpanLemmas.{Rise-append, replaced-append}
-use Rattle.mk_edit_language.proofs.on_each_line.EachLineSpans.{marked-rises, pieces-by_itself}
+use Rattle.mk_edit_language.specs.EachLine.{EachChange, MarkedLine, marked_pieces, marked_spans, is_each_changed, is_change_misread, each_bytes}
+use Rattle.mk_edit_language.specs.LineCauses.{is_any_misread}
+use Rattle.mk_edit_language.specs.Changes.{each_items}
+use Rattle.mk_edit_language.specs.LinesInPlace.{AreLinesInPlace, IsEachInPlace}
+use Rattle.mk_edit_language.proofs.on_edits.RisingSpanLemmas.{replaced-append}
+use Rattle.mk_edit_language.proofs.on_each_line.EachLineSpans.{unmarked, marked-rises, marked_spans-rise, pieces-by_itself}
 use Rattle.mk_edit_language.proofs.on_each_line.EachLineMade.{IsEachMade, line-made}
-
--- the lines without their marks
-abbrev pub unmarked : List MarkedLine → List ClassedLine
-unmarked ms = map (λ m. m.line) ms
-
-pub unmarked-marked_by : (ss : List StandingLine) (n : ℕ) (ls : List ClassedLine) → unmarked (marked_by ss n ls) ≡ ls
-unmarked-marked_by ss n [] = refl
-unmarked-marked_by ss n (l ∷ ls) = ap (λ z. l ∷ z) (unmarked-marked_by ss (n + 1) ls)
-
--- ---- spans
-
--- the spans rise within the lines
-pub marked_spans-rise : (c : EachChange) (context : Context) (ms : List MarkedLine) (at : ℕ) → AreClassed context (unmarked ms) → Rise at (at + length (text_of (unmarked ms))) (marked_spans c at ms)
-marked_spans-rise c context [] at h = omega arith
-marked_spans-rise c context (m ∷ ms) at h =
-    let l = m.line in
-    let ls = unmarked ms in
-    let n = at + length l.bytes in
-    let e : n + length (text_of ls) ≡ at + length (l.bytes ++ text_of ls) = omega (arith, length-append l.bytes (text_of ls)) in
-    Rise-append at n (at + length (l.bytes ++ text_of ls)) (replacements at (marked_pieces c m)) (marked_spans c n ms)
-    (marked-rises c context m at (AreClassed-class context l ls h))
-    (subst (λ z. Rise n z (marked_spans c n ms)) e (marked_spans-rise c (context_after context l.class) ms n (AreClassed-tail context l ls h)))
 
 -- ---- several lines
 
 -- lines after the edit, the first of which begins at an offset and stands in a context
 pub record AreMade (c : EachChange) (at : ℕ) (context : Context) (ms : List MarkedLine) : Type 0 where
   pub after : List ClassedLine
-  pub in_place : AreEachInPlace c context ms after
+  pub in_place : AreLinesInPlace (λ (m : MarkedLine). m.line) (IsEachInPlace c) context ms after
   pub each : ReplaceEach context (unmarked ms) after []
   pub bytes : bytes_of after ≡ map (each_bytes c) ms
   pub text : replaced at (text_of (unmarked ms)) (marked_spans c at ms) ≡ text_of after

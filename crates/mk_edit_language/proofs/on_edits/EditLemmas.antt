@@ -2,7 +2,7 @@
 use Rattle.std.proofs.Common.{◌≡◌, List, ℕ}
 use Rattle.std.specs.Prelude.{Ok}
 use Rattle.mk_lines.specs.Pieces.{Replacement}
-use Rattle.mk_edit_language.specs.Edits.{Every, Edit, ChangeValue, RenameTarget, ExchangeLines}
+use Rattle.mk_edit_language.specs.Edits.{Every, Edit, ChangeValue, RenameTarget, ExchangeLines, EachLine}
 use Rattle.mk_edit_language.specs.KeptLines.{IsOfOnePlace, TouchFew}
 use Rattle.mk_edit_language.specs.Refusals.{spans}
 use Rattle.mk_edit_language.specs.EditLaws.{ReadsAsChanged, LeavesOthers}
@@ -12,12 +12,14 @@ use Rattle.mk_edit_language.proofs.on_edits.KeptByChangeValuesLemmas.{change_val
 use Rattle.mk_edit_language.proofs.on_renames.RenameTargetLemmas.{rename_target-reads}
 use Rattle.mk_edit_language.proofs.on_edits.KeptByRenameTargetLemmas.{rename_target-keeps}
 use Rattle.mk_edit_language.proofs.on_line_runs.LinesExchanged.{lines-exchanged}
+use Rattle.mk_edit_language.proofs.on_each_line.EachLineLemmas.{each_line-reads, each_line-keeps}
 
 -- each edit reads as changed
 pub edits-read : (edit : Edit) → ReadsAsChanged edit
 edits-read (ChangeValue Every n c) = change_values-reads n c
 edits-read (RenameTarget o n) = rename_target-reads o n
 edits-read (ExchangeLines s ts) = λ t rs h. (lines-exchanged s ts t rs h).reads
+edits-read (EachLine e) = each_line-reads e
 edits-read e = λ t rs h. (one_place-made e tt t rs h).reads
 
 -- each edit leaves the lines that its spans do not touch
@@ -25,6 +27,7 @@ pub edits-keep : (edit : Edit) → LeavesOthers edit
 edits-keep (ChangeValue Every n c) = change_values-keeps n c
 edits-keep (RenameTarget o n) = rename_target-keeps o n
 edits-keep (ExchangeLines s ts) = λ t rs h. (lines-exchanged s ts t rs h).kept
+edits-keep (EachLine e) = each_line-keeps e
 edits-keep e = λ t rs h. (one_place-made e tt t rs h).kept
 
 -- the spans of an edit of one place stand within at most as many lines as its size says

@@ -6,7 +6,7 @@ use Rattle.mk_class.specs.ClassedLines.{ClassedLine}
 use Rattle.mk_tree.specs.RecipeLines.{recipe_run, after_recipe}
 use Rattle.mk_tree.proofs.on_changes.RecipeRunLemmas.{recipe_run-after}
 use Rattle.mk_tree.specs.LineTexts.{StandingLine}
-use Rattle.mk_edit_language.specs.Edits.{Place, Bottom, BeforeVar, AfterVar, BeforeRule, One, Every, ByNumber, RecipePlace, Last, At, Removal, OfAssign, OfRule, OfRecipe, Edit, ChangeValue, ChangeLine, ChangePrereqs, AddLine, AddRecipe, SetRecipe, RemoveLines, RenameTarget, ExchangeLines}
+use Rattle.mk_edit_language.specs.Edits.{Place, Bottom, BeforeVar, AfterVar, BeforeRule, One, Every, ByNumber, RecipePlace, Last, At, Removal, OfAssign, OfRule, OfRecipe, Edit, ChangeValue, ChangeLine, ChangePrereqs, AddLine, AddRecipe, SetRecipe, RemoveLines, RenameTarget, ExchangeLines, EachLine}
 use Rattle.mk_edit_language.specs.Spots.{nth_of}
 use Rattle.mk_edit_language.specs.Addresses.{Address, Variable, Rule, assigns, is_rule_for, found}
 use Rattle.mk_edit_language.specs.Stretches.{Stretch, this_line, before_line, after_line, bottom, whole_rule, after_rule, between, recipe_spots, recipe_gap, recipe_place, recipe_found, place_found, removed, touched_by, IsStretchOf}
@@ -90,3 +90,4 @@ touched-stretch ls (RemoveLines r) s h = removed-stretch ls r s h
 touched-stretch ls (ChangeValue Every n c) s h = absurd (cc)
 touched-stretch ls (RenameTarget o n) s h = absurd (cc)
 touched-stretch ls (ExchangeLines q ts) s h = absurd (cc)
+touched-stretch ls (EachLine e) s h = absurd (cc)

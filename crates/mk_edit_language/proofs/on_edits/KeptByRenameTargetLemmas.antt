@@ -18,8 +18,8 @@ use Rattle.mk_edit_language.specs.EditSpans.{renamed_line_spans}
 use Rattle.mk_edit_language.specs.Costs.{is_renamed}
 use Rattle.mk_edit_language.specs.Refusals.{spans, text_by}
 use Rattle.mk_edit_language.proofs.on_edits.Accepted.{accepted, where_holds-none}
-use Rattle.mk_edit_language.proofs.on_edits.SpansRise.{rise-renamed}
-use Rattle.mk_edit_language.proofs.on_edits.KeptApartLemmas.{apart-kept}
+use Rattle.mk_edit_language.proofs.on_edits.LineSpansRise.{rise-renamed}
+use Rattle.mk_edit_language.proofs.on_edits.KeptApartLemmas.{lines-kept}
 use Rattle.mk_edit_language.proofs.on_renames.RenamedTexts.{renamed_class, lines-renamed, line_pieces, line_class}
 use Rattle.mk_edit_language.proofs.on_renames.RenameTargetLemmas.{rename_target-words}
 use Rattle.mk_edit_language.specs.LinesInPlace.{renamed_bytes, IsLineRenamed, AreLinesRenamedInPlace, AreOthersKeptByRenameTarget}
@@ -100,7 +100,7 @@ rename_target-keeps o n t rs h =
     let A = accepted t e rs h in
     let W = rename_target-words o n t rs h in
     let L = lines-renamed o n W.new W.renamed t (where_holds-none _ _ A.not_led) in
-    apart-kept t e rs (is_renamed o n) (renamed_line_spans o n) (renamed_bytes o n) (IsLineRenamed o n) (map (with_pieces (line_pieces o n) (line_class o n)) ls) h (λ x l m r. r.in_place) (rise-renamed o n)
+    lines-kept t e rs (is_renamed o n) (renamed_line_spans o n) (renamed_bytes o n) (IsLineRenamed o n) (map (with_pieces (line_pieces o n) (line_class o n)) ls) h (λ x l m r. r.in_place) (rise-renamed o n)
     (λ at l z. unreplaced-spans at (renamed_pieces o n l.class) z) refl refl
     (record {
       are = ap (λ q. classed_lines (text_by t q)) h ∙ (ap (λ q. classed_lines (replaced 0 t q)) (sym A.spans_are) ∙ L.lines);

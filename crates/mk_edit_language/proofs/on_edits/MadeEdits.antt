@@ -13,7 +13,7 @@ use Rattle.mk_class.specs.ClassTable.{class_of}
 use Rattle.mk_tree.specs.Documents.{text_of, context_of}
 use Rattle.mk_tree.specs.Items.{Assign as AssignItem, Recipe, header_item}
 use Rattle.mk_tree.specs.LineTexts.{StandingLine}
-use Rattle.mk_edit_language.specs.Edits.{Place, NewLine, NewAssign, NewRule, One, Every, ValueChange, LineChange, PrereqChange, AddPrereq, RemovePrereq, RecipeLine, ByNumber, ByText, RecipePlace, Removal, Edit, ChangeValue, ChangeLine, ChangePrereqs, AddLine, AddRecipe, SetRecipe, RemoveLines, RenameTarget, ExchangeLines}
+use Rattle.mk_edit_language.specs.Edits.{Place, NewLine, NewAssign, NewRule, One, Every, ValueChange, LineChange, PrereqChange, AddPrereq, RemovePrereq, RecipeLine, ByNumber, ByText, RecipePlace, Removal, Edit, ChangeValue, ChangeLine, ChangePrereqs, AddLine, AddRecipe, SetRecipe, RemoveLines, RenameTarget, ExchangeLines, EachLine}
 use Rattle.mk_edit_language.specs.Stretches.{Stretch, this_line}
 use Rattle.mk_edit_language.specs.ValueChanges.{assignment_spans, value_spans, change_spans}
 use Rattle.mk_edit_language.specs.LineChanges.{line_pieces, line_change_spans, assigned_after, line_after, fits_line, reads_as, is_misread}
@@ -35,7 +35,7 @@ use Rattle.mk_edit_language.proofs.on_values.SetValueLemmas.{not_prefix}
 use Rattle.mk_edit_language.proofs.on_changes.AssignmentsChanged.{change-text, assignment-changed}
 use Rattle.mk_edit_language.proofs.on_changes.SpansShifted.{replacements-shifted, replaced-shifted}
 use Rattle.mk_edit_language.proofs.on_changes.LinesReadAnew.{line-read_anew}
-use Rattle.mk_edit_language.proofs.on_edits.SpansRise.{spot-rises, rise-values, line_change-rises}
+use Rattle.mk_edit_language.proofs.on_edits.LineSpansRise.{spot-rises, rise-values, line_change-rises}
 use Rattle.mk_edit_language.proofs.on_prerequisites.NewWords.{word-is_new}
 use Rattle.mk_edit_language.proofs.on_prerequisites.HeaderEdits.{word_spans-header, with_header-header}
 use Rattle.mk_edit_language.proofs.on_prerequisites.AddPrereqLemmas.{add_prereq-line}
@@ -183,3 +183,4 @@ one_place-made (RemoveLines r) p t rs h = remove-made r t rs h
 one_place-made (ChangeValue Every n c) p t rs h = absurd p
 one_place-made (RenameTarget o n) p t rs h = absurd p
 one_place-made (ExchangeLines s ts) p t rs h = absurd p
+one_place-made (EachLine e) p t rs h = absurd p

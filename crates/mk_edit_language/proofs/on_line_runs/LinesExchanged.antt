@@ -25,18 +25,19 @@ use Rattle.mk_tree.proofs.on_documents.LinesInText.{bytes_of, reading-three}
 use Rattle.mk_edit_language.specs.Edits.{Site, Top, AtPlace, BeforeRun, AfterRun, OfRun, ExchangeLines}
 use Rattle.mk_edit_language.specs.Spots.{nth_of, picked}
 use Rattle.mk_edit_language.specs.Stretches.{Stretch}
-use Rattle.mk_edit_language.specs.EditSpans.{where_found, spans_of}
+use Rattle.mk_edit_language.specs.EditSpans.{where_found}
 use Rattle.mk_edit_language.specs.RisingSpans.{Rise}
 use Rattle.mk_edit_language.specs.Costs.{line_count}
 use Rattle.mk_edit_language.specs.Changes.{with_new_lines, change}
 use Rattle.mk_edit_language.specs.ArgumentCauses.{first_failed, is_place, exchange_tests}
 use Rattle.mk_edit_language.specs.LineCauses.{follows_open_line}
-use Rattle.mk_edit_language.specs.Refusals.{first_cause, spans, text_by, text_after}
+use Rattle.mk_edit_language.specs.Refusals.{spans, text_by, text_after}
 use Rattle.mk_edit_language.specs.LineRuns.{is_block, site_number, site_stretches, site_found}
 use Rattle.mk_edit_language.specs.LineExchanges.{with_line_ends, last_line_end, block_text, new_lines, exchange_span}
 use Rattle.mk_edit_language.specs.ExchangeCauses.{has_no_stretch, has_several_stretches, agree_but_for_flag, is_exchange_misread, leans_in, exchange_leans, exchange_causes}
 use Rattle.mk_edit_language.specs.LinesExchanged.{AreLinesExchanged}
-use Rattle.mk_edit_language.proofs.on_edits.Accepted.{no-cause, unrefused, where_holds-none, first-passed, two-passed}
+use Rattle.mk_edit_language.proofs.on_edits.Accepted as edits
+use Rattle.mk_edit_language.proofs.on_edits.Accepted.{no-cause, where_holds-none, first-passed, two-passed}
 use Rattle.mk_edit_language.proofs.on_line_runs.SitesFound.{site-stretch}
 use Rattle.mk_edit_language.proofs.on_line_runs.BlockEnds.{block-ends, last_line_end-some}
 use Rattle.mk_edit_language.proofs.on_line_runs.LinesAbove.{AreAboveEnded, above-ended, last-has_end}
@@ -59,20 +60,18 @@ record IsAccepted (t : List ℕ) (s : Site) (ts : List (List ℕ)) (found : Opti
 accepted : (t : List ℕ) (s : Site) (ts : List (List ℕ)) (rs : List Replacement) → spans t (ExchangeLines s ts) ≡ Ok rs → IsAccepted t s ts (site_found (classed_lines t) s) rs
 accepted t s ts rs h =
     let ls = classed_lines t in
-    let causes = exchange_causes t ls s ts (site_found ls s) in
-    let u = unrefused (first_cause causes) (spans_of t ls (ExchangeLines s ts)) rs h in
-    let n = no-cause causes u.0 in
-    let from_no_such = n.1.1.1 in
-    let from_open_line = from_no_such.1.1.1.1 in
+    let A = edits.accepted t (ExchangeLines s ts) rs h in
+    let n = no-cause (exchange_causes t ls s ts (site_found ls s)) A.exchangeable in
+    let from_open_line = n.1.1.1.1 in
     let from_misread = from_open_line.1.1.1 in
     record {
-      fields = n.0;
-      is_there = where_holds-none _ NoSuch from_no_such.0;
-      is_one = where_holds-none _ (Ambiguous (length (site_stretches ls s))) from_no_such.1.1.0;
+      fields = A.arguments;
+      is_there = where_holds-none _ NoSuch n.0;
+      is_one = where_holds-none _ (Ambiguous (length (site_stretches ls s))) n.1.1.0;
       closed = where_holds-none _ OpenLine from_open_line.0;
       read = where_holds-none _ Misread from_misread.0;
       free = where_holds-none _ Leans from_misread.1.0;
-      spans_are = u.1;
+      spans_are = A.spans_are;
     }
 
 -- a site that is neither missing nor one of several means a stretch

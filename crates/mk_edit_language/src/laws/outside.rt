@@ -14,16 +14,16 @@ pub fn lengths_add_up()
     ensures { LengthsAddUp }
 {}
 
-/// The spans of an accepted edit, other than a rename, a change of every value of a name and an
-/// exchange of whole lines, stand within lines that follow one another. These are at most as many
-/// lines as the edit's size says.
+/// The spans of an accepted edit, other than a rename, a change of every value of a name, an edit of
+/// several lines that is checked by reading, and an exchange of whole lines, stand within lines that
+/// follow one another. These are at most as many lines as the edit's size says.
 pub fn spans_touch_few_lines()
     ensures { SpansTouchFewLines }
 {}
 
-/// After an accepted edit, other than a rename, a change of every value of a name and an exchange of
-/// whole lines, the lines are the lines above those that it touches, the edited lines with their
-/// bytes and their classes, and the lines below.
+/// After an accepted edit, other than a rename, a change of every value of a name, an edit of several
+/// lines that is checked by reading, and an exchange of whole lines, the lines are the lines above
+/// those that it touches, the edited lines with their bytes and their classes, and the lines below.
 ///
 /// If the edit takes lines out, there is no edited line. If it puts a line in, the edited line is
 /// the new line with the file's line end, and a last line above it without a line end gets one.
@@ -42,12 +42,13 @@ pub fn edited_lines_stand()
 /// that is removed is one line less; a rule that is removed takes with it the lines down to its
 /// last recipe line. The lines above and below are as before, with their classes.
 ///
-/// A rename and a change of every value of a name change lines that may stand apart. After such an
-/// edit each line stands in its place, and is the line before with its spans replaced: it is one
-/// logical line, it has its class in the same context, and it is of no conditional if the edit
-/// changes it. The contexts between lines are as before. A line that the edit does not change is the
-/// same, with its class, and at most as many lines differ as the edit costs. The spans stand within
-/// the other lines, and the greatest number of conditionals open at once is as before.
+/// A rename, a change of every value of a name, and an edit of several lines that is checked by
+/// reading change lines that may stand apart. After such an edit each line stands in its place, and is
+/// the line before with its spans replaced: it is one logical line, it has its class in the same
+/// context, and it is of no conditional if the edit changes it. The contexts between lines are as
+/// before. A line that the edit does not change is the same, with its class, and at most as many lines
+/// differ as the edit costs. The spans stand within the other lines, and the greatest number of
+/// conditionals open at once is as before.
 ///
 /// After whole lines were put in, taken out or exchanged, the lines are the lines above, the new
 /// lines, and the lines below. The lines above and below keep their bytes and classes, except that a

@@ -6,6 +6,7 @@ ghost use Rattle.mk_edit_language.specs.LineRuns.{block_lines};
 ghost use Rattle.mk_edit_language.specs.Numbered.{numbered};
 
 use crate::edit::{Edit, LineChange, Side, Site, ValueChange};
+use crate::making::each_line::number_each;
 use crate::making::place::number_place;
 use crate::making::site::number_site;
 use mk_class::Flavor;
@@ -407,9 +408,9 @@ impl<A: Allocator + Copy> Edit<A> {
 
 /// Gives an edit the number of the line that it means, from 1, among the lines of the same name or
 /// target; where it puts a line in, the number of the place; and where it means whole lines, the
-/// number of their run. The edits that mean each line of a name,
-/// those by [`Edit::rename`] and the calls that begin with `all`, have no number and stay. Takes
-/// no memory.
+/// number of their run. The edits that mean each line of a name or of the file, those by
+/// [`Edit::rename`], [`Edit::values_substitute`], [`Edit::recipes_substitute`] and the calls that begin
+/// with `all`, have no number and stay. Takes no memory.
 pub fn number_edit<A: Allocator>(edit: &mut Edit<A>, number: u32)
     ensures { edit_of edit.new ≡ numbered number (edit_of edit.old) }
 {
@@ -432,6 +433,7 @@ pub fn number_edit<A: Allocator>(edit: &mut Edit<A>, number: u32)
         Edit::AddAssign { place, .. } => number_place(place, number),
         Edit::AddRule { place, .. } => number_place(place, number),
         Edit::ExchangeLines { site, .. } => number_site(site, number),
+        Edit::EachLine(each) => number_each(each, number),
         Edit::ChangeValues { .. } | Edit::RenameTarget { .. } => {}
     }
 }

@@ -5,14 +5,13 @@ use Rattle.std.specs.Prelude.{Err}
 use Rattle.mk_class.specs.Keywords.{is_reserved_word}
 use Rattle.mk_class.specs.RecipePrefix.{is_prefix_name}
 use Rattle.mk_class.specs.ClassedLines.{ClassedLine, classed_lines}
-use Rattle.mk_edit_language.specs.Edits.{One, Every, OfAssign, OfRule, OfRecipe, Edit, ChangeValue, ChangeLine, ChangePrereqs, AddLine, AddRecipe, SetRecipe, RemoveLines, RenameTarget, ExchangeLines}
+use Rattle.mk_edit_language.specs.Edits.{One, Every, OfAssign, OfRule, OfRecipe, Edit, ChangeValue, ChangeLine, ChangePrereqs, AddLine, AddRecipe, SetRecipe, RemoveLines, RenameTarget, ExchangeLines, EachLine}
 use Rattle.mk_edit_language.specs.Addresses.{address}
 use Rattle.mk_edit_language.specs.Causes.{where_holds}
 use Rattle.mk_edit_language.specs.ArgumentCauses.{bad_argument, reserved, names, targets}
 use Rattle.mk_edit_language.specs.AddressCauses.{is_unread_prefix, unread_prefix, no_such, no_such_line, ambiguous}
-use Rattle.mk_edit_language.specs.Refusals.{first_cause, item_causes, spans}
+use Rattle.mk_edit_language.specs.Refusals.{spans, first_cause}
 use Rattle.mk_edit_language.specs.KeptLines.{IsOfOnePlace}
-use Rattle.mk_edit_language.proofs.on_edits.Accepted.{one_place-causes}
 use Rattle.mk_edit_language.specs.declared.refusal.Refusal.{Refusal}
 use Rattle.mk_edit_language.specs.declared.refusal.Refusal.TheVariants.{Reserved, RecipePrefix}
 use Rattle.mk_edit_parts.specs.Found.{IsNotPicked}
@@ -39,10 +38,7 @@ same-no_such ls (RemoveLines (OfRule nth g)) h = refl
 same-no_such ls (RemoveLines (OfRecipe nth g w)) h = refl
 same-no_such ls (RenameTarget o n) h = absurd h
 same-no_such ls (ExchangeLines s ts) h = absurd h
-
--- it is refused for the first cause that holds
-one_place-refused : (t : List ℕ) (e : Edit) (r : Refusal) → IsOfOnePlace e → first_cause (item_causes t (classed_lines t) e) ≡ Some r → spans t e ≡ Err r
-one_place-refused t e r u h = refused t e r (ap first_cause (one_place-causes t (classed_lines t) e u) ∙ h)
+same-no_such ls (EachLine e) h = absurd h
 
 -- the two causes of an address, among others
 not_picked-first : (o p : Option Refusal) (cs : List (Option Refusal)) (r : Refusal) → first_cause (o ∷ p ∷ []) ≡ Some r → first_cause (o ∷ p ∷ cs) ≡ Some r
@@ -55,5 +51,5 @@ pub not_picked-refused : (t : List ℕ) (e : Edit) (r : Refusal) → IsOfOnePlac
 not_picked-refused t e r u b c d h =
     let ls = classed_lines t in
     let first : first_cause (no_such ls e ∷ ambiguous ls e ∷ []) ≡ Some r = ap (λ z. first_cause (z ∷ ambiguous ls e ∷ [])) (same-no_such ls e u) ∙ h in
-    one_place-refused t e r u
+    refused t e r
     (passed (bad_argument e) _ (Some r) b (passed (reserved e) _ (Some r) c (passed (unread_prefix ls) _ (Some r) d (not_picked-first (no_such ls e) (ambiguous ls e) _ r first))))

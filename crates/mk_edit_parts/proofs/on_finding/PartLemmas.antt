@@ -1,5 +1,5 @@
 -- The parts of a document's line by their offsets, and the tests of lines that look at them.
-use Rattle.std.proofs.Common.{◌≡◌, refl, sym, ap, ◌∙◌, ℕ, List, [], length, Option, Some, None}
+use Rattle.std.proofs.Common.{◌≡◌, refl, sym, ap, ◌∙◌, ℕ, List, [], length, not, Option, Some, None}
 use Rattle.std.specs.Str.{bytes_eq}
 use Rattle.std.proofs.lemmas.List.{length-map}
 use Rattle.mk_lines.specs.Cells.{Cell, joined_byte, joined_text, line_cells}
@@ -24,6 +24,8 @@ use Rattle.mk_class.specs.ClassedLines.{ClassedLine}
 use Rattle.mk_tree.specs.LocatedLines.{LocatedLine, located_line, text_of_line}
 use Rattle.mk_edit_language.specs.Addresses.{assigns, is_rule_for, targets_of}
 use Rattle.mk_edit_language.specs.AddressCauses.{is_unread_prefix}
+use Rattle.mk_edit_language.specs.EachLine.{assigns_other}
+use Rattle.mk_edit_parts.specs.EachLineWalks.{assigns_other_in, assigns_other_located}
 use Rattle.mk_edit_parts.specs.LocatedParts.{IsClassed, words_before, assigns_in, assigns_located, is_rule_for_in, is_rule_for_located, is_target_in, is_target_located, is_unread_in, is_unread_located}
 
 -- the joined text of a line is as long as its cells
@@ -57,6 +59,7 @@ record Tested (text : List ℕ) (k : Class Cell) : Type 0 where
   rule_is : (g : List ℕ) → is_rule_for_in text g (located_class joined_byte k) ≡ is_rule_for g k
   target_is : (w : List ℕ) → is_target_in text w (located_class joined_byte k) ≡ is_one_of w (targets_of k)
   unread_is : is_unread_in text (located_class joined_byte k) ≡ is_unread_prefix k
+  other_is : assigns_other_in text (located_class joined_byte k) ≡ assigns_other k
 
 tested : (c : Context) (l : ClassedLine) → class_of c l.bytes ≡ l.class → Tested (joined_text (line_cells l.bytes)) l.class
 tested c l h = go l.class h (parts c l h)
@@ -74,6 +77,7 @@ tested c l h = go l.class h (parts c l h)
       rule_is = λ g. refl;
       target_is = λ w. refl;
       unread_is = unread-is a p e s;
+      other_is = ap (λ z. not (is_prefix_name z)) s.2.name.text_is ∙ ap assigns_other (sym s.1 ∙ e);
     }
     go (Header x) e s =
         let words = words-part cs _ [] s.0.targets s.2.targets in
@@ -82,25 +86,27 @@ tested c l h = go l.class h (parts c l h)
           rule_is = λ g. ap (is_one_of g) words ∙ ap (λ k. is_rule_for g k) (sym s.1 ∙ e);
           target_is = λ w. ap (is_one_of w) words ∙ ap (λ k. is_one_of w (targets_of k)) (sym s.1 ∙ e);
           unread_is = refl;
+          other_is = refl;
         }
     go (TargetAssign t) e s = record {
       assigns_is = λ n. refl;
       rule_is = λ g. refl;
       target_is = λ w. ap (is_one_of w) (words-part cs _ [] s.0.targets s.2.targets) ∙ ap (λ k. is_one_of w (targets_of k)) (sym s.1 ∙ e);
       unread_is = refl;
+      other_is = refl;
     }
-    go Endef e s = record { assigns_is = λ n. refl; rule_is = λ g. refl; target_is = λ w. refl; unread_is = refl }
-    go (Body d) e s = record { assigns_is = λ n. refl; rule_is = λ g. refl; target_is = λ w. refl; unread_is = refl }
-    go Recipe e s = record { assigns_is = λ n. refl; rule_is = λ g. refl; target_is = λ w. refl; unread_is = refl }
-    go Opaque e s = record { assigns_is = λ n. refl; rule_is = λ g. refl; target_is = λ w. refl; unread_is = refl }
-    go Blank e s = record { assigns_is = λ n. refl; rule_is = λ g. refl; target_is = λ w. refl; unread_is = refl }
-    go Comment e s = record { assigns_is = λ n. refl; rule_is = λ g. refl; target_is = λ w. refl; unread_is = refl }
-    go (DefineHead q) e s = record { assigns_is = λ n. refl; rule_is = λ g. refl; target_is = λ w. refl; unread_is = refl }
-    go If e s = record { assigns_is = λ n. refl; rule_is = λ g. refl; target_is = λ w. refl; unread_is = refl }
-    go Else e s = record { assigns_is = λ n. refl; rule_is = λ g. refl; target_is = λ w. refl; unread_is = refl }
-    go Endif e s = record { assigns_is = λ n. refl; rule_is = λ g. refl; target_is = λ w. refl; unread_is = refl }
-    go Directive e s = record { assigns_is = λ n. refl; rule_is = λ g. refl; target_is = λ w. refl; unread_is = refl }
-    go Rough e s = record { assigns_is = λ n. refl; rule_is = λ g. refl; target_is = λ w. refl; unread_is = refl }
+    go Endef e s = record { assigns_is = λ n. refl; rule_is = λ g. refl; target_is = λ w. refl; unread_is = refl; other_is = refl }
+    go (Body d) e s = record { assigns_is = λ n. refl; rule_is = λ g. refl; target_is = λ w. refl; unread_is = refl; other_is = refl }
+    go Recipe e s = record { assigns_is = λ n. refl; rule_is = λ g. refl; target_is = λ w. refl; unread_is = refl; other_is = refl }
+    go Opaque e s = record { assigns_is = λ n. refl; rule_is = λ g. refl; target_is = λ w. refl; unread_is = refl; other_is = refl }
+    go Blank e s = record { assigns_is = λ n. refl; rule_is = λ g. refl; target_is = λ w. refl; unread_is = refl; other_is = refl }
+    go Comment e s = record { assigns_is = λ n. refl; rule_is = λ g. refl; target_is = λ w. refl; unread_is = refl; other_is = refl }
+    go (DefineHead q) e s = record { assigns_is = λ n. refl; rule_is = λ g. refl; target_is = λ w. refl; unread_is = refl; other_is = refl }
+    go If e s = record { assigns_is = λ n. refl; rule_is = λ g. refl; target_is = λ w. refl; unread_is = refl; other_is = refl }
+    go Else e s = record { assigns_is = λ n. refl; rule_is = λ g. refl; target_is = λ w. refl; unread_is = refl; other_is = refl }
+    go Endif e s = record { assigns_is = λ n. refl; rule_is = λ g. refl; target_is = λ w. refl; unread_is = refl; other_is = refl }
+    go Directive e s = record { assigns_is = λ n. refl; rule_is = λ g. refl; target_is = λ w. refl; unread_is = refl; other_is = refl }
+    go Rough e s = record { assigns_is = λ n. refl; rule_is = λ g. refl; target_is = λ w. refl; unread_is = refl; other_is = refl }
 
 pub assigns-located : (n : List ℕ) (c : Context) (l : ClassedLine) → class_of c l.bytes ≡ l.class → assigns_located n (located_line l) ≡ assigns n l.class
 assigns-located n c l h = (tested c l h).assigns_is n
@@ -113,3 +119,6 @@ target-located w c l h = (tested c l h).target_is w
 
 pub unread-located : (c : Context) (l : ClassedLine) → class_of c l.bytes ≡ l.class → is_unread_located (located_line l) ≡ is_unread_prefix l.class
 unread-located c l h = (tested c l h).unread_is
+
+pub assigns_other-located : (c : Context) (l : ClassedLine) → class_of c l.bytes ≡ l.class → assigns_other_located (located_line l) ≡ assigns_other l.class
+assigns_other-located c l h = (tested c l h).other_is

@@ -1,13 +1,11 @@
 -- Whether the runs that a number leaves lie within runs for another block.
-use Rattle.std.proofs.Common.{◌≡◌, refl, sym, ap, ◌∙◌, subst, arith, ℕ, zero, suc, ◌+◌, ◌<◌, ◌≤◌, ◌&&◌, ◌||◌, not, Bool, true, false, List, [], ◌∷◌, map, length, Option, Some, None, option_map}
-use Rattle.std.specs.Prelude.{nat_le, IfSome, MatchOption, option_and_then}
+use Rattle.std.proofs.Common.{◌≡◌, refl, sym, ap, ◌∙◌, subst, arith, ℕ, zero, suc, ◌+◌, ◌<◌, ◌&&◌, ◌||◌, not, Bool, true, false, List, [], ◌∷◌, map, length, Option, Some, None, option_map}
+use Rattle.std.specs.Prelude.{nat_le, MatchOption, option_and_then}
 use Rattle.std.specs.List.{list_any}
 use Rattle.std.proofs.lemmas.Bool.{leb-true, lt-leb}
 use Rattle.mk_lines.specs.Lists.{Each}
 use Rattle.mk_class.specs.ListTests.{is_empty}
-use Rattle.mk_class.specs.ClassedLines.{ClassedLine, classed_lines}
-use Rattle.mk_tree.specs.Documents.{IsFaithful}
-use Rattle.mk_tree.specs.LocatedLines.{LocatedLine, located_text}
+use Rattle.mk_class.specs.ClassedLines.{ClassedLine}
 use Rattle.mk_edit_language.specs.Spots.{nth_of}
 use Rattle.mk_edit_language.specs.Stretches.{Stretch}
 use Rattle.mk_edit_language.specs.LineRuns.{texts_of, after_texts, block_lines, led_by, lower, run_in_front, before_runs, runs, is_in_run}
@@ -16,7 +14,6 @@ use Rattle.mk_edit_parts.specs.Seeking.{wanted_of}
 use Rattle.mk_edit_parts.specs.declared.line_run.RunMatches.{RunMatches}
 use Rattle.mk_edit_parts.specs.declared.window.Window.{Window}
 use Rattle.mk_edit_parts.proofs.on_line_runs.BlockTexts.{block-front}
-use Rattle.mk_edit_parts.proofs.on_line_runs.RunsMatched.{found-within}
 use Rattle.mk_edit_parts.proofs.on_line_runs.RunsCovered.{is_inside}
 
 -- whether each of some stretches lies within a run

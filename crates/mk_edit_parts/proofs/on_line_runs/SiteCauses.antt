@@ -10,7 +10,7 @@ use Rattle.mk_edit_language.specs.ArgumentCauses.{bad_argument, reserved, is_pla
 use Rattle.mk_edit_language.specs.AddressCauses.{unread_prefix}
 use Rattle.mk_edit_language.specs.ExchangeCauses.{has_no_stretch, has_several_stretches, exchange_causes}
 use Rattle.mk_edit_language.specs.Refusals.{first_cause, causes, spans}
-use Rattle.mk_edit_language.proofs.on_edits.Accepted.{none-first, first-passed, two-passed}
+use Rattle.mk_edit_language.proofs.on_edits.Accepted.{all_exchange_causes, exchange-causes, first-passed, no-cause, two-passed}
 use Rattle.mk_edit_language.specs.declared.refusal.Field.TheVariants as field
 use Rattle.mk_edit_language.specs.declared.refusal.Refusal.{Refusal}
 use Rattle.mk_edit_language.specs.declared.refusal.Refusal.TheVariants.{NoSuch, Ambiguous, Already}
@@ -39,11 +39,11 @@ alone (Some r) = refl
 
 -- no cause up to those of the lines holds, so one of those is the first
 pub causes-left : (t : List ℕ) (s : Site) (ts : List (List ℕ)) → first_cause (causes_of_site t s ts) ≡ None → first_cause (causes t (classed_lines t) (ExchangeLines s ts)) ≡ first_cause (causes_of_lines t s ts)
-causes-left t s ts h = none-taken 7 (causes t (classed_lines t) (ExchangeLines s ts)) h
+causes-left t s ts h = exchange-causes t (classed_lines t) s ts ∙ none-taken 7 (all_exchange_causes t (classed_lines t) s ts) h
 
 -- or one of them does
 pub site-refused : (t : List ℕ) (s : Site) (ts : List (List ℕ)) (r : Refusal) → first_cause (causes_of_site t s ts) ≡ Some r → spans t (ExchangeLines s ts) ≡ Err r
-site-refused t s ts r h = refused t (ExchangeLines s ts) r (one-taken 7 (causes t (classed_lines t) (ExchangeLines s ts)) r h)
+site-refused t s ts r h = refused t (ExchangeLines s ts) r (exchange-causes t (classed_lines t) s ts ∙ one-taken 7 (all_exchange_causes t (classed_lines t) s ts) r h)
 
 -- ---- the causes of the fields and of the recipe prefix
 
@@ -66,10 +66,10 @@ fields-pass t s ts f n u =
 
 -- no field fails its test, so the new lines are a block
 pub new-block : (t : List ℕ) (s : Site) (ts : List (List ℕ)) → IsOfNew s → first_cause (causes_of_fields t s ts) ≡ None → is_block ts ≡ true
-new-block t Top ts i h = (first-passed field.Block (is_block ts) [] (none-first (bad_argument (ExchangeLines Top ts)) _ h).0).0
-new-block t (AtPlace p) ts i h = (two-passed field.Place field.Block (is_place p) (is_block ts) (none-first (bad_argument (ExchangeLines (AtPlace p) ts)) _ h).0).1
-new-block t (BeforeRun nth o) ts i h = (two-passed field.Place field.Block (is_block o) (is_block ts) (none-first (bad_argument (ExchangeLines (BeforeRun nth o) ts)) _ h).0).1
-new-block t (AfterRun nth o) ts i h = (two-passed field.Place field.Block (is_block o) (is_block ts) (none-first (bad_argument (ExchangeLines (AfterRun nth o) ts)) _ h).0).1
+new-block t Top ts i h = (first-passed field.Block (is_block ts) [] (no-cause (causes_of_fields t Top ts) h).0).0
+new-block t (AtPlace p) ts i h = (two-passed field.Place field.Block (is_place p) (is_block ts) (no-cause (causes_of_fields t (AtPlace p) ts) h).0).1
+new-block t (BeforeRun nth o) ts i h = (two-passed field.Place field.Block (is_block o) (is_block ts) (no-cause (causes_of_fields t (BeforeRun nth o) ts) h).0).1
+new-block t (AfterRun nth o) ts i h = (two-passed field.Place field.Block (is_block o) (is_block ts) (no-cause (causes_of_fields t (AfterRun nth o) ts) h).0).1
 new-block t (OfRun nth o) ts i h = absurd i
 
 -- ---- the causes of what the site means
@@ -131,21 +131,26 @@ not_one-new t (BeforeRun nth o) ts r i h n = fourth-or_sixth (causes_of_site t (
 not_one-new t (AfterRun nth o) ts r i h n = fourth-or_sixth (causes_of_site t (AfterRun nth o) ts) r refl h refl n
 not_one-new t (OfRun nth o) ts r i h n = absurd i
 
+-- the causes of an exchange up to those that the lines decide, by what its site means
+abbrev causes_where : (t : List ℕ) → Site → (ts : List (List ℕ)) → Option Stretch → List (Option Refusal)
+causes_where t s ts o =
+    take 7 (bad_argument (ExchangeLines s ts) ∷ reserved (ExchangeLines s ts) ∷ unread_prefix (classed_lines t) ∷ exchange_causes t (classed_lines t) s ts o)
+
 -- they go to one
 pub one-new : (t : List ℕ) (s : Site) (ts : List (List ℕ)) (x : Stretch) → IsOfNew s → first_cause (causes_of_fields t s ts) ≡ None
     → has_no_stretch (site_number s) (site_stretches (classed_lines t) s) ≡ false → has_several_stretches (site_number s) (site_stretches (classed_lines t) s) ≡ false
     → site_found (classed_lines t) s ≡ Some x → first_cause (causes_of_site t s ts) ≡ where_holds (is_in_run ts (classed_lines t) x) Already
 one-new t s ts x i h n m f =
-    subst (λ o. first_cause (take 7 (exchange_causes t (classed_lines t) s ts o)) ≡ where_holds (is_in_run ts (classed_lines t) x) Already) (sym f)
+    subst (λ o. first_cause (causes_where t s ts o) ≡ where_holds (is_in_run ts (classed_lines t) x) Already) (sym f)
     (go s i h (ap (λ b. where_holds b NoSuch) n) (ap (λ b. where_holds b (Ambiguous (length (site_stretches (classed_lines t) s)))) m))
   where
     go : (s : Site) → IsOfNew s → first_cause (causes_of_fields t s ts) ≡ None → where_holds (has_no_stretch (site_number s) (site_stretches (classed_lines t) s)) NoSuch ≡ None
         → where_holds (has_several_stretches (site_number s) (site_stretches (classed_lines t) s)) (Ambiguous (length (site_stretches (classed_lines t) s))) ≡ None
-        → first_cause (take 7 (exchange_causes t (classed_lines t) s ts (Some x))) ≡ where_holds (is_in_run ts (classed_lines t) x) Already
-    go Top i h n m = seventh (take 7 (exchange_causes t (classed_lines t) Top ts (Some x))) refl h n refl m
-    go (AtPlace p) i h n m = seventh (take 7 (exchange_causes t (classed_lines t) (AtPlace p) ts (Some x))) refl h n refl m
-    go (BeforeRun nth o) i h n m = seventh (take 7 (exchange_causes t (classed_lines t) (BeforeRun nth o) ts (Some x))) refl h n refl m
-    go (AfterRun nth o) i h n m = seventh (take 7 (exchange_causes t (classed_lines t) (AfterRun nth o) ts (Some x))) refl h n refl m
+        → first_cause (causes_where t s ts (Some x)) ≡ where_holds (is_in_run ts (classed_lines t) x) Already
+    go Top i h n m = seventh (causes_where t Top ts (Some x)) refl h n refl m
+    go (AtPlace p) i h n m = seventh (causes_where t (AtPlace p) ts (Some x)) refl h n refl m
+    go (BeforeRun nth o) i h n m = seventh (causes_where t (BeforeRun nth o) ts (Some x)) refl h n refl m
+    go (AfterRun nth o) i h n m = seventh (causes_where t (AfterRun nth o) ts (Some x)) refl h n refl m
     go (OfRun nth o) i h n m = absurd i
 
 -- ---- lines that go

@@ -4,7 +4,6 @@ use Rattle.std.specs.Prelude.{MatchOption, Vec}
 use Rattle.std.proofs.lemmas.List.{length-map}
 use Rattle.std.proofs.Math.Seq.{take-append_seam}
 use Rattle.mk_class.proofs.on_symbols.ListMaps.{is_empty-map}
-use Rattle.mk_class.specs.ListTests.{is_empty}
 use Rattle.mk_class.specs.ClassedLines.{ClassedLine, classed_lines}
 use Rattle.mk_tree.specs.Documents.{IsFaithful, context_of}
 use Rattle.mk_tree.specs.LocatedLines.{LocatedLine, located_text}

@@ -38,16 +38,16 @@ matches_from m o at (l ∷ ls) =
 
 -- ---- the recipe lines of a header, line by line
 
-abbrev first_spot : ClassedLine → List ClassedLine → StandingLine
+abbrev pub first_spot : ClassedLine → List ClassedLine → StandingLine
 first_spot l ls = record { above = []; line = l; below = ls }
 
-spots-recipe : (l : ClassedLine) (ls : List ClassedLine) → is_recipe l.class ≡ true → recipe_spots_in (l ∷ ls) ≡ first_spot l ls ∷ map (under l) (recipe_spots_in ls)
+pub spots-recipe : (l : ClassedLine) (ls : List ClassedLine) → is_recipe l.class ≡ true → recipe_spots_in (l ∷ ls) ≡ first_spot l ls ∷ map (under l) (recipe_spots_in ls)
 spots-recipe l ls h = rw (h, h) (ap (λ z. first_spot l ls ∷ z) (take-map (under l) (length (recipe_lines ls)) (spots (λ z. is_recipe z.class) ls)))
 
-spots-other : (l : ClassedLine) (ls : List ClassedLine) → is_recipe l.class ≡ false → leaves_flag l.class ≡ true → recipe_spots_in (l ∷ ls) ≡ map (under l) (recipe_spots_in ls)
+pub spots-other : (l : ClassedLine) (ls : List ClassedLine) → is_recipe l.class ≡ false → leaves_flag l.class ≡ true → recipe_spots_in (l ∷ ls) ≡ map (under l) (recipe_spots_in ls)
 spots-other l ls h k = rw (h, k, h) (take-map (under l) (length (recipe_lines ls)) (spots (λ z. is_recipe z.class) ls))
 
-spots-ended : (l : ClassedLine) (ls : List ClassedLine) → is_recipe l.class ≡ false → leaves_flag l.class ≡ false → recipe_spots_in (l ∷ ls) ≡ []
+pub spots-ended : (l : ClassedLine) (ls : List ClassedLine) → is_recipe l.class ≡ false → leaves_flag l.class ≡ false → recipe_spots_in (l ∷ ls) ≡ []
 spots-ended l ls h k = rw (h, k) refl
 
 -- a change of spots that leaves their lines leaves which of them have the text

@@ -5,7 +5,7 @@ use Rattle.bstr.specs.Text.{line_len, lines_from}
 use Rattle.mk_class.specs.declared.assignment.Flavor.TheVariants.{Recursive, Simple, PosixSimple, Immediate, Conditional, Append, Shell}
 use Rattle.mk_edit_language.specs.declared.edit.RuleSeparator.TheVariants.{Single, Double}
 use Rattle.mk_edit_language.specs.Edits.{Bottom, BeforeVar, AfterVar, BeforeRule}
-use Rattle.mk_edit_language.specs.Edits.{One, Every, NewAssign, NewRule, AddPrereq, RemovePrereq, ByNumber, Last, OfAssign, OfRule, OfRecipe, ChangeValue, ChangePrereqs, AddLine, AddRecipe, SetRecipe, RemoveLines, RenameTarget}
+use Rattle.mk_edit_language.specs.Edits.{One, Every, NewAssign, NewRule, AddPrereq, RemovePrereq, ByNumber, Last, OfAssign, OfRule, OfRecipe, ChangeEach, SubstValues, SubstRecipe, SubstRecipes, ChangeValue, ChangePrereqs, AddLine, AddRecipe, SetRecipe, RemoveLines, RenameTarget, EachLine}
 use Rattle.mk_edit_language.specs.Edits as edits
 use Rattle.mk_history.specs.Machine.{Apply, Undo, Redo, Begin, End, Cancel}
 use Rattle.mk_script.specs.Scripts.{Step, Chain}
@@ -213,6 +213,26 @@ rows_4 =
     (codes "try all set X 1", Ok (tried_on 1 (ChangeValue Every (codes "X") (edits.Set (codes "1"))) ∷ [])) ∷  -- all-behind-try
     (codes "all add X a\nor all set X b\nor set Y c", Ok (Chain (edit_on 1 (ChangeValue Every (codes "X") (edits.Add (codes "a")))) (edit_on 2 (ChangeValue Every (codes "X") (edits.Set (codes "b")))) ((edit_on 3 (ChangeValue (One None) (codes "Y") (edits.Set (codes "c")))) ∷ []) ∷ [])) ∷  -- all-in-a-chain
     (codes "all append X +=\nassign bottom X += 1", Ok (on_line 1 (Apply (ChangeValue Every (codes "X") (edits.Append (codes "+=")))) ∷ on_line 2 (Apply (AddLine Bottom (NewAssign (codes "X") Append (codes "1")))) ∷ [])) ∷  -- all-of-an-operator-called-append
+    (codes "all prepend X a", Ok (on_line 1 (Apply (EachLine (ChangeEach (codes "X") (edits.Prepend (codes "a"))))) ∷ [])) ∷  -- all-before-prepend
+    (codes "all replace X a \"b c\"", Ok (on_line 1 (Apply (EachLine (ChangeEach (codes "X") (edits.ReplaceWord (codes "a") (codes "b c"))))) ∷ [])) ∷  -- all-before-replace
+    (codes "all subst X a \"\"", Ok (on_line 1 (Apply (EachLine (ChangeEach (codes "X") (edits.Substitute (codes "a") [])))) ∷ [])) ∷  -- all-before-subst
+    (codes "all operator X ::=", Ok (on_line 1 (Apply (EachLine (ChangeEach (codes "X") (edits.SetOperator PosixSimple)))) ∷ [])) ∷  -- all-before-operator
+    (codes "all operator X ==", Err 1) ∷  -- all-with-an-unknown-operator
+    (codes "all replace X a", Err 1) ∷  -- all-before-replace-of-two-fields
+    (codes "all add-before X a b", Err 1) ∷  -- all-before-add-before
+    (codes "all add-after X a b", Err 1) ∷  -- all-before-add-after
+    (codes "nth 1 all prepend X a", Err 1) ∷  -- nth-before-all-and-prepend
+    (codes "\"values-subst\" a \"b c\"", Ok (on_line 1 (Apply (EachLine (SubstValues (codes "a") (codes "b c")))) ∷ [])) ∷  -- a-change-of-all-values
+    (codes "nth 1 values-subst a b", Err 1) ∷  -- nth-before-a-change-of-all-values
+    (codes "all values-subst a b", Err 1) ∷  -- all-before-a-change-of-all-values
+    (codes "values-subst X a b", Err 1) ∷  -- a-change-of-all-values-with-a-name
+    (codes "nth 002 recipe-subst t a b", Ok (on_line 1 (Apply (EachLine (SubstRecipe (Some 2) (codes "t") (codes "a") (codes "b")))) ∷ [])) ∷  -- nth-before-recipe-subst
+    (codes "recipe-subst t a", Err 1) ∷  -- recipe-subst-of-two-fields
+    (codes "all recipe-subst t a b", Err 1) ∷  -- all-before-recipe-subst
+    (codes "try recipes-subst \"; \\\\\" \"&& \\\\\"", Ok (tried_on 1 (EachLine (SubstRecipes (codes "; \\") (codes "&& \\"))) ∷ [])) ∷  -- try-before-a-change-of-all-recipes
+    (codes "nth 1 recipes-subst a b", Err 1) ∷  -- nth-before-a-change-of-all-recipes
+    (codes "values-subst a b\nor recipes-subst a b\nor recipe-subst t a b\nor all subst X a b", Ok (Chain (edit_on 1 (EachLine (SubstValues (codes "a") (codes "b")))) (edit_on 2 (EachLine (SubstRecipes (codes "a") (codes "b")))) ((edit_on 3 (EachLine (SubstRecipe None (codes "t") (codes "a") (codes "b")))) ∷ (edit_on 4 (EachLine (ChangeEach (codes "X") (edits.Substitute (codes "a") (codes "b"))))) ∷ []) ∷ [])) ∷  -- a-chain-of-edits-of-several-lines
+    (codes "values-subst <<E <<F\nset X 1", Ok (on_line 1 (Apply (EachLine (SubstValues (codes "<<E") (codes "<<F")))) ∷ on_line 2 (Apply (ChangeValue (One None) (codes "X") (edits.Set (codes "1")))) ∷ [])) ∷  -- a-mark-in-a-change-of-all-values
     []
 
 answers_4 : map (λ row. read_script row.0) rows_4 ≡ map (λ row. row.1) rows_4

@@ -1,15 +1,17 @@
--- Fields that are a command are read as this command.
+-- Texts that are a command are read as this command.
 use Rattle.std.proofs.Common.{◌≡◌, ℕ, ◌≤◌, true, false, List, [], ◌∷◌, ◌++◌, length, refl, ap, ◌∙◌, arith, codes}
 use Rattle.std.specs.Prelude.{Option, Some, None, option_map, option_and_then}
 use Rattle.mk_class.specs.OperatorTexts.{operator_text}
-use Rattle.mk_edit_language.specs.Edits.{Place, Bottom, BeforeVar, AfterVar, BeforeRule, Site, Top, AtPlace, BeforeRun, AfterRun, OfRun, NewLine, NewAssign, NewRule, One, Every, ValueChange, Set, Append, Add, Remove, LineChange, Prepend, ReplaceWord, InsertWord, Substitute, SetOperator, AddPrereq, RemovePrereq, ByNumber, ByText, Last, At, OfAssign, OfRule, OfRecipe, Edit, ChangeValue, ChangeLine, ChangePrereqs, AddLine, AddRecipe, SetRecipe, RemoveLines, RenameTarget, ExchangeLines}
+use Rattle.mk_edit_language.specs.Edits.{Place, Bottom, BeforeVar, AfterVar, BeforeRule, Site, Top, AtPlace, BeforeRun, AfterRun, OfRun, NewLine, NewAssign, NewRule, One, Every, ValueChange, Set, Append, Add, Remove, LineChange, Prepend, ReplaceWord, InsertWord, Substitute, SetOperator, EachEdit, ChangeEach, SubstValues, SubstRecipe, SubstRecipes, AddPrereq, RemovePrereq, ByNumber, ByText, Last, At, OfAssign, OfRule, OfRecipe, Edit, ChangeValue, ChangeLine, ChangePrereqs, AddLine, AddRecipe, SetRecipe, RemoveLines, RenameTarget, ExchangeLines, EachLine}
 use Rattle.mk_edit_language.specs.declared.edit.Side.TheVariants.{Before, After}
 use Rattle.mk_edit_language.specs.LineRuns.{block_lines}
 use Rattle.mk_edit_language.specs.NewLines.{rule_separator_text}
+use Rattle.mk_edit_language.proofs.on_line_runs.BlockTexts.{block-some}
 use Rattle.mk_history.specs.Machine.{Command, Apply, Undo, Redo, Begin, End, Cancel}
 use Rattle.mk_script.specs.Lines.{Plain}
 use Rattle.mk_script.specs.Numbers.{number}
-use Rattle.mk_script.specs.CommandTable.{Content, Text, Number, Block, texts, after_nth, place_words, nth_of_place, change_words, line_change_words, exchange_fields, command_fields, HaveContents, IsCommand}
+use Rattle.mk_script.specs.CommandTable.{Content, Text, Number, Block, texts, after_nth, place_words, nth_of_place, change_words, line_change_words, exchange_fields, each_fields, command_fields}
+use Rattle.mk_script.proofs.on_commands.TextContents.{HaveTexts, AreCommand}
 use Rattle.mk_script.specs.WordReading.{named, words}
 use Rattle.mk_script.specs.CommandReading.{Texts, worded, new_assign, new_rule, add_line, insert_lines, line_change, change_line, edit_with, edit_by, edit_after, edit_in, saying_after, saying_in}
 use Rattle.mk_script.specs.declared.table.Word.{Word}
@@ -17,7 +19,7 @@ use Rattle.mk_script.specs.declared.table.Word.TheVariants as word
 use Rattle.mk_script.proofs.on_commands.TableLemmas.{text_of, operator-named, separator-named}
 
 -- fields that have texts are these
-texts-are : (fields ts : Texts) → HaveContents fields (texts ts) → fields ≡ ts
+texts-are : (fields ts : Texts) → HaveTexts fields (texts ts) → fields ≡ ts
 texts-are [] [] h = refl
 texts-are [] (t ∷ ts) h = absurd h
 texts-are (f ∷ fields) [] h = absurd h
@@ -27,7 +29,7 @@ texts-are (f ∷ fields) (t ∷ ts) h = ap (λ z. z ∷ fields) h.0 ∙ ap (λ z
 
 -- an edit by its word and the fields behind it, which may stand behind `nth` and a number
 numbered-read : (nth : Option ℕ) (w : Word) (contents : List Content) (e : Edit) → named words (text_of w) ≡ Some w → ((fs : Texts) → edit_after w fs ≡ edit_with (One None) w fs)
-    → ((fs : Texts) → HaveContents fs contents → edit_with (One nth) w fs ≡ Some e) → (fields : Texts) → HaveContents fields (after_nth nth (Text (text_of w) ∷ contents)) → edit_in fields ≡ Some e
+    → ((fs : Texts) → HaveTexts fs contents → edit_with (One nth) w fs ≡ Some e) → (fields : Texts) → HaveTexts fields (after_nth nth (Text (text_of w) ∷ contents)) → edit_in fields ≡ Some e
 numbered-read None w contents e is plain reads [] h = absurd h
 numbered-read None w contents e is plain reads (f ∷ fs) h =
     ap (λ (t : List ℕ). edit_in (t ∷ fs)) h.0
@@ -44,12 +46,12 @@ numbered-read (Some n) w contents e is plain reads (f ∷ d ∷ g ∷ fs) h =
     ∙ reads fs h.1.1.1)))
 
 text-read : (nth : Option ℕ) (w : Word) (ts : Texts) (e : Edit) → named words (text_of w) ≡ Some w → ((fs : Texts) → edit_after w fs ≡ edit_with (One None) w fs)
-    → edit_with (One nth) w ts ≡ Some e → (fields : Texts) → HaveContents fields (after_nth nth (texts (text_of w ∷ ts))) → edit_in fields ≡ Some e
+    → edit_with (One nth) w ts ≡ Some e → (fields : Texts) → HaveTexts fields (after_nth nth (texts (text_of w ∷ ts))) → edit_in fields ≡ Some e
 text-read nth w ts e is plain reads = numbered-read nth w (texts ts) e is plain (λ fs h. ap (λ z. edit_with (One nth) w z) (texts-are fs ts h) ∙ reads)
 
 -- the fields behind a word, of which the second is a number
 number-read : (nth : Option ℕ) (w : Word) (t : List ℕ) (n : ℕ) (ts : Texts) (e : Edit) → ((d : List ℕ) → number d ≡ Some n → edit_with (One nth) w (t ∷ d ∷ ts) ≡ Some e)
-    → (fs : Texts) → HaveContents fs (Text t ∷ Number n ∷ texts ts) → edit_with (One nth) w fs ≡ Some e
+    → (fs : Texts) → HaveTexts fs (Text t ∷ Number n ∷ texts ts) → edit_with (One nth) w fs ≡ Some e
 number-read nth w t n ts e reads [] h = absurd h
 number-read nth w t n ts e reads (f ∷ []) h = absurd h.1
 number-read nth w t n ts e reads (f ∷ d ∷ fs) h =
@@ -65,7 +67,7 @@ add_line-read (BeforeRule nth target) line a b c l h = rw h refl
 
 -- ---- each edit
 
-change-read : (nth : Option ℕ) (name : List ℕ) (change : ValueChange) (fields : Texts) → HaveContents fields (after_nth nth (texts (change_words name change)))
+change-read : (nth : Option ℕ) (name : List ℕ) (change : ValueChange) (fields : Texts) → HaveTexts fields (after_nth nth (texts (change_words name change)))
     → edit_in fields ≡ Some (ChangeValue (One nth) name change)
 change-read nth name (Set value) = text-read nth word.Set (name ∷ value ∷ []) _ refl (λ fs. refl) refl
 change-read nth name (Append value) = text-read nth word.Append (name ∷ value ∷ []) _ refl (λ fs. refl) refl
@@ -78,7 +80,7 @@ all-read name (Append value) = refl
 all-read name (Add x) = refl
 all-read name (Remove x) = refl
 
-line_change-read : (nth : Option ℕ) (name : List ℕ) (change : LineChange) (fields : Texts) → HaveContents fields (after_nth nth (texts (line_change_words name change)))
+line_change-read : (nth : Option ℕ) (name : List ℕ) (change : LineChange) (fields : Texts) → HaveTexts fields (after_nth nth (texts (line_change_words name change)))
     → edit_in fields ≡ Some (ChangeLine nth name change)
 line_change-read nth name (Prepend value) = text-read nth word.Prepend (name ∷ value ∷ []) _ refl (λ fs. refl) refl
 line_change-read nth name (ReplaceWord x value) = text-read nth word.Replace (name ∷ x ∷ value ∷ []) _ refl (λ fs. refl) refl
@@ -88,10 +90,32 @@ line_change-read nth name (Substitute from to) = text-read nth word.Subst (name 
 line_change-read nth name (SetOperator flavor) =
     text-read nth word.Operator (name ∷ operator_text flavor ∷ []) _ refl (λ fs. refl) (ap (λ o. option_map (λ c. ChangeLine nth name c) (option_map SetOperator o)) (operator-named flavor))
 
+-- no text is an insert without a new line
+none-read : (fields : Texts) → HaveTexts fields (exchange_fields Top []) → ⊥
+none-read [] h = h
+none-read (f ∷ []) h = h.1
+none-read (f ∷ g ∷ []) h = h.1.1
+none-read (f ∷ g ∷ b ∷ fields) h = block-some b h.1.1.0
+
+all_lines-read : (name : List ℕ) (change : LineChange) (fields : Texts) → HaveTexts fields (each_fields (ChangeEach name change)) → edit_in fields ≡ Some (EachLine (ChangeEach name change))
+all_lines-read name (Prepend value) fields h = ap edit_in (texts-are fields (codes "all" ∷ codes "prepend" ∷ name ∷ value ∷ []) h)
+all_lines-read name (ReplaceWord x value) fields h = ap edit_in (texts-are fields (codes "all" ∷ codes "replace" ∷ name ∷ x ∷ value ∷ []) h)
+all_lines-read name (InsertWord side x new) fields h = absurd (none-read fields h)
+all_lines-read name (Substitute from to) fields h = ap edit_in (texts-are fields (codes "all" ∷ codes "subst" ∷ name ∷ from ∷ to ∷ []) h)
+all_lines-read name (SetOperator flavor) fields h =
+    ap edit_in (texts-are fields (codes "all" ∷ codes "operator" ∷ name ∷ operator_text flavor ∷ []) h)
+    ∙ ap (λ o. option_map (λ c. EachLine (ChangeEach name c)) (option_map SetOperator o)) (operator-named flavor)
+
+each-read : (e : EachEdit) (fields : Texts) → HaveTexts fields (each_fields e) → edit_in fields ≡ Some (EachLine e)
+each-read (ChangeEach name change) fields h = all_lines-read name change fields h
+each-read (SubstValues from to) fields h = ap edit_in (texts-are fields (codes "values-subst" ∷ from ∷ to ∷ []) h)
+each-read (SubstRecipe nth target from to) fields h = text-read nth word.RecipeSubst (target ∷ from ∷ to ∷ []) _ refl (λ fs. refl) refl fields h
+each-read (SubstRecipes from to) fields h = ap edit_in (texts-are fields (codes "recipes-subst" ∷ from ∷ to ∷ []) h)
+
 -- ---- whole lines
 
 -- texts, and a block behind them
-texts-block : (fs ts : Texts) (new : List (List ℕ)) → HaveContents fs (texts ts ++ Block new ∷ []) → (b : List ℕ) × (fs ≡ ts ++ b ∷ []) × (block_lines b ≡ new)
+texts-block : (fs ts : Texts) (new : List (List ℕ)) → HaveTexts fs (texts ts ++ Block new ∷ []) → (b : List ℕ) × (fs ≡ ts ++ b ∷ []) × (block_lines b ≡ new)
 texts-block [] [] new h = absurd h
 texts-block [] (t ∷ ts) new h = absurd h
 texts-block (f ∷ []) [] new h = (f, refl, h.0)
@@ -100,13 +124,13 @@ texts-block (f ∷ fs) (t ∷ ts) new h = let others = texts-block fs ts new h.1
 
 -- an insert at a site of texts, and at one with a block of its own
 insert-read : (nth : Option ℕ) (site : Site) (ts : Texts) (new : List (List ℕ)) → ((b : List ℕ) → insert_lines nth (ts ++ b ∷ []) ≡ Some (ExchangeLines site (block_lines b)))
-    → (fs : Texts) → HaveContents fs (texts ts ++ Block new ∷ []) → insert_lines nth fs ≡ Some (ExchangeLines site new)
+    → (fs : Texts) → HaveTexts fs (texts ts ++ Block new ∷ []) → insert_lines nth fs ≡ Some (ExchangeLines site new)
 insert-read nth site ts new reads fs h =
     let b = texts-block fs ts new h in
     ap (λ zs. insert_lines nth zs) b.1 ∙ (reads b.0 ∙ ap (λ lines. Some (ExchangeLines site lines)) b.2)
 
 beside-read : (nth : Option ℕ) (site : List (List ℕ) → Site) (t : List ℕ) (old new : List (List ℕ)) → ((o b : List ℕ) → insert_lines nth (t ∷ o ∷ b ∷ []) ≡ Some (ExchangeLines (site (block_lines o)) (block_lines b)))
-    → (fs : Texts) → HaveContents fs (Text t ∷ Block old ∷ Block new ∷ []) → insert_lines nth fs ≡ Some (ExchangeLines (site old) new)
+    → (fs : Texts) → HaveTexts fs (Text t ∷ Block old ∷ Block new ∷ []) → insert_lines nth fs ≡ Some (ExchangeLines (site old) new)
 beside-read nth site t old new reads [] h = absurd h
 beside-read nth site t old new reads (f ∷ []) h = absurd h.1
 beside-read nth site t old new reads (f ∷ o ∷ []) h = absurd h.1.1
@@ -115,18 +139,18 @@ beside-read nth site t old new reads (f ∷ o ∷ b ∷ []) h =
     ∙ (reads o b ∙ (ap (λ lines. Some (ExchangeLines (site lines) (block_lines b))) h.1.0 ∙ ap (λ lines. Some (ExchangeLines (site old) lines)) h.1.1.0))
 beside-read nth site t old new reads (f ∷ o ∷ b ∷ g ∷ fs) h = absurd h.1.1.1
 
-replace-read : (nth : Option ℕ) (old new : List (List ℕ)) (fs : Texts) → HaveContents fs (Block old ∷ Block new ∷ []) → edit_with (One nth) word.LineReplace fs ≡ Some (ExchangeLines (OfRun nth old) new)
+replace-read : (nth : Option ℕ) (old new : List (List ℕ)) (fs : Texts) → HaveTexts fs (Block old ∷ Block new ∷ []) → edit_with (One nth) word.LineReplace fs ≡ Some (ExchangeLines (OfRun nth old) new)
 replace-read nth old new [] h = absurd h
 replace-read nth old new (o ∷ []) h = absurd h.1
 replace-read nth old new (o ∷ b ∷ []) h = ap (λ lines. Some (ExchangeLines (OfRun nth lines) (block_lines b))) h.0 ∙ ap (λ lines. Some (ExchangeLines (OfRun nth old) lines)) h.1.0
 replace-read nth old new (o ∷ b ∷ g ∷ fs) h = absurd h.1.1
 
-remove-read : (nth : Option ℕ) (old : List (List ℕ)) (fs : Texts) → HaveContents fs (Block old ∷ []) → edit_with (One nth) word.LineRemove fs ≡ Some (ExchangeLines (OfRun nth old) [])
+remove-read : (nth : Option ℕ) (old : List (List ℕ)) (fs : Texts) → HaveTexts fs (Block old ∷ []) → edit_with (One nth) word.LineRemove fs ≡ Some (ExchangeLines (OfRun nth old) [])
 remove-read nth old [] h = absurd h
 remove-read nth old (o ∷ []) h = ap (λ lines. Some (ExchangeLines (OfRun nth lines) [])) h.0
 remove-read nth old (o ∷ g ∷ fs) h = absurd h.1
 
-exchange-read : (site : Site) (new : List (List ℕ)) (fields : Texts) → HaveContents fields (exchange_fields site new) → edit_in fields ≡ Some (ExchangeLines site new)
+exchange-read : (site : Site) (new : List (List ℕ)) (fields : Texts) → HaveTexts fields (exchange_fields site new) → edit_in fields ≡ Some (ExchangeLines site new)
 exchange-read Top new = numbered-read None word.Insert _ _ refl (λ fs. refl) (insert-read None Top (codes "top" ∷ []) new (λ b. refl))
 exchange-read (AtPlace Bottom) new = numbered-read None word.Insert _ _ refl (λ fs. refl) (insert-read None (AtPlace Bottom) (place_words Bottom) new (λ b. refl))
 exchange-read (AtPlace (BeforeVar nth name)) new =
@@ -142,7 +166,7 @@ exchange-read (OfRun nth old) (line ∷ lines) = numbered-read nth word.LineRepl
 
 -- ---- and each edit
 
-pub edit-read : (fields : Texts) (e : Edit) → IsCommand fields (Apply e) → edit_in fields ≡ Some e
+pub edit-read : (fields : Texts) (e : Edit) → AreCommand fields (Apply e) → edit_in fields ≡ Some e
 edit-read fields (ChangeValue (One nth) name change) h = change-read nth name change fields h
 edit-read fields (ChangeValue Every name change) h = ap edit_in (texts-are fields (codes "all" ∷ change_words name change) h) ∙ all-read name change
 edit-read fields (ChangeLine nth name change) h = line_change-read nth name change fields h
@@ -170,6 +194,7 @@ edit-read fields (RemoveLines (OfRecipe nth target (ByNumber n))) h =
 edit-read fields (RemoveLines (OfRecipe nth target (ByText old))) h = text-read nth word.RecipeRemove (target ∷ old ∷ []) _ refl (λ fs. refl) refl fields h
 edit-read fields (RenameTarget old new) h = ap edit_in (texts-are fields (codes "rename" ∷ old ∷ new ∷ []) h)
 edit-read fields (ExchangeLines site new) h = exchange-read site new fields h
+edit-read fields (EachLine e) h = each-read e fields h
 
 -- ---- each command
 
@@ -196,7 +221,7 @@ edit-said fields e h = go (worded fields) h
     go None k = absurd (cc)
     go (Some p) k = after-said p.0 p.1 e k
 
-pub command-read : (fields : Texts) (c : Command Edit) → IsCommand fields c → saying_in fields ≡ Some (Plain c)
+pub command-read : (fields : Texts) (c : Command Edit) → AreCommand fields c → saying_in fields ≡ Some (Plain c)
 command-read fields (Apply e) h = edit-said fields e (edit-read fields e h)
 command-read fields Undo h = ap saying_in (texts-are fields (codes "undo" ∷ []) h)
 command-read fields Redo h = ap saying_in (texts-are fields (codes "redo" ∷ []) h)
@@ -205,12 +230,6 @@ command-read fields End h = ap saying_in (texts-are fields (codes "end" ∷ []) 
 command-read fields Cancel h = ap saying_in (texts-are fields (codes "cancel" ∷ []) h)
 
 -- ---- no command has more than eight fields
-
-as-many : (fields : Texts) (contents : List Content) → HaveContents fields contents → length fields ≡ length contents
-as-many [] [] h = refl
-as-many [] (c ∷ contents) h = absurd h
-as-many (f ∷ fields) [] h = absurd h
-as-many (f ∷ fields) (c ∷ contents) h = let others = as-many fields contents h.1 in omega (arith, others)
 
 nth-few : (nth : Option ℕ) (contents : List Content) → length contents ≤ 6 → length (after_nth nth contents) ≤ 8
 nth-few None contents h = omega (arith, h)
@@ -247,7 +266,17 @@ exchange-few (AfterRun nth old) new = nth-few nth _ (omega arith)
 exchange-few (OfRun nth old) [] = nth-few nth _ (omega arith)
 exchange-few (OfRun nth old) (line ∷ lines) = nth-few nth _ (omega arith)
 
-few : (c : Command Edit) → length (command_fields c) ≤ 8
+each-few : (e : EachEdit) → length (each_fields e) ≤ 8
+each-few (ChangeEach name (Prepend value)) = omega arith
+each-few (ChangeEach name (ReplaceWord x value)) = omega arith
+each-few (ChangeEach name (InsertWord side x new)) = omega arith
+each-few (ChangeEach name (Substitute from to)) = omega arith
+each-few (ChangeEach name (SetOperator flavor)) = omega arith
+each-few (SubstValues from to) = omega arith
+each-few (SubstRecipe nth target from to) = nth-few nth _ (omega arith)
+each-few (SubstRecipes from to) = omega arith
+
+pub few : (c : Command Edit) → length (command_fields c) ≤ 8
 few (Apply (ChangeValue (One nth) name change)) = let k = change-few name change in nth-few nth _ (omega (arith, k))
 few (Apply (ChangeValue Every name change)) = let k = change-few name change in omega (arith, k)
 few (Apply (ChangeLine nth name change)) = let k = line_change-few name change in nth-few nth _ (omega (arith, k))
@@ -265,11 +294,9 @@ few (Apply (SetRecipe nth target (ByNumber n) line)) = nth-few nth _ (omega arit
 few (Apply (SetRecipe nth target (ByText old) line)) = nth-few nth _ (omega arith)
 few (Apply (RenameTarget old new)) = omega arith
 few (Apply (ExchangeLines site new)) = exchange-few site new
+few (Apply (EachLine e)) = each-few e
 few Undo = omega arith
 few Redo = omega arith
 few Begin = omega arith
 few End = omega arith
 few Cancel = omega arith
-
-pub few-fields : (fields : Texts) (c : Command Edit) → IsCommand fields c → length fields ≤ 8
-few-fields fields c h = let many = as-many fields (command_fields c) h in let k = few c in omega (arith, many, k)

@@ -11,8 +11,7 @@ use Rattle.mk_class.specs.OperatorTexts.{operator_text}
 use Rattle.mk_edit_language.specs.NewLines.{rule_separator_text}
 use Rattle.mk_edit_language.specs.declared.edit.RuleSeparator.{RuleSeparator}
 use Rattle.mk_edit_language.specs.declared.edit.RuleSeparator.TheVariants.{Single, Double}
-use Rattle.mk_script.specs.Fields.{is_special}
-use Rattle.mk_script.specs.SeenFields.{IsWrittenPlain}
+use Rattle.mk_script.specs.SeenFields.{IsWrittenPlain, is_of_no_word}
 use Rattle.mk_script.specs.WordReading.{named, words, places, operators, separators}
 use Rattle.mk_script.specs.CommandReading.{Texts, front, worded}
 use Rattle.mk_script.specs.declared.table.Word.{Word}
@@ -38,18 +37,18 @@ named-passes {K} p (entry ∷ table) all text k h = go (bytes_eq text entry.1) r
 
 -- ---- a field and what stands in the line
 
-none-special : {K : Type 0} (table : List (K × List ℕ)) → list_all (λ (e : K × List ℕ). not (list_any is_special e.1)) table ≡ true
-    → (text : List ℕ) → list_any is_special text ≡ true → named table text ≡ None
+none-special : {K : Type 0} (table : List (K × List ℕ)) → list_all (λ (e : K × List ℕ). not (list_any is_of_no_word e.1)) table ≡ true
+    → (text : List ℕ) → list_any is_of_no_word text ≡ true → named table text ≡ None
 none-special {K} table plain text special = go (named table text) refl
   where
     go : (o : Option K) → named table text ≡ o → named table text ≡ None
     go None e = e
     go (Some k) e =
-        let passes = named-passes (λ (x : K) (t : List ℕ). not (list_any is_special t)) table plain text k e in
-        absurd (let no : not (list_any is_special text) ≡ false = rw special refl in cc)
+        let passes = named-passes (λ (x : K) (t : List ℕ). not (list_any is_of_no_word t)) table plain text k e in
+        absurd (let no : not (list_any is_of_no_word text) ≡ false = rw special refl in cc)
 
--- a table of words without quotes and backslashes has the same under both
-pub named-written : {K : Type 0} (table : List (K × List ℕ)) → list_all (λ (e : K × List ℕ). not (list_any is_special e.1)) table ≡ true
+-- a table of words without quotes, backslashes and line feeds has the same under both
+pub named-written : {K : Type 0} (table : List (K × List ℕ)) → list_all (λ (e : K × List ℕ). not (list_any is_of_no_word e.1)) table ≡ true
     → (field written : List ℕ) → IsWrittenPlain field written → named table written ≡ named table field
 named-written table plain field written (inl same) = ap (λ t. named table t) same
 named-written table plain field written (inr (f, w)) = none-special table plain written w ∙ sym (none-special table plain field f)
@@ -74,6 +73,7 @@ text_of word.AddBefore = codes "add-before"
 text_of word.AddAfter = codes "add-after"
 text_of word.Subst = codes "subst"
 text_of word.Operator = codes "operator"
+text_of word.ValuesSubst = codes "values-subst"
 text_of word.Unset = codes "unset"
 text_of word.Assign = codes "assign"
 text_of word.Rule = codes "rule"
@@ -87,6 +87,8 @@ text_of word.RecipeSet = codes "recipe-set"
 text_of word.RecipeDel = codes "recipe-del"
 text_of word.RecipeReplace = codes "recipe-replace"
 text_of word.RecipeRemove = codes "recipe-remove"
+text_of word.RecipeSubst = codes "recipe-subst"
+text_of word.RecipesSubst = codes "recipes-subst"
 text_of word.Insert = codes "insert"
 text_of word.LineReplace = codes "line-replace"
 text_of word.LineRemove = codes "line-remove"

@@ -1,20 +1,22 @@
--- What fields are read as is a command that has these fields.
+-- What texts are read as is a command that has these texts.
 use Rattle.std.proofs.Common.{◌≡◌, ℕ, ◌-◌, true, false, List, [], ◌∷◌, ◌++◌, length, refl, sym, ap, ◌∙◌, subst, codes}
-use Rattle.std.specs.Prelude.{Option, Some, None, option_map}
+use Rattle.std.specs.Prelude.{Option, Some, None, option_map, option_and_then}
 use Rattle.std.proofs.lemmas.List.{take-append-drop}
 use Rattle.mk_class.specs.declared.assignment.Flavor.{Flavor}
 use Rattle.mk_class.specs.OperatorTexts.{operator_text}
 use Rattle.mk_edit_language.specs.declared.edit.RuleSeparator.{RuleSeparator}
-use Rattle.mk_edit_language.specs.Edits.{Place, Bottom, BeforeVar, AfterVar, BeforeRule, Site, Top, AtPlace, BeforeRun, AfterRun, OfRun, NewLine, NewAssign, NewRule, Which, One, Every, ValueChange, Set, Append, Add, Remove, LineChange, Prepend, ReplaceWord, InsertWord, Substitute, SetOperator, AddPrereq, RemovePrereq, ByNumber, ByText, Last, At, OfAssign, OfRule, OfRecipe, Edit, ChangeValue, ChangeLine, ChangePrereqs, AddLine, AddRecipe, SetRecipe, RemoveLines, RenameTarget, ExchangeLines}
+use Rattle.mk_edit_language.specs.Edits.{Place, Bottom, BeforeVar, AfterVar, BeforeRule, Site, Top, AtPlace, BeforeRun, AfterRun, OfRun, NewLine, NewAssign, NewRule, Which, One, Every, ValueChange, Set, Append, Add, Remove, LineChange, Prepend, ReplaceWord, InsertWord, Substitute, SetOperator, ChangeEach, SubstValues, SubstRecipe, SubstRecipes, AddPrereq, RemovePrereq, ByNumber, ByText, Last, At, OfAssign, OfRule, OfRecipe, Edit, ChangeValue, ChangeLine, ChangePrereqs, AddLine, AddRecipe, SetRecipe, RemoveLines, RenameTarget, ExchangeLines, EachLine}
+use Rattle.mk_edit_language.specs.declared.edit.Side.{Side}
 use Rattle.mk_edit_language.specs.declared.edit.Side.TheVariants.{Before, After}
 use Rattle.mk_edit_language.specs.LineRuns.{block_lines}
 use Rattle.mk_edit_language.specs.NewLines.{rule_separator_text}
 use Rattle.mk_edit_language.proofs.on_line_runs.BlockTexts.{block-some}
 use Rattle.mk_history.specs.Machine.{Command, Apply, Undo, Redo, Begin, End, Cancel}
 use Rattle.mk_script.specs.Numbers.{number}
-use Rattle.mk_script.specs.CommandTable.{Content, Text, Number, Block, texts, after_nth, place_words, nth_of_place, change_words, line_change_words, exchange_fields, command_fields, HaveContents, IsCommand}
+use Rattle.mk_script.specs.CommandTable.{Content, Text, Number, Block, texts, after_nth, place_words, nth_of_place, change_words, line_change_words, exchange_fields, command_fields}
+use Rattle.mk_script.proofs.on_commands.TextContents.{HaveTexts, AreCommand}
 use Rattle.mk_script.specs.WordReading.{named, words, places, operators, separators}
-use Rattle.mk_script.specs.CommandReading.{Texts, one, two, three, numbered, worded, place_with, place_in, site_with, site_in, before_last, last_fields, new_assign, new_rule, insert_lines, line_change, change_line, edit_with, edit_by, edit_after, edit_in, alone, command_after}
+use Rattle.mk_script.specs.CommandReading.{Texts, front, one, two, three, numbered, worded, place_with, place_in, site_with, site_in, before_last, last_fields, new_assign, new_rule, insert_lines, line_change, change_line, change_each, edit_with, edit_by, edit_after, edit_in, alone, command_after}
 use Rattle.mk_script.specs.declared.table.Word.{Word}
 use Rattle.mk_script.specs.declared.table.Word.TheVariants as word
 use Rattle.mk_script.specs.declared.word.PlaceWord.{PlaceWord}
@@ -87,10 +89,10 @@ behind Every contents = Text (codes "all") ∷ contents
 -- The fields after a word have contents that with it are the command of the edit.
 record IsWrittenEdit (which : Which) (w : Word) (fields : Texts) (e : Edit) : Type 0 where
   contents : List Content
-  have : HaveContents fields contents
+  have : HaveTexts fields contents
   command : command_fields (Apply e) ≡ behind which (Text (text_of w) ∷ contents)
 
-texts-have : (ts : Texts) → HaveContents ts (texts ts)
+texts-have : (ts : Texts) → HaveTexts ts (texts ts)
 texts-have [] = tt
 texts-have (t ∷ ts) = (refl, texts-have ts)
 
@@ -98,7 +100,7 @@ text-written : (which : Which) (w : Word) (fields ts : Texts) (e d : Edit) → f
     → IsWrittenEdit which w fields e
 text-written which w fields ts e d is same command = record {
   contents = texts ts;
-  have = subst (λ z. HaveContents z (texts ts)) (sym is) (texts-have ts);
+  have = subst (λ z. HaveTexts z (texts ts)) (sym is) (texts-have ts);
   command = ap (λ x. command_fields (Apply x)) (sym same) ∙ command;
 }
 
@@ -129,7 +131,7 @@ numbered-written which w fields e make h is =
     let contents : List Content = Text m.0.0 ∷ Number m.0.1 ∷ texts (m.0.2 ∷ []) in
     record {
       contents = contents;
-      have = subst (λ z. HaveContents z contents) (sym k.1) (refl, (k.2, (refl, tt)));
+      have = subst (λ z. HaveTexts z contents) (sym k.1) (refl, (k.2, (refl, tt)));
       command = ap (λ x. command_fields (Apply x)) (sym m.2) ∙ is m.0.0 m.0.1 m.0.2;
     }
 
@@ -140,7 +142,7 @@ recipe_del-written nth fields e h =
     let contents : List Content = Text c.0.0 ∷ Number m.0 ∷ [] in
     record {
       contents = contents;
-      have = subst (λ z. HaveContents z contents) (sym (two-is fields c.0 c.1)) (refl, (m.1, tt));
+      have = subst (λ z. HaveTexts z contents) (sym (two-is fields c.0 c.1)) (refl, (m.1, tt));
       command = ap (λ x. command_fields (Apply x)) (sym m.2);
     }
 
@@ -184,8 +186,44 @@ change_line-written nth w (name ∷ ts) e h =
     text-written (One nth) w (name ∷ ts) (name ∷ ts) e (ChangeLine nth name m.0) refl m.2
     (ap (λ zs. after_nth nth (texts zs)) (line_change-is w name ts m.0 m.1))
 
+-- no word goes beside others in each value
+each-fields : (w : Word) (name : List ℕ) (ts : Texts) (c : LineChange) → (w ≡ word.AddBefore → ⊥) → (w ≡ word.AddAfter → ⊥) → line_change w ts ≡ Some c
+    → command_fields (Apply (EachLine (ChangeEach name c))) ≡ texts (codes "all" ∷ line_change_words name c)
+each-fields w name ts (Prepend value) before after h = refl
+each-fields w name ts (ReplaceWord x value) before after h = refl
+each-fields w name ts (Substitute from to) before after h = refl
+each-fields w name ts (SetOperator flavor) before after h = refl
+each-fields w name ts (InsertWord side x new) before after h = absurd (none-inserted w ts side x new before after h)
+  where
+    none : (o : Option (List ℕ)) (make : List ℕ → LineChange) (d : LineChange) → ((a : List ℕ) → make a ≡ d → ⊥) → option_map make o ≡ Some d → ⊥
+    none o make d other k = let m = mapped make o d k in other m.0 m.2
+
+    none-inserted : (w : Word) (ts : Texts) (side : Side) (x new : List ℕ) → (w ≡ word.AddBefore → ⊥) → (w ≡ word.AddAfter → ⊥) → line_change w ts ≡ Some (InsertWord side x new) → ⊥
+    none-inserted word.AddBefore ts side x new before after k = before refl
+    none-inserted word.AddAfter ts side x new before after k = after refl
+    none-inserted word.Prepend ts side x new before after k = let m = mapped Prepend (one ts) (InsertWord side x new) k in let e = m.2 in absurd (cc)
+    none-inserted word.Replace ts side x new before after k = let m = mapped (λ (p : List ℕ × List ℕ). ReplaceWord p.0 p.1) (two ts) (InsertWord side x new) k in let e = m.2 in absurd (cc)
+    none-inserted word.Subst ts side x new before after k = let m = mapped (λ (p : List ℕ × List ℕ). Substitute p.0 p.1) (two ts) (InsertWord side x new) k in let e = m.2 in absurd (cc)
+    none-inserted word.Operator ts side x new before after k =
+        let t = chained (λ (t : List ℕ). option_map SetOperator (named operators t)) (one ts) (InsertWord side x new) k in
+        let m = mapped SetOperator (named operators t.0) (InsertWord side x new) t.2 in let e = m.2 in absurd (cc)
+    none-inserted w ts side x new before after k = absurd (cc)
+
+each_line-written : (w : Word) (fields : Texts) (e : Edit) → (w ≡ word.AddBefore → ⊥) → (w ≡ word.AddAfter → ⊥)
+    → option_and_then (λ (p : List ℕ × Texts). option_map (λ c. EachLine (ChangeEach p.0 c)) (line_change w p.1)) (front fields) ≡ Some e → IsWrittenEdit Every w fields e
+each_line-written w [] e before after h = absurd (cc)
+each_line-written w (name ∷ ts) e before after h =
+    let m = mapped (λ (c : LineChange). EachLine (ChangeEach name c)) (line_change w ts) e h in
+    text-written Every w (name ∷ ts) (name ∷ ts) e (EachLine (ChangeEach name m.0)) refl m.2
+    (each-fields w name ts m.0 before after m.1 ∙ ap (λ zs. texts (codes "all" ∷ zs)) (line_change-is w name ts m.0 m.1))
+
+change_each-written : (w : Word) (fields : Texts) (e : Edit) → change_each w fields ≡ Some e → IsWrittenEdit Every w fields e
+change_each-written word.AddBefore fields e h = absurd (cc)
+change_each-written word.AddAfter fields e h = absurd (cc)
+change_each-written w fields e h = each_line-written w fields e (λ z. cc) (λ z. cc) h
+
 -- whole lines behind their site
-with-block : (fs : Texts) (contents : List Content) (b : List ℕ) → HaveContents fs contents → HaveContents (fs ++ b ∷ []) (contents ++ Block (block_lines b) ∷ [])
+with-block : (fs : Texts) (contents : List Content) (b : List ℕ) → HaveTexts fs contents → HaveTexts (fs ++ b ∷ []) (contents ++ Block (block_lines b) ∷ [])
 with-block [] [] b h = (refl, tt)
 with-block [] (c ∷ contents) b h = absurd h
 with-block (f ∷ fs) [] b h = absurd h
@@ -194,7 +232,7 @@ with-block (f ∷ fs) (c ∷ contents) b h = (h.0, with-block fs contents b h.1)
 -- The fields have contents that are those of a site.
 record IsWrittenSite (nth : Option ℕ) (fields : Texts) (site : Site) : Type 0 where
   contents : List Content
-  have : HaveContents fields contents
+  have : HaveTexts fields contents
   fields_are : (new : List (List ℕ)) → exchange_fields site new ≡ after_nth nth (Text (codes "insert") ∷ (contents ++ Block new ∷ []))
 
 -- a site that has a block of its own
@@ -205,7 +243,7 @@ beside-written nth t f fs site make is h are =
     let contents : List Content = Text t ∷ Block (block_lines m.0) ∷ [] in
     record {
       contents = contents;
-      have = (is, subst (λ z. HaveContents z (Block (block_lines m.0) ∷ [])) (sym (one-is fs m.0 m.1)) (refl, tt));
+      have = (is, subst (λ z. HaveTexts z (Block (block_lines m.0) ∷ [])) (sym (one-is fs m.0 m.1)) (refl, tt));
       fields_are = λ new. ap (λ s. exchange_fields s new) (sym m.2) ∙ are (block_lines m.0) new;
     }
 
@@ -220,7 +258,7 @@ site-with nth w f fs site is h =
     let p = place-with nth w f fs m.0 is m.1 in
     record {
       contents = texts (place_words m.0);
-      have = subst (λ z. HaveContents z (texts (place_words m.0))) (sym p.1) (texts-have (place_words m.0));
+      have = subst (λ z. HaveTexts z (texts (place_words m.0))) (sym p.1) (texts-have (place_words m.0));
       fields_are = λ new.
           ap (λ s. exchange_fields s new) (sym m.2) ∙ ap (λ n. after_nth n (Text (codes "insert") ∷ (texts (place_words m.0) ++ Block new ∷ []))) (sym p.0);
     }
@@ -241,7 +279,7 @@ insert-written nth fields e h =
     let whole : fields ≡ site ++ c.0 ∷ [] = sym (take-append-drop (length fields - 1) fields) ∙ ap (λ z. site ++ z) (one-is (last_fields 1 fields) c.0 c.1) in
     record {
       contents = contents;
-      have = subst (λ z. HaveContents z contents) (sym whole) (with-block site s.contents c.0 s.have);
+      have = subst (λ z. HaveTexts z contents) (sym whole) (with-block site s.contents c.0 s.have);
       command = ap (λ x. command_fields (Apply x)) (sym m.2) ∙ s.fields_are (block_lines c.0);
     }
 
@@ -256,7 +294,7 @@ line_replace-written nth fields e h =
     let contents : List Content = Block (block_lines m.0.0) ∷ Block (block_lines m.0.1) ∷ [] in
     record {
       contents = contents;
-      have = subst (λ z. HaveContents z contents) (sym (two-is fields m.0 m.1)) (refl, (refl, tt));
+      have = subst (λ z. HaveTexts z contents) (sym (two-is fields m.0 m.1)) (refl, (refl, tt));
       command = ap (λ x. command_fields (Apply x)) (sym m.2) ∙ replace-fields nth (block_lines m.0.0) (block_lines m.0.1) (block-some m.0.1);
     }
 
@@ -266,7 +304,7 @@ line_remove-written nth fields e h =
     let contents : List Content = Block (block_lines m.0) ∷ [] in
     record {
       contents = contents;
-      have = subst (λ z. HaveContents z contents) (sym (one-is fields m.0 m.1)) (refl, tt);
+      have = subst (λ z. HaveTexts z contents) (sym (one-is fields m.0 m.1)) (refl, tt);
       command = ap (λ x. command_fields (Apply x)) (sym m.2);
     }
 
@@ -313,10 +351,15 @@ with-written (One nth) word.RecipeRemove fields e h = two-written (One nth) word
 with-written (One nth) word.Insert fields e h = insert-written nth fields e h
 with-written (One nth) word.LineReplace fields e h = line_replace-written nth fields e h
 with-written (One nth) word.LineRemove fields e h = line_remove-written nth fields e h
+with-written (One nth) word.RecipeSubst fields e h = three-written (One nth) word.RecipeSubst fields e (λ a b c. EachLine (SubstRecipe nth a b c)) h (λ a b c. refl)
 with-written (One None) word.Rename fields e h = two-written (One None) word.Rename fields e (λ a b. RenameTarget a b) h (λ a b. refl)
 with-written (One (Some n)) word.Rename fields e h = absurd (cc)
+with-written (One None) word.ValuesSubst fields e h = two-written (One None) word.ValuesSubst fields e (λ a b. EachLine (SubstValues a b)) h (λ a b. refl)
+with-written (One (Some n)) word.ValuesSubst fields e h = absurd (cc)
+with-written (One None) word.RecipesSubst fields e h = two-written (One None) word.RecipesSubst fields e (λ a b. EachLine (SubstRecipes a b)) h (λ a b. refl)
+with-written (One (Some n)) word.RecipesSubst fields e h = absurd (cc)
 with-written (One nth) w fields e h = change_line-written nth w fields e h
-with-written Every w fields e h = absurd (cc)
+with-written Every w fields e h = change_each-written w fields e h
 
 -- ---- commands
 
@@ -327,37 +370,37 @@ worded-is (f ∷ fs) p h =
     ap (λ z. z ∷ fs) (named-word f m.0 m.1) ∙ ap (λ (q : Word × Texts). text_of q.0 ∷ q.1) m.2
 
 by-written : (which : Which) (fields : Texts) (e : Edit) → edit_by which fields ≡ Some e
-    → (contents : List Content) × HaveContents fields contents × (command_fields (Apply e) ≡ behind which contents)
+    → (contents : List Content) × HaveTexts fields contents × (command_fields (Apply e) ≡ behind which contents)
 by-written which fields e h =
     let c = chained (λ (p : Word × Texts). edit_with which p.0 p.1) (worded fields) e h in
     let w = with-written which c.0.0 c.0.1 e c.2 in
     let contents : List Content = Text (text_of c.0.0) ∷ w.contents in
-    (contents, subst (λ z. HaveContents z contents) (sym (worded-is fields c.0 c.1)) (refl, w.have), w.command)
+    (contents, subst (λ z. HaveTexts z contents) (sym (worded-is fields c.0 c.1)) (refl, w.have), w.command)
 
-after-written : (w : Word) (fs : Texts) (e : Edit) → edit_after w fs ≡ Some e → IsCommand (text_of w ∷ fs) (Apply e)
+after-written : (w : Word) (fs : Texts) (e : Edit) → edit_after w fs ≡ Some e → AreCommand (text_of w ∷ fs) (Apply e)
 after-written word.Nth [] e h = absurd (cc)
 after-written word.Nth (d ∷ fs) e h =
     let c = chained (λ (n : ℕ). edit_by (One (Some n)) fs) (number d) e h in
     let b = by-written (One (Some c.0)) fs e c.2 in
-    subst (λ z. HaveContents (codes "nth" ∷ d ∷ fs) z) (sym b.2) (refl, (c.1, b.1))
+    subst (λ z. HaveTexts (codes "nth" ∷ d ∷ fs) z) (sym b.2) (refl, (c.1, b.1))
 after-written word.All fs e h =
     let b = by-written Every fs e h in
-    subst (λ z. HaveContents (codes "all" ∷ fs) z) (sym b.2) (refl, b.1)
+    subst (λ z. HaveTexts (codes "all" ∷ fs) z) (sym b.2) (refl, b.1)
 after-written w fs e h =
     let x = with-written (One None) w fs e h in
-    subst (λ z. HaveContents (text_of w ∷ fs) z) (sym x.command) (refl, x.have)
+    subst (λ z. HaveTexts (text_of w ∷ fs) z) (sym x.command) (refl, x.have)
 
-pub in-written : (fields : Texts) (e : Edit) → edit_in fields ≡ Some e → IsCommand fields (Apply e)
+pub in-written : (fields : Texts) (e : Edit) → edit_in fields ≡ Some e → AreCommand fields (Apply e)
 in-written fields e h =
     let c = chained (λ (p : Word × Texts). edit_after p.0 p.1) (worded fields) e h in
-    subst (λ z. IsCommand z (Apply e)) (sym (worded-is fields c.0 c.1)) (after-written c.0.0 c.0.1 e c.2)
+    subst (λ z. AreCommand z (Apply e)) (sym (worded-is fields c.0 c.1)) (after-written c.0.0 c.0.1 e c.2)
 
 -- a call, behind which nothing stands
-call-written : (w : Word) (d c : Command Edit) (fs : Texts) → alone d fs ≡ Some c → IsCommand (text_of w ∷ []) d → IsCommand (text_of w ∷ fs) c
-call-written w d c [] h is = let same : d ≡ c = cc in subst (λ z. IsCommand (text_of w ∷ []) z) same is
+call-written : (w : Word) (d c : Command Edit) (fs : Texts) → alone d fs ≡ Some c → AreCommand (text_of w ∷ []) d → AreCommand (text_of w ∷ fs) c
+call-written w d c [] h is = let same : d ≡ c = cc in subst (λ z. AreCommand (text_of w ∷ []) z) same is
 call-written w d c (f ∷ fs) h is = absurd (cc)
 
-pub command-written : (w : Word) (fs : Texts) (c : Command Edit) → command_after w fs ≡ Some c → IsCommand (text_of w ∷ fs) c
+pub command-written : (w : Word) (fs : Texts) (c : Command Edit) → command_after w fs ≡ Some c → AreCommand (text_of w ∷ fs) c
 command-written word.Undo fs c h = call-written word.Undo Undo c fs h (refl, tt)
 command-written word.Redo fs c h = call-written word.Redo Redo c fs h (refl, tt)
 command-written word.Begin fs c h = call-written word.Begin Begin c fs h (refl, tt)
@@ -365,4 +408,4 @@ command-written word.End fs c h = call-written word.End End c fs h (refl, tt)
 command-written word.Cancel fs c h = call-written word.Cancel Cancel c fs h (refl, tt)
 command-written w fs c h =
     let m = mapped Apply (edit_after w fs) c h in
-    subst (λ z. IsCommand (text_of w ∷ fs) z) m.2 (after-written w fs m.0 m.1)
+    subst (λ z. AreCommand (text_of w ∷ fs) z) m.2 (after-written w fs m.0 m.1)

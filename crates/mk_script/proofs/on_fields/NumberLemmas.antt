@@ -10,30 +10,30 @@ use Rattle.std.proofs.lemmas.List.{length-take-le}
 use Rattle.std.proofs.lemmas.List.Folds.{list_all_more}
 use Rattle.std.proofs.lemmas.Fmt.{decimal_is_IsNumeral, length-decimal-le}
 use Rattle.std.proofs.lemmas.Bool.{and_parts}
-use Rattle.mk_script.specs.Fields.{is_special}
 use Rattle.mk_script.specs.Numbers.{number, is_number}
-use Rattle.mk_script.specs.SeenFields.{IsWrittenPlain}
+use Rattle.mk_script.specs.SeenFields.{IsWrittenPlain, is_of_no_word}
 
--- a quote or a backslash is no digit
-special-digit : (b : ℕ) → is_special b ≡ true → is_ascii_digit b ≡ false
-special-digit b h = go (b == 34) (b == 92) refl refl h
+-- a quote, a backslash or a line feed is no digit
+special-digit : (b : ℕ) → is_of_no_word b ≡ true → is_ascii_digit b ≡ false
+special-digit b h = go (b == 34) (b == 92) (b == 10) refl refl refl h
   where
-    go : (p q : Bool) → (b == 34) ≡ p → (b == 92) ≡ q → (p || q) ≡ true → is_ascii_digit b ≡ false
-    go true q e f k = rw (eqb-true b 34 e) refl
-    go false true e f k = rw (eqb-true b 92 f) refl
-    go false false e f k = absurd (cc)
+    go : (p q r : Bool) → (b == 34) ≡ p → (b == 92) ≡ q → (b == 10) ≡ r → ((p || q) || r) ≡ true → is_ascii_digit b ≡ false
+    go true q r e f g k = rw (eqb-true b 34 e) refl
+    go false true r e f g k = rw (eqb-true b 92 f) refl
+    go false false true e f g k = rw (eqb-true b 10 g) refl
+    go false false false e f g k = absurd (cc)
 
-not_all : (text : List ℕ) → list_any is_special text ≡ true → list_all is_ascii_digit text ≡ false
+not_all : (text : List ℕ) → list_any is_of_no_word text ≡ true → list_all is_ascii_digit text ≡ false
 not_all [] h = absurd (cc)
-not_all (b ∷ text) h = go (is_special b) refl (is_ascii_digit b) refl h (not_all text)
+not_all (b ∷ text) h = go (is_of_no_word b) refl (is_ascii_digit b) refl h (not_all text)
   where
-    go : (c : Bool) → is_special b ≡ c → (d : Bool) → is_ascii_digit b ≡ d → (c || list_any is_special text) ≡ true
-        → (list_any is_special text ≡ true → list_all is_ascii_digit text ≡ false) → (is_ascii_digit b && list_all is_ascii_digit text) ≡ false
+    go : (c : Bool) → is_of_no_word b ≡ c → (d : Bool) → is_ascii_digit b ≡ d → (c || list_any is_of_no_word text) ≡ true
+        → (list_any is_of_no_word text ≡ true → list_all is_ascii_digit text ≡ false) → (is_ascii_digit b && list_all is_ascii_digit text) ≡ false
     go true e d f k ih = rw (special-digit b e) refl
     go false e true f k ih = rw (f, ih k) refl
     go false e false f k ih = rw f refl
 
-no_number : (text : List ℕ) → list_any is_special text ≡ true → number text ≡ None
+no_number : (text : List ℕ) → list_any is_of_no_word text ≡ true → number text ≡ None
 no_number text h = go (not (nat_lt 10 (length text))) (nat_lt 0 (length text)) (not_all text h)
   where
     go : (a b : Bool) → list_all is_ascii_digit text ≡ false
@@ -113,3 +113,10 @@ pub decimal-number : (n : ℕ) → n ≤ 4294967295 → number (decimal n) ≡ S
 decimal-number n h =
     let is = decimal_is_IsNumeral n (omega (arith, h)) in
     is-number (decimal n) n is.0 (length-decimal-le 10 n (omega arith) (omega (arith, h)) (omega (arith, h))) is.1 h
+
+-- its digits are digits, and have its value
+pub digits-all : (n : ℕ) → n < 2 ^ 64 → list_all is_ascii_digit (decimal n) ≡ true
+digits-all n h = all-from (decimal n) (decimal_is_IsNumeral n h).0.1
+
+pub digits-value : (n : ℕ) → n < 2 ^ 64 → digits_value 10 (decimal n) ≡ n
+digits-value n h = (decimal_is_IsNumeral n h).1

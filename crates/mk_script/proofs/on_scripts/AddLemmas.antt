@@ -5,14 +5,15 @@ use Rattle.std.specs.Result.{IsErrAnd}
 use Rattle.std.proofs.lemmas.List.{map-append}
 use Rattle.mk_edit_language.specs.Edits.{Edit}
 use Rattle.mk_script.specs.Lines.{Saying, Plain, Or}
-use Rattle.mk_script.specs.FieldReading.{fields_within}
-use Rattle.mk_script.specs.CommandReading.{Texts, worded, command_after, saying_after, saying_in, saying}
+use Rattle.mk_script.specs.BlockReading.{texts_of_line, said_from, saying}
+use Rattle.mk_script.specs.CommandReading.{Texts, worded, command_after, saying_after, saying_in}
 use Rattle.mk_script.specs.declared.table.Word.{Word}
 use Rattle.mk_script.specs.declared.table.Word.TheVariants as word
 use Rattle.mk_script.specs.Scripts.{EditAt, Step, SayingAt, or_at, sayings_of, sayings, chain_of}
-use Rattle.mk_script.specs.ReaderAnswers.{is_short, takes_alternative, SayMore, Adds, Pushes}
+use Rattle.mk_script.specs.ReaderAnswers.{is_short, takes_alternative, SayMore, Adds, AddsLine, Pushes}
 use Rattle.mk_script.specs.declared.fault.LineFault.{LineFault}
 use Rattle.mk_script.specs.declared.fault.LineFault.TheVariants.{NotACommand, NoMemory}
+use Rattle.mk_script.proofs.on_commands.TableLemmas.{mapped}
 use Rattle.mk_script.proofs.on_scripts.GroupLemmas.{sayings-last, none-first, none-below}
 
 -- ---- what is said more
@@ -94,12 +95,33 @@ pub handed-on : (base : List Step) (n : ℕ) (stands : Option Saying) (new : Lis
 handed-on base n stands new (Ok u) fault h adds = absurd h
 handed-on base n stands new (Err e) fault h adds = subst (λ f. Adds base n stands new (Err f)) (sym h) adds
 
--- ---- what a line says, by its first word
+-- ---- what fields say, by their first word
 
-pub said-by : (line : List ℕ) (fields others : Texts) (w : Word) → fields_within 9 line ≡ Some fields → worded fields ≡ Some (w, others) → saying line ≡ saying_after w others
-said-by line fields others w h k = ap (λ o. option_and_then saying_in o) h ∙ ap (λ o. option_and_then (λ (p : Word × Texts). saying_after p.0 p.1) o) k
+pub said-by : (fields others : Texts) (w : Word) → worded fields ≡ Some (w, others) → saying_in fields ≡ saying_after w others
+said-by fields others w k = ap (λ o. option_and_then (λ (p : Word × Texts). saying_after p.0 p.1) o) k
 
 pub said-plain : (w : Word) (others : Texts) → (w ≡ word.Try → ⊥) → (w ≡ word.Or → ⊥) → saying_after w others ≡ option_map Plain (command_after w others)
 said-plain word.Try others no_try no_or = absurd (no_try refl)
 said-plain word.Or others no_try no_or = absurd (no_or refl)
 said-plain w others no_try no_or = refl
+
+-- ---- a line with the lines of its blocks
+
+line-says : (line : List ℕ) (below left : List (List ℕ)) (texts : Texts) → texts_of_line line below ≡ Some (texts, left) → saying line below ≡ option_map (λ (x : Saying). (x, left)) (saying_in texts)
+line-says line below left texts h = ap (λ o. option_and_then said_from o) h
+
+pub line-added : (base : List Step) (n : ℕ) (line : List ℕ) (below left : List (List ℕ)) (texts : Texts) (new : List Step) (r : Result (Unit {0}) LineFault) → texts_of_line line below ≡ Some (texts, left)
+    → Adds base n (saying_in texts) new r → AddsLine base n (saying line below) new r left
+line-added base n line below left texts new (Ok u) is (x, stands, more) = (x, line-says line below left texts is ∙ ap (λ o. option_map (λ (y : Saying). (y, left)) o) stands, more)
+line-added base n line below left texts new (Err NotACommand) is refused = λ x rest stands others more.
+    let m = mapped (λ (y : Saying). (y, left)) (saying_in texts) (x, rest) (sym (line-says line below left texts is) ∙ stands) in
+    let same : m.0 ≡ x = ap (λ (p : Saying × List (List ℕ)). p.0) m.2 in
+    refused x (m.1 ∙ ap (λ y. Some y) same) others more
+line-added base n line below left texts new (Err NoMemory) is (x, stands, more) = (x, line-says line below left texts is ∙ ap (λ o. option_map (λ (y : Saying). (y, left)) o) stands, more)
+
+pub line-refused : (base : List Step) (n : ℕ) (line : List ℕ) (below left : List (List ℕ)) (new : List Step) (r : Result (Unit {0}) LineFault) → texts_of_line line below ≡ None
+    → IsErrAnd r (λ e. e ≡ NotACommand) → AddsLine base n (saying line below) new r left
+line-refused base n line below left new (Ok u) none h = absurd h
+line-refused base n line below left new (Err e) none h =
+    let nothing : saying line below ≡ None = ap (λ o. option_and_then said_from o) none in
+    subst (λ f. AddsLine base n (saying line below) new (Err f) left) (sym h) (λ x rest stands others more. absurd (cc))

@@ -1,54 +1,65 @@
 -- A script says one thing.
-use Rattle.std.proofs.Common.{◌≡◌, ℕ, ◌+◌, ◌<◌, ◌≤◌, List, [], ◌∷◌, ◌++◌, refl, sym, ap, ◌∙◌, subst, inl, inr, length, arith, append_assoc}
+use Rattle.std.proofs.Common.{◌≡◌, ℕ, suc, zero, ◌+◌, ◌<◌, ◌≤◌, Bool, true, false, List, [], ◌∷◌, ◌++◌, refl, sym, ap, ◌∙◌, subst, inl, inr, length, arith, append_assoc, length-append}
 use Rattle.std.specs.Prelude.{◌⊎◌}
 use Rattle.std.proofs.lemmas.Bool.{cases_lt}
 use Rattle.mk_script.specs.Lines.{script_lines, IsSkipped, Saying, Says}
 use Rattle.mk_script.specs.Scripts.{Step, AreSaid, sayings, AreSteps, IsScript, HasNoCommand}
-use Rattle.mk_script.specs.ReaderAnswers.{SayMore}
+use Rattle.mk_script.specs.ReaderAnswers.{is_skipped, SayMore}
 use Rattle.mk_script.specs.ScriptLaws.{StepsAreOne, NoScriptIsBoth, FirstFaultIsOne, EachScriptIsRead}
-use Rattle.mk_script.proofs.on_scripts.LineLemmas.{skipped-says_nothing, one_saying, says-or_not}
-use Rattle.mk_script.proofs.on_scripts.SaidLemmas.{said-one, said-cut}
-use Rattle.mk_script.proofs.on_scripts.GroupLemmas.{sayings-one, more-or_not, first-steps}
-use Rattle.mk_script.proofs.on_scripts.ScriptLemmas.{IsReadSoFar, none-read, skipped-read, said-read, all-read, unread}
+use Rattle.mk_script.proofs.on_commands.SayingLemmas.{IsSaid}
+use Rattle.mk_script.proofs.on_scripts.LineLemmas.{LineIs, Skipped, Said, Neither, skipped-is, unskipped, skipped-says_nothing, one_saying, says-or-not}
+use Rattle.mk_script.proofs.on_scripts.SaidLemmas.{said-skipped, said-more, said-one}
+use Rattle.mk_script.proofs.on_scripts.GroupLemmas.{sayings-one, more-or_not}
+use Rattle.mk_script.proofs.on_scripts.ScriptLemmas.{IsReadSoFar, none-read, skipped-read, said-read, all-read, gone-on, unread}
 
 pub steps-one : StepsAreOne
 steps-one script steps others h k = sayings-one steps others (said-one 1 (script_lines script) (sayings steps) (sayings others) h k)
 
 -- ---- steps and a line without one
 
--- the first lines of steps are steps
-first-lines : (before after : List (List ℕ)) (steps : List Step) → AreSteps (before ++ after) steps → (first : List Step) × AreSteps before first
-first-lines before after steps h =
-    let c = said-cut 1 before after (sayings steps) h in
-    let first = first-steps steps c.said c.later c.all_are in
-    (first.0, subst (λ s. AreSaid 1 before s) (sym first.1) c.are)
-
-cut-at : (before : List (List ℕ)) (line : List ℕ) (after : List (List ℕ)) → before ++ line ∷ after ≡ (before ++ line ∷ []) ++ after
-cut-at before line after = sym (append_assoc before (line ∷ []) after)
+-- Steps that go on behind a line are steps with that line.
+gone-steps : (before : List (List ℕ)) (line : List ℕ) (after : List (List ℕ)) (steps all : List Step) → AreSteps before steps → AreSteps (before ++ line ∷ after) all
+    → (block : List (List ℕ)) × (rest : List (List ℕ)) × (after ≡ block ++ rest) × ((others : List Step) × AreSteps (before ++ line ∷ block) others)
+gone-steps before line after steps all h k = go (is_skipped line) refl
+  where
+    go : (b : Bool) → is_skipped line ≡ b → (block : List (List ℕ)) × (rest : List (List ℕ)) × (after ≡ block ++ rest) × ((others : List Step) × AreSteps (before ++ line ∷ block) others)
+    go true e = ([], after, refl, (steps, said-skipped 1 before line (sayings steps) (skipped-is line e) h))
+    go false e =
+        let on = gone-on before line after steps all (unskipped line e) h k in
+        let number : length before + 1 ≡ 1 + length before = omega arith in (
+          on.block,
+          on.rest,
+          on.whole,
+          (on.others, subst (λ s. AreSaid 1 (before ++ line ∷ on.block) s) (sym on.more) (said-more 1 before line on.block (sayings steps) (record { line = length before + 1; saying = on.saying }) number on.says h)),
+        )
 
 pub not-both : NoScriptIsBoth
 not-both script steps n h k =
-    let first = first-lines (k.before ++ k.line ∷ []) k.after steps (subst (λ ls. AreSteps ls steps) (k.lines ∙ cut-at k.before k.line k.after) h) in
-    k.property first.0 first.1
+    let on = gone-steps k.before k.line k.after k.steps steps k.are (subst (λ ls. AreSteps ls steps) k.lines h) in
+    k.property on.0 on.1 on.3.0 on.2 on.3.1
 
 -- ---- one first line without a command
 
 -- of two lists that begin one list, the shorter one with an element more begins the longer one
-longer : (xs ys : List (List ℕ)) (a b : List ℕ) (more others : List (List ℕ)) → xs ++ a ∷ more ≡ ys ++ b ∷ others → length xs < length ys
-    → (rest : List (List ℕ)) × (ys ≡ (xs ++ a ∷ []) ++ rest)
+record IsLonger (xs ys : List (List ℕ)) (a b : List ℕ) (more others : List (List ℕ)) : Type 0 where
+  rest : List (List ℕ)
+  list : ys ≡ xs ++ a ∷ rest
+  tail : more ≡ rest ++ b ∷ others
+
+longer : (xs ys : List (List ℕ)) (a b : List ℕ) (more others : List (List ℕ)) → xs ++ a ∷ more ≡ ys ++ b ∷ others → length xs < length ys → IsLonger xs ys a b more others
 longer xs [] a b more others e less = absurd (omega (arith, less))
-longer [] (y ∷ ys) a b more others e less = let same : y ≡ a = cc in (ys, ap (λ z. z ∷ ys) same)
+longer [] (y ∷ ys) a b more others e less = let same : y ≡ a = cc in record { rest = ys; list = ap (λ z. z ∷ ys) same; tail = cc }
 longer (x ∷ xs) (y ∷ ys) a b more others e less =
     let tails : xs ++ a ∷ more ≡ ys ++ b ∷ others = cc in
     let same : y ≡ x = cc in
     let r = longer xs ys a b more others tails (omega (arith, less)) in
-    (r.0, ap (λ z. z ∷ ys) same ∙ ap (λ zs. x ∷ zs) r.1)
+    record { rest = r.rest; list = ap (λ z. z ∷ ys) same ∙ ap (λ zs. x ∷ zs) r.list; tail = r.tail }
 
 not_before : (script : List ℕ) (n m : ℕ) (h : HasNoCommand script n) (k : HasNoCommand script m) → length h.before < length k.before → ⊥
 not_before script n m h k less =
     let r = longer h.before k.before h.line k.line h.after k.after (sym h.lines ∙ k.lines) less in
-    let first = first-lines (h.before ++ h.line ∷ []) r.0 k.steps (subst (λ ls. AreSteps ls k.steps) r.1 k.are) in
-    h.property first.0 first.1
+    let on = gone-steps h.before h.line r.rest h.steps k.steps h.are (subst (λ ls. AreSteps ls k.steps) r.list k.are) in
+    h.property on.0 (on.1 ++ k.line ∷ k.after) on.3.0 (r.tail ∙ (ap (λ ls. ls ++ k.line ∷ k.after) on.2 ∙ append_assoc on.0 on.1 (k.line ∷ k.after))) on.3.1
 
 same_number : (a b : ℕ) → (a < b → ⊥) → (b < a → ⊥) → a ≡ b
 same_number a b h k = go (cases_lt a b) (cases_lt b a)
@@ -65,31 +76,38 @@ fault-one script n m h k =
 
 -- ---- each script is read
 
-read-on : (script : List ℕ) (n : ℕ) (rest : List (List ℕ)) (steps : List Step) → IsReadSoFar script n rest steps
+-- `most` is at least the number of lines that are left
+read-on : (most : ℕ) (script : List ℕ) (n : ℕ) (rest : List (List ℕ)) (steps : List Step) → length rest ≤ most → IsReadSoFar script n rest steps
     → ((all : List Step) × IsScript script all) ⊎ ((number : ℕ) × HasNoCommand script number)
-read-on script n [] steps h = inl (steps, all-read script n [] steps h refl)
-read-on script n (line ∷ rest) steps h =
-    go (says-or_not line) (λ m others k. read-on script m rest others k)
+read-on most script n [] steps few h = inl (steps, all-read script n [] steps h refl)
+read-on zero script n (line ∷ after) steps few h = absurd (omega (arith, few))
+read-on (suc most) script n (line ∷ after) steps few h =
+    go (says-or-not line after) (λ m rest others fewer k. read-on most script m rest others fewer k)
   where
-    unsaid : (IsSkipped line → ⊥) → ((x : Saying) → Says line x → (others : List Step) → SayMore steps (record { line = n + 1; saying = x }) others → ⊥)
+    unsaid : (IsSkipped line → ⊥) → ((block rest : List (List ℕ)) (x : Saying) → after ≡ block ++ rest → Says line block x → (others : List Step) → SayMore steps (record { line = n + 1; saying = x }) others → ⊥)
         → ((all : List Step) × IsScript script all) ⊎ ((number : ℕ) × HasNoCommand script number)
-    unsaid unskipped never = inr (n + 1, unread script n line rest steps h unskipped never)
+    unsaid unskipped never = inr (n + 1, unread script n line after steps h unskipped never)
 
-    said : (x : Saying) → Says line x
+    said : (rest : List (List ℕ)) (x : Saying) (is : IsSaid line after rest x)
         → ((others : List Step) × SayMore steps (record { line = n + 1; saying = x }) others) ⊎ ((others : List Step) → SayMore steps (record { line = n + 1; saying = x }) others → ⊥)
-        → ((m : ℕ) (others : List Step) → IsReadSoFar script m rest others → ((all : List Step) × IsScript script all) ⊎ ((number : ℕ) × HasNoCommand script number))
+        → ((m : ℕ) (rest : List (List ℕ)) (others : List Step) → length rest ≤ most → IsReadSoFar script m rest others → ((all : List Step) × IsScript script all) ⊎ ((number : ℕ) × HasNoCommand script number))
         → ((all : List Step) × IsScript script all) ⊎ ((number : ℕ) × HasNoCommand script number)
-    said x says (inl (others, more)) on = on (n + 1) others (said-read script n line rest steps others x h says more)
-    said x says (inr none) on =
-        unsaid (λ s. skipped-says_nothing line x s says)
-        (λ y says_y others more. none others (subst (λ z. SayMore steps (record { line = n + 1; saying = z }) others) (one_saying line y x says_y says) more))
+    said rest x is (inl (others, more)) on =
+        let total = ap length is.whole ∙ length-append is.block rest in
+        on (n + 1 + length is.block) rest others (omega (arith, total, few))
+        (said-read script n line is.block rest steps others x (subst (λ ls. IsReadSoFar script n (line ∷ ls) steps) is.whole h) is.says more)
+    said rest x is (inr none) on =
+        unsaid (λ s. skipped-says_nothing line is.block x s is.says)
+        (λ block left y whole says others more.
+        none others (subst (λ z. SayMore steps (record { line = n + 1; saying = z }) others) (one_saying line block left is.block rest y x says is.says (sym whole ∙ is.whole)).0 more))
 
-    go : IsSkipped line ⊎ (((x : Saying) × Says line x) ⊎ ((IsSkipped line → ⊥) × ((x : Saying) → Says line x → ⊥)))
-        → ((m : ℕ) (others : List Step) → IsReadSoFar script m rest others → ((all : List Step) × IsScript script all) ⊎ ((number : ℕ) × HasNoCommand script number))
+    go : LineIs line after
+        → ((m : ℕ) (rest : List (List ℕ)) (others : List Step) → length rest ≤ most → IsReadSoFar script m rest others → ((all : List Step) × IsScript script all) ⊎ ((number : ℕ) × HasNoCommand script number))
         → ((all : List Step) × IsScript script all) ⊎ ((number : ℕ) × HasNoCommand script number)
-    go (inl s) on = on (n + 1) steps (skipped-read script n line rest steps h s)
-    go (inr (inl (x, says))) on = said x says (more-or_not steps (record { line = n + 1; saying = x })) on
-    go (inr (inr (unskipped, none))) on = unsaid unskipped (λ x says others more. none x says)
+    go (Skipped s) on = on (n + 1) after steps (omega (arith, few)) (skipped-read script n line after steps h s)
+    go (Said rest x is) on = said rest x is (more-or_not steps (record { line = n + 1; saying = x })) on
+    go (Neither unskipped none) on = unsaid unskipped (λ block rest x whole says others more. none block rest x whole says)
 
 pub script-read : EachScriptIsRead
-script-read script = read-on script 0 (script_lines script) [] (none-read script (script_lines script) refl)
+script-read script =
+    read-on (length (script_lines script)) script 0 (script_lines script) [] (omega arith) (none-read script (script_lines script) refl)

@@ -11,9 +11,9 @@ use Rattle.mk_history.specs.Machine as machine
 use Rattle.mk_history.specs.Machine.{Command, Apply, Undo, Redo, Begin, End, Cancel}
 use Rattle.mk_history.specs.Shown.{Shown, shown_edited, shown_ended, shown_back, shown_forward}
 use Rattle.mk_session.specs.Sessions.{answer, edited, text_with, session_refusal}
-use Rattle.mk_edit_language.specs.Edits.{Place, Bottom, Site, AtPlace, Every, Add, Remove, AddPrereq, RemovePrereq, RecipeLine, ByNumber, ByText, At, OfRule, OfRecipe, LineChange, InsertWord, Edit, ChangeValue, ChangeLine, ChangePrereqs, AddLine, AddRecipe, SetRecipe, RemoveLines, RenameTarget, ExchangeLines}
+use Rattle.mk_edit_language.specs.Edits.{Place, Bottom, Site, AtPlace, Every, Add, Remove, AddPrereq, RemovePrereq, RecipeLine, ByNumber, ByText, At, OfRule, OfRecipe, LineChange, InsertWord, Edit, ChangeValue, ChangeLine, ChangePrereqs, AddLine, AddRecipe, SetRecipe, RemoveLines, RenameTarget, ExchangeLines, EachLine}
 use Rattle.mk_tree.specs.LineTexts.{StandingLine}
-use Rattle.mk_edit_language.specs.Addresses.{Address, Variable, address}
+use Rattle.mk_edit_language.specs.Addresses.{Address, Variable, address, each_address}
 use Rattle.mk_edit_language.specs.Stretches.{Stretch}
 use Rattle.mk_edit_language.specs.ValueChanges.{has_value_word}
 use Rattle.mk_edit_language.specs.EditSpans.{spans_of}
@@ -24,7 +24,7 @@ use Rattle.mk_edit_language.specs.RuleCauses.{class_meant, not_one, no_recipe, a
 use Rattle.mk_edit_language.specs.LineCauses.{open_value, open_line, open_define, open_define_at, leaning, too_long, misread}
 use Rattle.mk_edit_language.specs.LineRuns.{site_found}
 use Rattle.mk_edit_language.specs.ExchangeCauses.{exchange_causes}
-use Rattle.mk_edit_language.specs.Refusals.{first_cause, unless_refused, item_causes, causes, spans}
+use Rattle.mk_edit_language.specs.Refusals.{first_cause, unless_refused, not_exchanged, causes, spans}
 use Rattle.mk_edit_language.specs.declared.refusal.Refusal.{Refusal}
 use Rattle.mk_edit_language.specs.declared.refusal.Refusal.TheVariants.{Reserved, RecipePrefix, NoSuch, Ambiguous, Absent, Already, Taken, SharedRule, Straddles, OpenValue, OpenLine, OpenDefine, Leans, TooLong, NoMemory, Misread}
 
@@ -57,6 +57,7 @@ no_such_line-other ls (Some a) h = where_holds-other _ NoSuch (λ k. absurd (cc)
 no_such-other : (ls : List ClassedLine) (e : Edit) → IsOther (no_such ls e)
 no_such-other ls (ChangeValue Every n c) h = where_holds-other _ NoSuch (λ k. absurd (cc)) h
 no_such-other ls (RenameTarget o n) h = where_holds-other _ NoSuch (λ k. absurd (cc)) h
+no_such-other ls (EachLine e) h = no_such_line-other ls (each_address e) h
 no_such-other ls e h = no_such_line-other ls (address e) h
 
 ambiguous_line-other : (ls : List ClassedLine) (a : Option Address) → IsOther (ambiguous_line ls a)
@@ -84,6 +85,7 @@ absent-other ls (ChangePrereqs nth t (RemovePrereq w)) h = where_holds-other _ A
 absent-other ls (AddRecipe nth t (At k) c) h = where_holds-other _ Absent (λ j. absurd (cc)) h
 absent-other ls (SetRecipe nth t w c) h = no_recipe-other ls nth t w h
 absent-other ls (RemoveLines (OfRecipe nth t w)) h = no_recipe-other ls nth t w h
+absent-other ls (EachLine e) h = where_holds-other _ Absent (λ k. absurd (cc)) h
 absent-other ls e h = nothing-other h
 
 not_beside-other : (w n : List ℕ) (a : Assignment Cell) → IsOther (not_beside w n a)
@@ -130,6 +132,7 @@ open_define-other ls e h = nothing-other h
 
 misread-other : (ls : List ClassedLine) (e : Edit) → IsOther (misread ls e)
 misread-other ls (ChangeLine nth n c) h = where_holds-other _ Misread (λ k. absurd (cc)) h
+misread-other ls (EachLine e) h = where_holds-other _ Misread (λ k. absurd (cc)) h
 misread-other ls e h = nothing-other h
 
 -- ---- the first of them
@@ -138,8 +141,42 @@ first_cause-other : (o : Option Refusal) (cs : List (Option Refusal)) → IsOthe
 first_cause-other None cs first rest h = rest h
 first_cause-other (Some r) cs first rest h = first h
 
-item_causes-other : (t : List ℕ) (ls : List ClassedLine) (e : Edit) → IsOther (first_cause (item_causes t ls e))
-item_causes-other t ls e =
+-- causes, none of which is want of memory
+abbrev AreOther : List (Option Refusal) → Type 0
+AreOther [] = Unit {0}
+AreOther (c ∷ cs) = IsOther c × AreOther cs
+
+first-other : (cs : List (Option Refusal)) → AreOther cs → IsOther (first_cause cs)
+first-other [] h = nothing-other
+first-other (c ∷ cs) h = first_cause-other c cs h.0 (first-other cs h.1)
+
+-- of the causes of whole lines, the sixth is that of a place
+place-other : (t : List ℕ) (ls : List ClassedLine) (s : Site) (ts : List (List ℕ)) (found : Option Stretch) → AreOther (take 1 (drop 5 (exchange_causes t ls s ts found)))
+place-other t ls (AtPlace p) ts found = (open_define_at-other ls p, tt)
+place-other t ls s ts found = (nothing-other, tt)
+
+and : {A B : Type 0} → A → B → A × B
+and x y = (x, y)
+
+exchange_causes-other : (t : List ℕ) (ls : List ClassedLine) (s : Site) (ts : List (List ℕ)) (found : Option Stretch) → AreOther (exchange_causes t ls s ts found)
+exchange_causes-other t ls s ts found =
+    and (where_holds-other _ NoSuch (λ k. absurd (cc)))
+    (and (where_holds-other _ Already (λ k. absurd (cc)))
+    (and (where_holds-other _ (Ambiguous _) (λ k. absurd (cc)))
+    (and (where_holds-other _ Already (λ k. absurd (cc)))
+    (and (where_holds-other _ OpenLine (λ k. absurd (cc)))
+    (and (place-other t ls s ts found).0
+    (and (where_holds-other _ TooLong (λ k. absurd (cc)))
+    (and (where_holds-other _ Misread (λ k. absurd (cc)))
+    (and (where_holds-other _ Leans (λ k. absurd (cc)))
+    tt))))))))
+
+not_exchanged-other : (t : List ℕ) (ls : List ClassedLine) (e : Edit) → IsOther (not_exchanged t ls e)
+not_exchanged-other t ls (ExchangeLines s ts) h = first-other (exchange_causes t ls s ts (site_found ls s)) (exchange_causes-other t ls s ts (site_found ls s)) h
+not_exchanged-other t ls e h = nothing-other h
+
+causes-other : (t : List ℕ) (ls : List ClassedLine) (e : Edit) → IsOther (first_cause (causes t ls e))
+causes-other t ls e =
     first_cause-other (bad_argument e) _ (first_failed-other (field_tests e))
     (first_cause-other (reserved e) _ (where_holds-other _ Reserved (λ k. absurd (cc)))
     (first_cause-other (unread_prefix ls) _ (where_holds-other _ RecipePrefix (λ k. absurd (cc)))
@@ -155,46 +192,10 @@ item_causes-other t ls e =
     (first_cause-other (open_line ls e) _ (where_holds-other _ OpenLine (λ k. absurd (cc)))
     (first_cause-other (open_define ls e) _ (open_define-other ls e)
     (first_cause-other (leaning ls e) _ (where_holds-other _ Leans (λ k. absurd (cc)))
+    (first_cause-other (not_exchanged t ls e) _ (not_exchanged-other t ls e)
     (first_cause-other (too_long t (spans_of t ls e)) _ (where_holds-other _ TooLong (λ k. absurd (cc)))
     (first_cause-other (misread ls e) [] (misread-other ls e)
-    nothing-other))))))))))))))))
-
--- causes, none of which is want of memory
-abbrev AreOther : List (Option Refusal) → Type 0
-AreOther [] = Unit {0}
-AreOther (c ∷ cs) = IsOther c × AreOther cs
-
-first-other : (cs : List (Option Refusal)) → AreOther cs → IsOther (first_cause cs)
-first-other [] h = nothing-other
-first-other (c ∷ cs) h = first_cause-other c cs h.0 (first-other cs h.1)
-
--- of the causes of whole lines, the ninth is that of a place
-place-other : (t : List ℕ) (ls : List ClassedLine) (s : Site) (ts : List (List ℕ)) (found : Option Stretch) → AreOther (take 1 (drop 8 (exchange_causes t ls s ts found)))
-place-other t ls (AtPlace p) ts found = (open_define_at-other ls p, tt)
-place-other t ls s ts found = (nothing-other, tt)
-
-and : {A B : Type 0} → A → B → A × B
-and x y = (x, y)
-
-exchange_causes-other : (t : List ℕ) (ls : List ClassedLine) (s : Site) (ts : List (List ℕ)) (found : Option Stretch) → AreOther (exchange_causes t ls s ts found)
-exchange_causes-other t ls s ts found =
-    and (first_failed-other (field_tests (ExchangeLines s ts)))
-    (and (where_holds-other _ Reserved (λ k. absurd (cc)))
-    (and (where_holds-other _ RecipePrefix (λ k. absurd (cc)))
-    (and (where_holds-other _ NoSuch (λ k. absurd (cc)))
-    (and (where_holds-other _ Already (λ k. absurd (cc)))
-    (and (where_holds-other _ (Ambiguous _) (λ k. absurd (cc)))
-    (and (where_holds-other _ Already (λ k. absurd (cc)))
-    (and (where_holds-other _ OpenLine (λ k. absurd (cc)))
-    (and (place-other t ls s ts found).0
-    (and (where_holds-other _ TooLong (λ k. absurd (cc)))
-    (and (where_holds-other _ Misread (λ k. absurd (cc)))
-    (and (where_holds-other _ Leans (λ k. absurd (cc)))
-    tt)))))))))))
-
-causes-other : (t : List ℕ) (ls : List ClassedLine) (e : Edit) → IsOther (first_cause (causes t ls e))
-causes-other t ls (ExchangeLines s ts) = first-other (exchange_causes t ls s ts (site_found ls s)) (exchange_causes-other t ls s ts (site_found ls s))
-causes-other t ls e = item_causes-other t ls e
+    nothing-other)))))))))))))))))
 
 unless_refused-other : (o : Option Refusal) (rs : List Replacement) → IsOther o → unless_refused o rs ≡ Err NoMemory → ⊥
 unless_refused-other None rs other h = absurd (cc)

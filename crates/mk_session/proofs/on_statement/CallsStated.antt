@@ -23,6 +23,7 @@ use Rattle.mk_session.proofs.on_statement.RulesStated.{prereqs-stated, new_recip
 use Rattle.mk_session.proofs.on_statement.NewRulesStated.{rule-stated}
 use Rattle.mk_session.proofs.on_statement.RuleGoesStated.{no_rule-stated}
 use Rattle.mk_session.proofs.on_statement.RenamesStated.{rename-stated}
+use Rattle.mk_session.proofs.on_statement.EachStated.{each-stated}
 use Rattle.mk_session.proofs.on_statement.ExchangesStated.{exchange-stated}
 
 -- ---- an edit
@@ -52,6 +53,7 @@ edit-stated (edit.SetRecipeByText k g o c) t rs h = set_recipe-stated k g.items 
 edit-stated (edit.RemoveRecipeByText k g o) t rs h = no_recipe-stated k g.items (edits.ByText o.items) t rs h
 edit-stated (edit.RenameTarget o n) t rs h = rename-stated o.items n.items t rs h
 edit-stated (edit.ExchangeLines s b) t rs h = exchange-stated s b t rs h
+edit-stated (edit.EachLine e) t rs h = each-stated e t rs h
 
 -- what an edit makes of a text is the text after it
 edited-spans : (e : edits.Edit) (t new : List ℕ) → edited e t ≡ Ok new → (rs : List Replacement) × (spans t e ≡ Ok rs) × (text_after t e ≡ new)

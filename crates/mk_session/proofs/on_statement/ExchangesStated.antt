@@ -1,5 +1,5 @@
 -- What an edit of whole lines does to the lines of a makefile, in bytes.
-use Rattle.std.proofs.Common.{◌≡◌, refl, ap, ◌∙◌, subst, ℕ, zero, suc, true, false, List, [], ◌∷◌, ◌++◌, map, Option, Some, None, ◌||◌}
+use Rattle.std.proofs.Common.{◌≡◌, refl, sym, ap, ◌∙◌, subst, ℕ, zero, suc, true, false, List, [], ◌∷◌, ◌++◌, map, Option, Some, None, ◌||◌}
 use Rattle.std.specs.Prelude.{Ok, Vec}
 use Rattle.mk_lines.specs.PhysicalLines.{file_line_end}
 use Rattle.mk_lines.specs.LogicalLines.{logical_lines}
@@ -20,14 +20,13 @@ use Rattle.mk_edit_language.specs.LineExchanges.{block_text, new_lines}
 use Rattle.mk_edit_language.specs.EditSpans.{spans_of}
 use Rattle.mk_edit_language.specs.ArgumentCauses.{first_failed, is_place, exchange_tests}
 use Rattle.mk_edit_language.specs.LineCauses.{follows_open_line}
-use Rattle.mk_edit_language.specs.ExchangeCauses.{exchange_causes}
-use Rattle.mk_edit_language.specs.Refusals.{first_cause, spans, text_after}
+use Rattle.mk_edit_language.specs.Refusals.{first_cause, causes, spans, text_after}
 use Rattle.mk_edit_language.specs.declared.edit.Site.{Site}
 use Rattle.mk_edit_language.specs.declared.edit.Site.TheVariants as site
 use Rattle.mk_edit_language.specs.declared.edit.Edit.TheVariants as edit
 use Rattle.mk_edit_language.specs.declared.refusal.Field.TheVariants as field
 use Rattle.mk_edit_language.specs.declared.refusal.Refusal.TheVariants.{OpenLine}
-use Rattle.mk_edit_language.proofs.on_edits.Accepted.{no-cause, unrefused, where_holds-none, first-passed, two-passed}
+use Rattle.mk_edit_language.proofs.on_edits.Accepted.{all_exchange_causes, exchange-causes, no-cause, unrefused, where_holds-none, first-passed, two-passed}
 use Rattle.mk_edit_language.proofs.on_line_runs.BlockTexts.{block-some}
 use Rattle.mk_edit_language.proofs.on_line_runs.LinesExchanged.{lines-exchanged}
 use Rattle.mk_edit_parts.specs.SitesFound.{IsOfNew}
@@ -45,9 +44,9 @@ record IsExchange (t : List ℕ) (s : edits.Site) (ts : List (List ℕ)) : Type 
 exchange : (t : List ℕ) (s : edits.Site) (ts : List (List ℕ)) (rs : List Replacement) → spans t (ExchangeLines s ts) ≡ Ok rs → IsExchange t s ts
 exchange t s ts rs h =
     let ls = classed_lines t in
-    let causes = exchange_causes t ls s ts (site_found ls s) in
-    let u = unrefused (first_cause causes) (spans_of t ls (ExchangeLines s ts)) rs h in
-    let n = no-cause causes u.0 in
+    let e = ExchangeLines s ts in
+    let u = unrefused (first_cause (causes t ls e)) (spans_of t ls e) rs h in
+    let n = no-cause (all_exchange_causes t ls s ts) (sym (exchange-causes t ls s ts) ∙ u.0) in
     record { fields = n.0; closed = where_holds-none _ OpenLine n.1.1.1.1.1.1.1.0 }
 
 -- the lines of its site become the new lines

@@ -120,7 +120,16 @@ operator-has us a I =
     has-in (61 ∷ []) (raw_text (concat a.operator)) (raw_text (concat S.0) ++ raw_text (concat G)) raw
     (has-right (61 ∷ []) (raw_text (concat S.0)) (raw_text (concat G)) (has-in (61 ∷ []) (raw_text (concat G)) ((61 ∷ []) ++ raw_text (concat E.gaps)) sign (has-front (61 ∷ []) (raw_text (concat E.gaps)))))
 
--- what stands before the value has the name, and behind it a `=`
+-- what stands before the value has a `=`
+value-sign : (us : List (List Cell)) (a : Assignment Cell) → IsAssignment joined_byte us a → Has (61 ∷ []) (raw_text (concat (before_value a)))
+value-sign us a I =
+    let B = raw_text (concat a.before) in
+    let N = raw_text (concat a.name) in
+    let O = raw_text (concat a.operator) in
+    has-in (61 ∷ []) (raw_text (concat (before_value a))) (B ++ (N ++ O)) (raw-units a.before (a.name ++ a.operator) ∙ ap (λ z. B ++ z) (raw-units a.name a.operator))
+    (has-right (61 ∷ []) B (N ++ O) (has-right (61 ∷ []) N O (operator-has us a I)))
+
+-- it has the name, and behind it a `=`
 value-front : (us : List (List Cell)) (a : Assignment Cell) (n : List ℕ) → IsAssignment joined_byte us a → AreEdged (concat (before_value a)) → unit_text joined_byte a.name ≡ n → Names n 61 (raw_text (concat (before_value a)))
 value-front us a n I q e plain =
     let B = raw_text (concat a.before) in
@@ -143,6 +152,7 @@ pub record IsAssignLine (n l : List ℕ) (k : Class Cell) : Type 0 where
   pub rest : List ℕ
   pub whole : l ≡ raw_text (concat (before_value assigned)) ++ rest
   pub front : Names n 61 (raw_text (concat (before_value assigned)))
+  pub sign : Has (61 ∷ []) (raw_text (concat (before_value assigned)))
 
 pub assign-line : (c : Context) (n l : List ℕ) (k : Class Cell) → class_of c l ≡ k → assigns n k ≡ true → IsAssignLine n l k
 assign-line c n l (Assign a p) k h =
@@ -157,6 +167,7 @@ assign-line c n l (Assign a p) k h =
       rest = raw_text R ++ end;
       whole = line-bytes l ∙ (ap (λ z. z ++ end) (ap raw_text P.cells_are ∙ raw_text-append F R) ∙ append_assoc (raw_text F) (raw_text R) end);
       front = value-front _ a n P.is (edged-left F R (subst AreEdged P.cells_are (cells-edged (without_line_end l)))) ((bytes_eq-Decides (unit_text joined_byte a.name) n).0 h);
+      sign = value-sign _ a P.is;
     }
 assign-line c n l Endef k h = absurd (cc)
 assign-line c n l (Body d) k h = absurd (cc)
@@ -173,7 +184,14 @@ assign-line c n l (TargetAssign t) k h = absurd (cc)
 assign-line c n l Rough k h = absurd (cc)
 assign-line c n l (Header x) k h = absurd (cc)
 
--- such a line names it
+-- such a line has a `=`
+pub assign-has_sign : (c : Context) (n l : List ℕ) (k : Class Cell) → class_of c l ≡ k → assigns n k ≡ true → Has (61 ∷ []) l
+assign-has_sign c n l k e h =
+    let L = assign-line c n l k e h in
+    let F = raw_text (concat (before_value L.assigned)) in
+    has-in (61 ∷ []) l (F ++ L.rest) L.whole (has-left (61 ∷ []) F L.rest L.sign)
+
+-- such a line names the variable
 pub assign-names : (c : Context) (n l : List ℕ) (k : Class Cell) → class_of c l ≡ k → assigns n k ≡ true → Names n 61 l
 assign-names c n l k e h =
     let L = assign-line c n l k e h in

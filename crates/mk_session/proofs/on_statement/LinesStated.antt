@@ -47,7 +47,7 @@ use Rattle.mk_session.proofs.on_statement.ValuesStated.{some-mapped}
 -- ---- the text that is put in
 
 -- the text that a change puts into a line
-abbrev put_in : LineChange → List ℕ
+abbrev pub put_in : LineChange → List ℕ
 put_in (Prepend v) = v
 put_in (ReplaceWord w v) = v
 put_in (InsertWord s w n) = n
@@ -153,10 +153,13 @@ read-names n c a (TargetAssign t) e h = absurd (cc)
 read-names n c a Rough e h = absurd (cc)
 read-names n c a (Header x) e h = absurd (cc)
 
--- the line of an assignment after a change: it names the variable, and has the text that is put in
-changed-line : (ctx : Context) (n l : List ℕ) (k : Class Cell) (c : LineChange) (at : ℕ) → class_of ctx l ≡ k → assigns n k ≡ true
-    → is_misread c ctx l k ≡ false → assignment_passes (is_line_changed c) (Some k) ≡ true
-    → Names n 61 (replaced at l (assignment_spans (line_change_spans c) at k)) × Has (put_in c) (replaced at l (assignment_spans (line_change_spans c) at k))
+-- The line of an assignment after a change: it assigns the variable, and has the text that is put in.
+pub record IsLineChanged (ctx : Context) (n : List ℕ) (c : LineChange) (m : List ℕ) : Type 0 where
+  pub assigns_it : assigns n (class_of ctx m) ≡ true
+  pub has : Has (put_in c) m
+
+pub changed-line : (ctx : Context) (n l : List ℕ) (k : Class Cell) (c : LineChange) (at : ℕ) → class_of ctx l ≡ k → assigns n k ≡ true
+    → is_misread c ctx l k ≡ false → assignment_passes (is_line_changed c) (Some k) ≡ true → IsLineChanged ctx n c (replaced at l (assignment_spans (line_change_spans c) at k))
 changed-line ctx n l k c at e h read changed =
     let L = assign-line ctx n l k e h in
     let a = L.assigned in
@@ -167,10 +170,11 @@ changed-line ctx n l k c at e h read changed =
     let read_there : is_misread c ctx l (Assign a L.sets) ≡ false = subst (λ z. is_misread c ctx l z ≡ false) L.class_is read in
     let some : is_line_changed c a ≡ true = subst (λ z. assignment_passes (is_line_changed c) (Some z) ≡ true) L.class_is changed in
     let R = and_parts (fits_line l m) (reads_as (assigned_after c a) (class_of ctx m)) (not-false (fits_line l m && reads_as (assigned_after c a) (class_of ctx m)) read_there) in
-    let names : Names n 61 m = assign-names ctx n m (class_of ctx m) refl (read-names n c a (class_of ctx m) name R.1) in (
-      names-in n 61 (replaced at l (assignment_spans (line_change_spans c) at k)) m (ap (λ z. replaced at l z) spans_are ∙ line_change-by_itself c at a l) names,
-      subst (λ z. Has (put_in c) (replaced at l z)) (sym spans_are) (pieces-put (put_in c) (line_pieces c a) at at l (line-put c a) some),
-    )
+    let made : replaced at l (assignment_spans (line_change_spans c) at k) ≡ m = ap (λ z. replaced at l z) spans_are ∙ line_change-by_itself c at a l in
+    record {
+      assigns_it = subst (λ z. assigns n (class_of ctx z) ≡ true) (sym made) (read-names n c a (class_of ctx m) name R.1);
+      has = subst (λ z. Has (put_in c) (replaced at l z)) (sym spans_are) (pieces-put (put_in c) (line_pieces c a) at at l (line-put c a) some);
+    }
 
 -- ---- the edit
 
@@ -195,5 +199,6 @@ line-stated nth n c t rs h =
     let changed : assignment_passes (is_line_changed c) (Some s.line.class) ≡ true =
     subst (λ (o : Option StandingLine). assignment_passes (is_line_changed c) (class_found o) ≡ true) M.1 (not-false _ (where_holds-none _ _ A.not_absent)) in
     let N = changed-line ctx n s.line.bytes s.line.class c at L.class S.passes read changed in
+    let names : Names n 61 m = assign-names ctx n m (class_of ctx m) refl N.assigns_it in
     lines-become (Line n 61 []) (Line n 61 (put_in c)) t e rs (this_line s) touched h
-    (s.line.bytes, refl, assign-names ctx n s.line.bytes s.line.class L.class S.passes, has-nothing s.line.bytes) (m, ap (λ z. z ∷ []) new, N.0, N.1)
+    (s.line.bytes, refl, assign-names ctx n s.line.bytes s.line.class L.class S.passes, has-nothing s.line.bytes) (m, ap (λ z. z ∷ []) new, names, N.has)

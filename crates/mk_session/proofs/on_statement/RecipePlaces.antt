@@ -1,6 +1,6 @@
 -- Recipe lines in the text of a makefile: the byte that begins them, and the line of the rule above them.
 use Rattle.std.proofs.Common.{◌≡◌, refl, sym, ap, ◌∙◌, subst, arith, ℕ, zero, suc, List, [], ◌∷◌, ◌++◌, map, take, drop, filter, cond, length, Bool, true, false, Option, Some, None, inl, inr}
-use Rattle.std.specs.Prelude.{◌⊎◌, option_and_then, codes, nat_lt}
+use Rattle.std.specs.Prelude.{◌⊎◌, ◌<◌, slice_index_or, option_and_then, codes, nat_lt}
 use Rattle.std.specs.List.{Any}
 use Rattle.std.proofs.lemmas.Bool.{eqb-true}
 use Rattle.std.proofs.lemmas.Slice.Eq.{bytes_eq-Decides}
@@ -40,9 +40,18 @@ any-first P l ls h = (0, l, omega arith, refl, h)
 any-later : (P : List ℕ → Type 0) (l : List ℕ) (ls : Lines) → Any P ls → Any P (l ∷ ls)
 any-later P l ls h = (suc h.0, h.1, omega (arith, h.2), h.3, h.4)
 
-any-there : (P : List ℕ → Type 0) (above : Lines) (l : List ℕ) (below : Lines) → P l → Any P (above ++ l ∷ below)
+pub any-there : (P : List ℕ → Type 0) (above : Lines) (l : List ℕ) (below : Lines) → P l → Any P (above ++ l ∷ below)
 any-there P [] l below h = any-first P l below h
 any-there P (a ∷ above) l below h = any-later P a (above ++ l ∷ below) (any-there P above l below h)
+
+-- some of the first lines
+pub any-in : (P : List ℕ → Type 0) (ls ms : Lines) → Any P ls → Any P (ls ++ ms)
+any-in P [] ms h = absurd (omega (arith, h.2))
+any-in P (l ∷ ls) ms h = go h.0 h.1 h.2 h.3 h.4 (λ k. any-in P ls ms k)
+  where
+    go : (k : ℕ) (x : List ℕ) → k < length (l ∷ ls) → slice_index_or (l ∷ ls) k x ≡ x → P x → (Any P ls → Any P (ls ++ ms)) → Any P (l ∷ (ls ++ ms))
+    go zero x m e p more = any-first P l (ls ++ ms) (subst P (sym e) p)
+    go (suc k) x m e p more = any-later P l (ls ++ ms) (more (k, x, omega (arith, m), e, p))
 
 -- ---- the recipe prefix
 

@@ -133,6 +133,74 @@ impl<A: Allocator + Copy> Session<A> {
         self.apply_made(Edit::all_drop_word(self.alloc, name, word))
     }
 
+    /// `all prepend NAME VALUE`: makes the edit of [`Edit::all_prepend`].
+    pub fn all_prepend(&mut self, name: &[u8], value: &[u8]) -> Result<(), Refusal>
+        ensures { IsApplied (edits.EachLine (edits.ChangeEach name.now (edits.Prepend value.now)))
+            result self.old self.new }
+    {
+        self.apply_made(Edit::all_prepend(self.alloc, name, value))
+    }
+
+    /// `all replace NAME WORD VALUE`: makes the edit of [`Edit::all_replace_word`].
+    pub fn all_replace_word(
+        &mut self,
+        name: &[u8],
+        word: &[u8],
+        value: &[u8],
+    ) -> Result<(), Refusal>
+        ensures { IsApplied
+            (edits.EachLine (edits.ChangeEach name.now (edits.ReplaceWord word.now value.now)))
+            result self.old self.new }
+    {
+        self.apply_made(Edit::all_replace_word(self.alloc, name, word, value))
+    }
+
+    /// `all subst NAME FROM TO`: makes the edit of [`Edit::all_substitute`].
+    pub fn all_substitute(&mut self, name: &[u8], from: &[u8], to: &[u8]) -> Result<(), Refusal>
+        ensures { IsApplied
+            (edits.EachLine (edits.ChangeEach name.now (edits.Substitute from.now to.now)))
+            result self.old self.new }
+    {
+        self.apply_made(Edit::all_substitute(self.alloc, name, from, to))
+    }
+
+    /// `all operator NAME OP`: makes the edit of [`Edit::all_operator`].
+    pub fn all_operator(&mut self, name: &[u8], operator: Flavor) -> Result<(), Refusal>
+        ensures { IsApplied (edits.EachLine (edits.ChangeEach name.now (edits.SetOperator operator)))
+            result self.old self.new }
+    {
+        self.apply_made(Edit::all_operator(self.alloc, name, operator))
+    }
+
+    /// `values-subst FROM TO`: makes the edit of [`Edit::values_substitute`].
+    pub fn values_substitute(&mut self, from: &[u8], to: &[u8]) -> Result<(), Refusal>
+        ensures { IsApplied (edits.EachLine (edits.SubstValues from.now to.now))
+            result self.old self.new }
+    {
+        self.apply_made(Edit::values_substitute(self.alloc, from, to))
+    }
+
+    /// `recipe-subst TARGET FROM TO`: makes the edit of [`Edit::recipe_substitute`].
+    pub fn recipe_substitute(
+        &mut self,
+        target: &[u8],
+        from: &[u8],
+        to: &[u8],
+    ) -> Result<(), Refusal>
+        ensures { IsApplied (edits.EachLine (edits.SubstRecipe None target.now from.now to.now))
+            result self.old self.new }
+    {
+        self.apply_made(Edit::recipe_substitute(self.alloc, target, from, to))
+    }
+
+    /// `recipes-subst FROM TO`: makes the edit of [`Edit::recipes_substitute`].
+    pub fn recipes_substitute(&mut self, from: &[u8], to: &[u8]) -> Result<(), Refusal>
+        ensures { IsApplied (edits.EachLine (edits.SubstRecipes from.now to.now))
+            result self.old self.new }
+    {
+        self.apply_made(Edit::recipes_substitute(self.alloc, from, to))
+    }
+
     /// `unset NAME`: makes the edit of [`Edit::unset`].
     pub fn unset(&mut self, name: &[u8]) -> Result<(), Refusal>
         ensures { IsApplied (edits.RemoveLines (edits.OfAssign None name.now))

@@ -1,4 +1,5 @@
-use Rattle.mk_script.proofs.on_scripts.LineLemmas.{one_saying, skipped-says_nothing}
+use Rattle.mk_script.proofs.on_commands.WordLemmas.{blocks-end}
+use Rattle.mk_script.proofs.on_scripts.LineLemmas.{one_saying, skipped-says_nothing, lines-alone}
 use Rattle.mk_script.proofs.on_scripts.WrittenLines.{saying-line}
 use Rattle.mk_script.proofs.laws.lines_and_commands.Goals as goal
 
@@ -10,3 +11,9 @@ returns-clause-skipped c = skipped-says_nothing
 
 pub returns-clause-written : goal.returns-clause-written
 returns-clause-written c = saying-line
+
+pub returns-clause-alone : goal.returns-clause-alone
+returns-clause-alone c = lines-alone
+
+pub returns-clause-ends : goal.returns-clause-ends
+returns-clause-ends c = blocks-end

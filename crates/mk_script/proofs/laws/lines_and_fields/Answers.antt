@@ -1,4 +1,5 @@
-use Rattle.mk_script.proofs.on_scripts.WrittenLines.{fields-one, written-read}
+use Rattle.mk_script.proofs.on_fields.FirstLemmas.{fields-one}
+use Rattle.mk_script.proofs.on_scripts.WrittenLines.{written-read}
 use Rattle.mk_script.proofs.laws.lines_and_fields.Goals as goal
 
 pub returns-clause-one : goal.returns-clause-one

@@ -1,11 +1,11 @@
--- The lines so far are read; the lines that are left are at most as many as the script has bytes.
-use Rattle.std.proofs.Common.{◌+◌, ◌≤◌, length, map}
+-- The lines so far are read, and the others are left.
+use Rattle.std.proofs.Common.{length, map}
 use Rattle.mk_script.specs.Scripts.{step_of}
 use Rattle.mk_script.proofs.on_scripts.ScriptLemmas.{IsReadSoFar}
 use Rattle.mk_script.proofs.script.parse_script.Given as goal
 
-abbrev pub invariant-loop-line : goal.invariant-loop-line
-invariant-loop-line g l = record {
-  short : l.number + length l.line-iterator ≤ length l.fn.script;
-  so_far : IsReadSoFar l.fn.script l.number l.line-iterator (map step_of l.steps.items);
-}
+abbrev pub invariant-lines : goal.invariant-lines
+invariant-lines g l = IsReadSoFar l.fn.script l.below.number l.below.lines (map step_of l.steps.items)
+
+abbrev pub decreases-lines : goal.decreases-lines
+decreases-lines g l = length l.below.lines

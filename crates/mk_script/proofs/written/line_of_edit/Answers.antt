@@ -1,13 +1,25 @@
 use Rattle.std.proofs.Common.{sym, ◌∙◌}
 use Rattle.mk_edit_language.specs.EditViews.{edit_of}
-use Rattle.mk_script.proofs.WrittenLemmas.{edit-only}
 use Rattle.mk_script.proofs.on_commands.BlockLemmas.{never-said}
+use Rattle.mk_script.proofs.on_written.WrittenScripts.{edit-only, text-lost, text-script}
 use Rattle.mk_script.proofs.written.line_of_edit.Goals as goal
+
+pub returns-clause-text : goal.returns-clause-text
+returns-clause-text g c =
+    text-script (edit_of c.args.edit.now) c.in_ok-text.text.line.items c.in_ok-text.text.below.items c.in_ok-script.script.items c.in_ok-text.ensures c.in_ok-script.ensures
 
 pub returns-clause-read : goal.returns-clause-read
 returns-clause-read g c =
-    edit-only (edit_of c.args.edit.now) c.in_ok-line.line.items c.extend_from_slice.new.self.items c.in_ok-line.ensures
-    (rw c.deref.ensures.value at (sym c.has_line_feed.ensures ∙ c.if-has_line_feed.false)) c.in_ok-extend_from_slice.ensures.items
+    edit-only (edit_of c.args.edit.now) c.in_ok-text.text.line.items c.in_ok-text.text.below.items c.in_ok-script.script.items c.in_ok-text.ensures (sym c.is_lost.ensures ∙ c.if-is_lost.false)
+    c.in_ok-script.ensures
 
-pub returns-then-lacks_block-clause-unsaid : goal.returns-then-lacks_block-clause-unsaid
-returns-then-lacks_block-clause-unsaid g c = λ is fields said. never-said (edit_of c.args.edit.now) (sym c.lacks_block.ensures ∙ c.if-lacks_block.true) fields said
+pub returns-clause-kept : goal.returns-clause-kept
+returns-clause-kept g c =
+    sym (text-lost (edit_of c.args.edit.now) c.in_ok-text.text.line.items c.in_ok-text.text.below.items c.in_ok-text.ensures) ∙ (sym c.is_lost.ensures ∙ c.if-is_lost.false)
+
+pub returns-then-is_lost-clause-feed : goal.returns-then-is_lost-clause-feed
+returns-then-is_lost-clause-feed g c =
+    λ is. sym (text-lost (edit_of c.args.edit.now) c.in_ok-text.text.line.items c.in_ok-text.text.below.items c.in_ok-text.ensures) ∙ (sym c.is_lost.ensures ∙ c.if-is_lost.true)
+
+pub returns-then-has_no_command-clause-unsaid : goal.returns-then-has_no_command-clause-unsaid
+returns-then-has_no_command-clause-unsaid g c = λ is said below h. never-said (edit_of c.args.edit.now) (sym c.has_no_command.ensures ∙ c.if-has_no_command.true) said below h

@@ -1,14 +1,15 @@
-use Rattle.std.proofs.Common.{◌≡◌, refl, inl, Bool, true, false}
-use Rattle.std.specs.Prelude.{if◌then◌else◌}
-use Rattle.mk_script.specs.FieldReading.{unescaped}
-use Rattle.mk_script.specs.SeenFields.{IsWrittenPlain}
+use Rattle.std.proofs.Common.{inl, refl}
 use Rattle.mk_script.proofs.on_fields.WrittenLemmas.{written_plain}
 use Rattle.mk_script.proofs.field.Field.written.Goals as goal
 
-pub returns : goal.returns
-returns c = go c.args.self.is_quoted refl
-  where
-    go : (b : Bool) → c.args.self.is_quoted ≡ b
-        → IsWrittenPlain (if b then unescaped false c.args.self.written.now else c.args.self.written.now) c.args.self.written.now
-    go true e = written_plain c.args.self.written.now (c.args.self.escapes e)
-    go false e = inl refl
+pub returns-in-Bare : goal.returns-in-Bare
+returns-in-Bare c = rw c.in-Bare.is (inl refl)
+
+pub returns-in-Quoted : goal.returns-in-Quoted
+returns-in-Quoted c = rw c.in-Quoted.is (written_plain c.args.self.written.now (c.args.self.escapes c.in-Quoted.is))
+
+pub word_of_lines-requires : goal.word_of_lines-requires
+word_of_lines-requires c = c.args.self.enough c.in-Lines.count c.in-Lines.is
+
+pub returns-in-Lines : goal.returns-in-Lines
+returns-in-Lines c = rw c.in-Lines.is c.word_of_lines.ensures

@@ -1,4 +1,4 @@
-use Rattle.std.proofs.Common.{◌≡◌, ◌∙◌, ap, length, map, arith}
+use Rattle.std.proofs.Common.{◌≡◌, ◌∙◌, refl, ap, length, map, arith}
 use Rattle.std.proofs.lemmas.List.{length-map}
 use Rattle.mk_tree.specs.LocatedLines.{located_text}
 use Rattle.mk_edit_language.specs.EditViews.{edit_of}
@@ -11,6 +11,13 @@ pub returns-in_default-clause-refused : goal.returns-in_default-clause-refused
 returns-in_default-clause-refused g c =
     first-refused (map edit_of c.args.edits.now) (edit_of c.index-edits-0.result) c.args.doc.now c.refusal_without_room.result
     (edit-at edit_of c.args.edits.now 0 c.index-edits-0.result c.requires.some c.index-edits-0.is) c.refusal_without_room.ensures.refused
+
+pub returns-in_default-clause-few_read : goal.returns-in_default-clause-few_read
+returns-in_default-clause-few_read g c =
+    let t = located_text c.args.doc.now in
+    let here = edit-at edit_of c.args.edits.now 0 c.index-edits-0.result c.requires.some c.index-edits-0.is in
+    let within = cost-within (map edit_of c.args.edits.now) 0 (edit_of c.index-edits-0.result) t t here refl in
+    omega (arith, c.refusal_without_room.ensures.few_read, within)
 
 pub loop-edit-init : goal.loop-edit-init
 loop-edit-init g c = record {

@@ -1,0 +1,4 @@
+pub mod WrittenFields
+pub mod WrittenContents
+pub mod CommandTexts
+pub mod WrittenScripts
