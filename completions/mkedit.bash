@@ -7,6 +7,7 @@ _mkedit_options() {
         "") echo "-h --help -V --version" ;;
         # made by tools/texts: options
         edit) echo "-k --keep-going -d --depth -o --output -i --in-place --backup --diff --color --check --summary --force-text -e --expression --notes --report -h --help" ;;
+        derive) echo "-o --output --notes -h --help" ;;
         vars) echo "--name --json --notes -h --help" ;;
         rules) echo "--target --json --notes -h --help" ;;
         recipes) echo "--target --json --notes -h --help" ;;
@@ -67,7 +68,7 @@ _mkedit_offer() {
 
 _mkedit() {
     local word=${COMP_WORDS[COMP_CWORD]} before=${COMP_WORDS[COMP_CWORD - 1]}
-    local command= commands="edit vars rules recipes check caveats get explain session help"
+    local command= commands="edit derive vars rules recipes check caveats get explain session help"
     ((COMP_CWORD > 1)) && command=${COMP_WORDS[1]}
     COMPREPLY=()
     if [[ $command == edit && $before == @(-d|--depth|-e|--expression|--backup) ]]; then

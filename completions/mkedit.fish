@@ -27,6 +27,7 @@ complete -c mkedit -n __fish_use_subcommand -s V -l version -d 'Print version'
 
 # made by tools/texts: options
 complete -c mkedit -n __fish_use_subcommand -a edit -d 'Runs a script over a makefile and prints the result'
+complete -c mkedit -n __fish_use_subcommand -a derive -d 'Prints a script that makes one makefile of another'
 complete -c mkedit -n __fish_use_subcommand -a vars -d 'Lists the assignments of a makefile'
 complete -c mkedit -n __fish_use_subcommand -a rules -d 'Lists the rules of a makefile'
 complete -c mkedit -n __fish_use_subcommand -a recipes -d 'Lists the recipe lines of a makefile with their numbers'
@@ -37,7 +38,7 @@ complete -c mkedit -n __fish_use_subcommand -a explain -d 'Explains why a comman
 complete -c mkedit -n __fish_use_subcommand -a session -d 'Answers commands and requests on one makefile, line by line'
 complete -c mkedit -n '__fish_seen_subcommand_from edit; and not __fish_seen_subcommand_from help' -s k -l keep-going -d 'Continues after a refused command'
 complete -c mkedit -n '__fish_seen_subcommand_from edit session; and not __fish_seen_subcommand_from help' -s d -l depth -x -d 'How many edits can be undone, from 1 to 10000 [default: 100]'
-complete -c mkedit -n '__fish_seen_subcommand_from edit; and not __fish_seen_subcommand_from help' -s o -l output -r -F -d 'Writes the result to OUT; to write it to FILE itself, name FILE twice'
+complete -c mkedit -n '__fish_seen_subcommand_from edit derive; and not __fish_seen_subcommand_from help' -s o -l output -r -F -d 'Writes the result to OUT; to write it to FILE itself, name FILE twice'
 complete -c mkedit -n '__fish_seen_subcommand_from edit; and not __fish_seen_subcommand_from help' -s i -l in-place -d 'Replaces FILE with the result atomically; access lists (ACLs) are not kept'
 complete -c mkedit -n '__fish_seen_subcommand_from edit; and not __fish_seen_subcommand_from help' -l backup -x -d 'With -i, keeps the old file as FILE with SUFFIX at its end'
 complete -c mkedit -n '__fish_seen_subcommand_from edit; and not __fish_seen_subcommand_from help' -l diff -d 'Prints a diff instead, for patch -p1 or git apply in the current directory (.. for ../m, / for /x/m)'
@@ -46,7 +47,7 @@ complete -c mkedit -n '__fish_seen_subcommand_from edit; and not __fish_seen_sub
 complete -c mkedit -n '__fish_seen_subcommand_from edit; and not __fish_seen_subcommand_from help' -l summary -d 'Ends with how many FILEs were changed; the default for several FILEs at a terminal'
 complete -c mkedit -n '__fish_seen_subcommand_from edit; and not __fish_seen_subcommand_from help' -l force-text -d 'Edits several FILEs even if one of them is a script and not a makefile'
 complete -c mkedit -n '__fish_seen_subcommand_from edit; and not __fish_seen_subcommand_from help' -s e -l expression -x -d 'Runs COMMAND in place of SCRIPT; several -e are the lines of a script'
-complete -c mkedit -n '__fish_seen_subcommand_from edit vars rules recipes check caveats get; and not __fish_seen_subcommand_from help' -l notes -d 'Explains messages and refusals, with the lines concerned; the default at a terminal'
+complete -c mkedit -n '__fish_seen_subcommand_from edit derive vars rules recipes check caveats get; and not __fish_seen_subcommand_from help' -l notes -d 'Explains messages and refusals, with the lines concerned; the default at a terminal'
 complete -c mkedit -n '__fish_seen_subcommand_from edit; and not __fish_seen_subcommand_from help' -l report -x -a 'text json' -d 'Reports refusals and messages as text, or with json as one JSON object per line [default: text]'
 complete -c mkedit -n '__fish_seen_subcommand_from vars; and not __fish_seen_subcommand_from help' -l name -x -a '(__mkedit_names)' -d 'Lists only the assignments of NAME, target-specific ones too'
 complete -c mkedit -n '__fish_seen_subcommand_from vars rules recipes check caveats get session; and not __fish_seen_subcommand_from help' -l json -d 'Prints one JSON object per line'
@@ -58,8 +59,8 @@ complete -c mkedit -n '__fish_seen_subcommand_from session; and not __fish_seen_
 complete -c mkedit -n __fish_use_subcommand -a help -d 'Prints help for a command'
 
 complete -c mkedit -n '__fish_seen_subcommand_from get; and test (count (commandline -opc)) -eq 2' -a '(__mkedit_names)'
-complete -c mkedit -n '__fish_seen_subcommand_from edit vars rules recipes check caveats get session; and not __fish_seen_subcommand_from help' -F
-complete -c mkedit -n '__fish_seen_subcommand_from help' -a 'edit vars rules recipes check caveats get explain session help'
+complete -c mkedit -n '__fish_seen_subcommand_from edit derive vars rules recipes check caveats get session; and not __fish_seen_subcommand_from help' -F
+complete -c mkedit -n '__fish_seen_subcommand_from help' -a 'edit derive vars rules recipes check caveats get explain session help'
 # made by tools/texts: commands
 set -l script_commands set append add drop prepend replace add-before add-after subst operator values-subst unset assign rule unrule depend depend-order undepend recipe recipe-insert recipe-set recipe-del recipe-replace recipe-remove recipe-subst recipes-subst insert line-replace line-remove rename nth all undo redo begin end cancel try or
 # made until here

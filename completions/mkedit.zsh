@@ -8,6 +8,7 @@ _mkedit_commands() {
     local -a commands
     commands=(
         'edit:Runs a script over a makefile and prints the result'
+        'derive:Prints a script that makes one makefile of another'
         'vars:Lists the assignments of a makefile'
         'rules:Lists the rules of a makefile'
         'recipes:Lists the recipe lines of a makefile with their numbers'
@@ -36,6 +37,14 @@ _mkedit_options_of_edit() {
         '*'{-e+,--expression=}'[Runs COMMAND in place of SCRIPT; several -e are the lines of a script]:COMMAND: '
         '--notes[Explains messages and refusals, with the lines concerned; the default at a terminal]'
         '--report=[Reports refusals and messages as text, or with json as one JSON object per line (default: text)]:FORM:(text json)'
+        '(-h --help)'{-h,--help}'[Print help]'
+    )
+}
+
+_mkedit_options_of_derive() {
+    options=(
+        '(-o --output)'{-o+,--output=}'[Writes the result to OUT; to write it to FILE itself, name FILE twice]:OUT:_files'
+        '--notes[Explains messages and refusals, with the lines concerned; the default at a terminal]'
         '(-h --help)'{-h,--help}'[Print help]'
     )
 }
@@ -195,7 +204,7 @@ _mkedit() {
     [[ $state == argument ]] || return
     case $line[1] in
         edit) _mkedit_edit ;;
-        vars | rules | recipes | check | caveats | session) _mkedit_query $line[1] ;;
+        derive | vars | rules | recipes | check | caveats | session) _mkedit_query $line[1] ;;
         get) _mkedit_query get '1:name:_mkedit_names' ;;
         explain) _mkedit_explain ;;
         help) _arguments '1:command:_mkedit_help' ;;

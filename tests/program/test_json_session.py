@@ -55,7 +55,8 @@ class JsonSession(RoomCase):
         self.assertEqual(talk.answer(b"vars X\xff"), wanted)
 
     def test_other_answers_have_a_text_in_each_line(self):
-        lines = ("print", "print 1 1", "diff", "get CC", "history", "help", "help set", "explain 4", "explain NoSuch")
+        texts = ("print", "print 1 1", "diff", "get CC", "history", "script")
+        lines = (*texts, "help", "help set", "explain 4", "explain NoSuch")
         plain, talk = self.talk("Makefile"), self.talk("--json", "Makefile")
         for line in ("print", "set CC clang", "set CC cc", "undo", *lines, "print 2", "write other", "quit!"):
             wanted, got = plain.answer(line), talk.answer(line)

@@ -1,4 +1,7 @@
-"""Random sessions of some 200 commands with undo, redo and groups: each reply, text and history is the judge's."""
+"""Random sessions of some 200 commands with undo, redo and groups.
+
+Each reply, text and history is the judge's, and each script of the edits that stand makes the judge's text.
+"""
 
 from typing import NamedTuple
 
@@ -108,6 +111,8 @@ class RandomSessions(RoomCase):
                     self.assertEqual(talk.answer("print"), session.text, lines)
                     self.assertEqual(talk.answer("history"), history.text(), lines)
             self.assertEqual(talk.answer("print"), session.text)
+            self.room.write("script", talk.answer("script"))
+            self.assertEqual(self.room.run("edit", "script", "Makefile").stdout, session.text)
             self.assertEqual(talk.answer("history"), history.text())
 
     def test_random_sessions(self):

@@ -337,6 +337,31 @@ class Session(RoomCase):
         wanted = b"redo begin; set CC d; assign bottom X = 1; end\nredo set CC e\nredo try set CC f\n"
         self.assertEqual(talk.answer("history"), wanted)
 
+    def test_the_script_of_the_edits_that_stand(self):
+        talk = self.talk("-d", "2", "Makefile")
+        self.assertEqual(talk.answer("script"), b"")
+        self.assert_replies(
+            talk,
+            (' set  CC "clang" \r', "ok"),
+            ("try unset NONE", "ok"),
+            ("try assign bottom X = a b", "fault not a command"),
+            ('try assign bottom X = "a b"', "ok"),
+            ("begin", "ok"),
+            ("insert top <<WORD\n# 1\nE\nWORD", "ok"),
+            ("insert top <<WORD\n# 0\nWORD", "ok"),
+            ("end", "ok"),
+            ("set X 1", "ok"),
+            ("undo", "ok"),
+        )
+        script = b'set CC clang\nassign bottom X = "a b"\ninsert top <<E1\n# 1\nE\nE1\ninsert top "# 0"\n'
+        self.assertEqual(talk.answer("script"), script)
+        self.assert_replies(talk, ("begin", "ok"), ("unset X", "ok"))
+        self.assertEqual(talk.answer("script"), script + b"unset X\n")
+        self.room.write("script", script + b"unset X\n")
+        self.assertEqual(self.room.run("edit", "script", "Makefile").stdout, talk.answer("print"))
+        self.assert_replies(talk, ("cancel", "ok"), ("revert", "fault edits beyond the depth"))
+        self.assertEqual(talk.answer("script"), b'set CC clang\nassign bottom X = "a b"\n')
+
     def test_write_to_another_file_leaves_the_makefile_alone(self):
         self.room.write("other", b"X = 1\n", mode=0o600)
         talk = self.talk("Makefile")

@@ -6,16 +6,12 @@ from types import TracebackType
 from typing import ContextManager, Iterator, List, Optional, Type
 
 from . import answers
-from .errors import Error, Fault, put_behind
+from .errors import Error, put_behind
 from .found import Assignment, RecipeLine, Rule, Step
 from .places import LINE_WORDS, Place, Site
 from .talk import PathName, Talk
 from .words import MOST_OF_REQUEST, NEW_SEPARATORS, OPERATORS, NewSeparator, Operator
 from .words import block, digits, field, one_of, word
-
-# How many edits can be undone where nothing else is said, and the commands that are no edits.
-DEPTH = 100
-NO_EDITS = ("undo", "redo", "begin", "end", "cancel", "revert", "write", "write!")
 
 
 class Session:
@@ -40,8 +36,6 @@ class Session:
         timeout: Optional[float] = None,
     ) -> None:
         self._talk = Talk(path, depth, program, new, timeout)
-        # How many edits can be undone, and how many were made.
-        self._depth, self._made = DEPTH if depth is None else depth, 0
 
     def __enter__(self) -> "Session":
         return self
@@ -59,12 +53,7 @@ class Session:
 
     def _do(self, word: str, *fields: str, nth: Optional[int] = None, before: str = "") -> None:
         first = ["nth", digits(nth)] if nth is not None else [before] if before else []
-        self._talk.ask(answers.nothing if word in NO_EDITS else self._count, *first, word, *map(field, fields))
-
-    def _count(self, found: List[answers.Members]) -> None:
-        """Counts an edit that was made."""
-        answers.nothing(found)
-        self._made += 1
+        self._talk.ask(answers.nothing, *first, word, *map(field, fields))
 
     def _put_in(self, word: str, place: Place, *fields: str) -> None:
         if not isinstance(place, Place):
@@ -77,7 +66,7 @@ class Session:
         below: List[str] = []
         first = ["nth", digits(nth)] if nth is not None else []
         fields = [block(it, below) for it in blocks]
-        self._talk.ask(self._count, *first, *words, *fields, below=below)
+        self._talk.ask(answers.nothing, *first, *words, *fields, below=below)
 
     def _told(self, *words: str) -> str:
         return self._talk.ask(answers.text, *words)
@@ -331,17 +320,8 @@ class Session:
         return self._talk.ask(answers.steps, "history")
 
     def script(self) -> str:
-        """The edits that stand, as a script that makes the text that is shown of the one that was opened.
-
-        A fault if more edits were made than the depth: those that cannot be undone any more are not known.
-        """
-        if self._made > self._depth:
-            raise Fault("edits beyond the depth")
-        lines: List[str] = []
-        for it in reversed(self.history()):
-            if it.kind != "redo":
-                lines += ("begin", *it.commands, "end") if it.is_group else it.commands
-        return "".join(f"{it}\n" for it in lines)
+        """The edits that stand, as a script that makes the text that is shown of the one that was opened."""
+        return self._told("script")
 
     def check(self) -> str:
         """What `mkedit check` prints."""

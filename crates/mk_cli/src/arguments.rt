@@ -188,3 +188,15 @@ pub(crate) const SESSION_FILE: Argument = Argument {
     kind: Kind::Required,
     help: "The makefile; the requests come from standard input",
 };
+
+pub(crate) const OLD_MAKEFILE: Argument = Argument {
+    id: "OLD",
+    kind: Kind::Required,
+    help: "The makefile as it is; - is standard input",
+};
+
+pub(crate) const NEW_MAKEFILE: Argument = Argument {
+    id: "NEW",
+    kind: Kind::Required,
+    help: "The makefile as the script is to make it; - is standard input",
+};

@@ -2,8 +2,8 @@
 
 use crate::arguments::{
     Argument, BACKUP, CHECK, COLOR, DEPTH, DIFF, EXPRESSION, FILES, FORCE_TEXT, IN_PLACE, JSON,
-    KEEP_GOING, Kind, NAME, NEW, NOTES, NTH, OUTPUT, PROTOCOL, REFUSAL, REPORT, SCRIPT,
-    SESSION_FILE, SUMMARY, TARGET, VARIABLE,
+    KEEP_GOING, Kind, NAME, NEW, NEW_MAKEFILE, NOTES, NTH, OLD_MAKEFILE, OUTPUT, PROTOCOL, REFUSAL,
+    REPORT, SCRIPT, SESSION_FILE, SUMMARY, TARGET, VARIABLE,
 };
 use crate::help;
 use clap::builder::ValueParser;
@@ -26,7 +26,7 @@ struct Subcommand {
 }
 
 // All commands, in the order in which help lists them.
-static SUBCOMMANDS: [Subcommand; 9] = [
+static SUBCOMMANDS: [Subcommand; 10] = [
     Subcommand {
         word: "edit",
         about: "Runs a script over a makefile and prints the result",
@@ -34,6 +34,11 @@ static SUBCOMMANDS: [Subcommand; 9] = [
             KEEP_GOING, DEPTH, OUTPUT, IN_PLACE, BACKUP, DIFF, COLOR, CHECK, SUMMARY, FORCE_TEXT,
             EXPRESSION, NOTES, REPORT, SCRIPT, FILES,
         ],
+    },
+    Subcommand {
+        word: "derive",
+        about: "Prints a script that makes one makefile of another",
+        arguments: &[OUTPUT, NOTES, OLD_MAKEFILE, NEW_MAKEFILE],
     },
     Subcommand {
         word: "vars",

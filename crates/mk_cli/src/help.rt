@@ -148,6 +148,18 @@ prints `gcc -g`, and without `--nth 1` it says
     refused 5 Ambiguous 2
 ";
 
+const DERIVE: &str = "\
+The commands name variables, rules, words and texts, so the script often applies to other releases of the
+makefile, where a patch does not. It is tried before it is printed: `mkedit edit` with it makes NEW of OLD,
+byte for byte. The script of equal makefiles is empty. If no command can write some lines, nothing is
+printed, a line on standard error names them and says why, and the status is 1.
+
+Example: with `CFLAGS = -O2 -Wall` in Makefile.orig and `CFLAGS = -O2` in Makefile,
+    mkedit derive Makefile.orig Makefile
+prints
+    drop CFLAGS -Wall
+";
+
 const EXPLAIN: &str = "\
 For each refused command mkedit prints a line on standard error, such as
     3: refused 4 NoSuch
@@ -163,7 +175,7 @@ both print the cause of this refusal, an example and what to do.
 const SESSION: &str = "\
 Each line of standard input is a command of a script, as `mkedit help edit` lists them, or a request:
     print    print FROM    print FROM TO    diff    vars    rules    recipes    check    caveats
-    vars NAME    rules TARGET    recipes TARGET    get NAME    nth N get NAME    history
+    vars NAME    rules TARGET    recipes TARGET    get NAME    nth N get NAME    history    script
     help    help COMMAND    explain REFUSAL
     write    write!    write FILE    revert    quit    quit!
 Each is answered at once, a command with a block behind the block's last line: the lines of an answer,
@@ -196,6 +208,7 @@ pub(crate) fn usage(command: &str) -> Option<&'static str> {
 pub(crate) fn example(command: &str) -> &'static str {
     match command {
         "edit" => EDIT,
+        "derive" => DERIVE,
         "vars" => VARS,
         "rules" => RULES,
         "recipes" => RECIPES,

@@ -43,7 +43,7 @@ pub use mistakes::{
 pub use progress::{Progress, Summary};
 pub use reading::read_command_line;
 pub use request::{
-    Backup, Color, EditWords, Form, Input, MAX_DEPTH, Output, Query, QueryWords, Question, Report,
-    Request, Script, SessionWords,
+    Backup, Color, DeriveWords, EditWords, Form, Input, MAX_DEPTH, Output, Query, QueryWords,
+    Question, Report, Request, Script, SessionWords,
 };
 pub use utf8::{bad_files, command_line_words, tell_bad_words};

@@ -2,14 +2,14 @@
 
 use crate::arguments::{
     BACKUP, CHECK, COLOR, DEPTH, DIFF, EXPRESSION, FILES, FORCE_TEXT, IN_PLACE, JSON, KEEP_GOING,
-    NAME, NEW, NOTES, NTH, OUTPUT, PROTOCOL, REFUSAL, REPORT, SCRIPT, SESSION_FILE, SUMMARY,
-    TARGET, VARIABLE,
+    NAME, NEW, NEW_MAKEFILE, NOTES, NTH, OLD_MAKEFILE, OUTPUT, PROTOCOL, REFUSAL, REPORT, SCRIPT,
+    SESSION_FILE, SUMMARY, TARGET, VARIABLE,
 };
 use crate::commands::{command_for, program_for};
 use crate::hints::hint;
 use crate::request::{
-    Backup, Color, EditWords, Form, Input, Output, Query, QueryWords, Question, Report, Request,
-    Script, SessionWords,
+    Backup, Color, DeriveWords, EditWords, Form, Input, Output, Query, QueryWords, Question,
+    Report, Request, Script, SessionWords,
 };
 use clap::ArgMatches;
 use clap::error::ErrorKind;
@@ -304,6 +304,26 @@ fn value<'a, R: Drop>(alloc: Global, matches: &ArgMatches<'a>) -> Result<Request
     asked(alloc, questions, matches)
 }
 
+// What the words of `derive` ask for.
+fn derive_words<'a>(matches: &ArgMatches<'a>) -> Result<DeriveWords<'a>, Fault> {
+    let (Some(old), Some(new)) = (
+        matches.get_str(OLD_MAKEFILE.id),
+        matches.get_str(NEW_MAKEFILE.id),
+    ) else {
+        return Err(Fault::Missing("OLD and NEW are required"));
+    };
+    let (old, new) = (input(old), input(new));
+    if !is_named(&old) && !is_named(&new) {
+        return Err(Fault::Conflict("OLD and NEW cannot both be standard input"));
+    }
+    Ok(DeriveWords {
+        output: matches.get_str(OUTPUT.id),
+        report: notes_of(matches),
+        old,
+        new,
+    })
+}
+
 // What the words of `session` ask for.
 fn session_words<'a>(matches: &ArgMatches<'a>) -> Result<SessionWords<'a>, Fault> {
     let depth = depth_of(matches)?;
@@ -331,6 +351,7 @@ where
 {
     match matches.subcommand() {
         Some(("edit", words)) => Ok(Request::Edit(edit_words(alloc, words)?)),
+        Some(("derive", words)) => Ok(Request::Derive(derive_words(words)?)),
         Some(("vars", words)) => query(alloc, Query::Vars(bytes_of(words, NAME.id)), words),
         Some(("rules", words)) => query(alloc, Query::Rules(bytes_of(words, TARGET.id)), words),
         Some(("recipes", words)) => query(alloc, Query::Recipes(bytes_of(words, TARGET.id)), words),
@@ -355,7 +376,7 @@ where
 ///
 /// What `clap` finds wrong with them, which has its text, and help or the version where one is
 /// asked for; a depth that is not written in decimal digits alone, or is not from 1 to 10,000;
-/// neither a script nor `-e`; a script and a makefile that are both standard input; a word that calls
+/// neither a script nor `-e`; two of a script and makefiles that are both standard input; a word that calls
 /// no refusal, or says no colours; a number of an assignment that is none; several makefiles without
 /// `-i`, without `--check` and without `--diff` to standard output; `-i` beside `-o`, beside `--diff`,
 /// beside `--check` or without the name of a file; `--check` beside `-o`; a suffix that is empty or has

@@ -175,6 +175,19 @@ pub struct QueryWords<'a> {
     pub files: Vec<Input<'a>>,
 }
 
+/// What the words of `mkedit derive` say.
+#[derive(Clone, Copy)]
+pub struct DeriveWords<'a> {
+    /// The name of the file that the script goes to; standard output if there is none.
+    pub output: Option<&'a str>,
+    /// How messages are told.
+    pub report: Report,
+    /// The makefile as it is.
+    pub old: Input<'a>,
+    /// The makefile as the script is to make it. Not both are standard input.
+    pub new: Input<'a>,
+}
+
 /// What the words of `mkedit session` say.
 #[derive(Clone, Copy)]
 pub struct SessionWords<'a> {
@@ -198,6 +211,8 @@ pub struct SessionWords<'a> {
 pub enum Request<'a, R> {
     /// A script over makefiles.
     Edit(EditWords<'a>),
+    /// A script out of two makefiles.
+    Derive(DeriveWords<'a>),
     /// A question to makefiles.
     Query(QueryWords<'a>),
     /// What is said of a refusal.

@@ -82,6 +82,7 @@ pub fn bad_files<R>(request: &Request<'_, R>) -> usize {
     match request {
         Request::Edit(words) => bad_in(words.files.as_slice()),
         Request::Query(words) => bad_in(words.files.as_slice()),
+        Request::Derive(words) => bad_in(&[words.old, words.new]),
         Request::Explain(_) | Request::Session(_) => 0,
     }
 }

@@ -1,7 +1,7 @@
 -- The definitions, computed: GNU diff has written each text here, and `patch` leads from one list of lines to the other.
 use Rattle.std.proofs.Common.{◌≡◌, ℕ, List, [], ◌∷◌, ◌++◌, codes, refl, map, Some}
 use Rattle.std.specs.Fmt.{digits}
-use Rattle.mk_diff.specs.Hunks.{Change, Hunk, applied, turned}
+use Rattle.mk_diff.specs.Hunks.{Hunk, applied, turned}
 use Rattle.mk_diff.specs.HunkTexts.{diff_text}
 use Rattle.mk_diff.specs.NameTexts.{name_text, patch_name}
 use Rattle.mk_diff.specs.PaintedDiffs.{painted_diff}

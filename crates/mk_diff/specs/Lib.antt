@@ -3,6 +3,6 @@ pub mod Hunks
 pub mod NameTexts
 pub mod HunkTexts
 pub mod PaintedDiffs
--- # Vocabulary of private contracts
 pub mod Stretches
+-- # Vocabulary of private contracts
 pub mod Places

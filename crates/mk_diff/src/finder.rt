@@ -13,7 +13,7 @@ use std::alloc::Allocator;
 /// # Errors
 ///
 /// [`Fault::NoMemory`] if the list could not grow.
-pub(crate) fn differences<A: Allocator + Copy>(
+pub fn differences<A: Allocator + Copy>(
     alloc: A,
     old: &[&[u8]],
     new: &[&[u8]],

@@ -1,6 +1,7 @@
 //! The difference of two texts, as a unified diff.
 //!
 //! - [`diff`]: the diff of two texts, as `patch` and `git apply` take it.
+//! - [`differences`]: the stretches in which two lists of texts differ.
 //! - [`painted`]: a diff in the colours of a terminal; [`shown`]: the same where colours are asked for.
 //! - [`patch_name`]: the name of a file as `patch` takes it.
 //!
@@ -31,6 +32,8 @@ mod stretch;
 mod text;
 mod unified;
 
+pub use finder::differences;
 pub use name::patch_name;
 pub use paint::{painted, shown};
+pub use stretch::Stretch;
 pub use unified::diff;

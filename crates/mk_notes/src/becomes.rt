@@ -201,13 +201,18 @@ fn push_with_words<B: Allocator>(
 ) -> Result<(), AllocError> {
     let mut done = 0;
     for at in words(value) {
-        if value.get(at.start..at.end) == Some(word) {
-            new.extend_from_slice(value.get(done..at.start).unwrap_or_default())?;
+        if part(value, at.start, at.end) == word {
+            new.extend_from_slice(part(value, done, at.start))?;
             new.extend_from_slice(text)?;
             done = at.end;
         }
     }
-    new.extend_from_slice(value.get(done..).unwrap_or_default())
+    new.extend_from_slice(part(value, done, value.len()))
+}
+
+// A part of a text.
+fn part(text: &[u8], start: usize, end: usize) -> &[u8] {
+    text.get(start..end).unwrap_or_default()
 }
 
 // Puts a text behind another, with `to` in the place of each occurrence of `from` in it.

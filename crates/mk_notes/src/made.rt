@@ -15,8 +15,9 @@ use crate::text::Notes;
 use mk_class::Flavor;
 use mk_edit_language::{EachEdit, Edit, LineChange, Place};
 use mk_edit_parts::address::{Address, address_of};
+use mk_edit_parts::text::has_word;
 use mk_listing::{Position, numbered};
-use mk_tree::{Doc, WordTexts};
+use mk_tree::Doc;
 use std::alloc::{AllocError, Allocator};
 
 impl<B: Allocator + Copy> RunNotes<'_, B> {
@@ -212,7 +213,7 @@ fn fits_own_place<A: Allocator>(edit: &Edit<A>) -> bool {
         (Edit::AddAssign { name, .. }, Some(Address::Variable(_, other))) => name.as_slice()
             == other,
         (Edit::AddRule { targets, .. }, Some(Address::Rule(_, other))) => {
-            WordTexts::new(targets).any(|target| target == other)
+            has_word(targets, other)
         }
         _ => false,
     }

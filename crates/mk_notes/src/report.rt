@@ -19,30 +19,66 @@ pub fn message_in_json(
     mistake: Option<ScriptMistake<'_>>,
 ) -> Result<Vec<u8>, AllocError> {
     let mut object = Object::begin(alloc, Vec::new(alloc))?;
+    put_message(alloc, &mut object, message, fault, mistake)?;
+    object.end()
+}
+
+// (each way out of the function that owns an object drops it, which makes a long proof of many)
+fn put_message(
+    alloc: Global,
+    object: &mut Object<Global>,
+    message: &[u8],
+    fault: Option<SystemFault<'_>>,
+    mistake: Option<ScriptMistake<'_>>,
+) -> Result<(), AllocError> {
     object.string("kind", "message")?;
     if let Some(fault) = fault {
         object.string("file", fault.name)?;
     }
     if let Some(found) = mistake {
-        object.string("script", found.script)?;
-        object.number("line", found.line as usize)?;
-        object.number("column", found.mistake.column)?;
+        put_place(object, &found)?;
     }
     let said = message.strip_prefix(b"mkedit: ").unwrap_or(message);
     object.text("sentence", said.trim_ascii_end())?;
     if let Some(fault) = fault {
-        object.string("cause", &format!(in alloc; "{}", fault.cause)?)?;
-        if is_command_word(fault.name) {
-            object.string("hint", COMMAND_HINT)?;
-        }
+        put_fault(alloc, object, fault)?;
     }
     if let Some(found) = mistake {
-        object.string("cause", &format!(in alloc; "{found}")?)?;
-        if found.exchanged.is_some() {
-            object.string("hint", EXCHANGED_HINT)?;
-        }
+        put_mistake(alloc, object, &found)?;
     }
-    object.end()
+    Ok(())
+}
+
+fn put_place(object: &mut Object<Global>, found: &ScriptMistake<'_>) -> Result<(), AllocError> {
+    object.string("script", found.script)?;
+    object.number("line", found.line as usize)?;
+    object.number("column", found.mistake.column)
+}
+
+fn put_fault(
+    alloc: Global,
+    object: &mut Object<Global>,
+    fault: SystemFault<'_>,
+) -> Result<(), AllocError> {
+    let cause = format!(in alloc; "{}", fault.cause)?;
+    object.string("cause", &cause)?;
+    if is_command_word(fault.name) {
+        object.string("hint", COMMAND_HINT)?;
+    }
+    Ok(())
+}
+
+fn put_mistake(
+    alloc: Global,
+    object: &mut Object<Global>,
+    found: &ScriptMistake<'_>,
+) -> Result<(), AllocError> {
+    let cause = format!(in alloc; "{found}")?;
+    object.string("cause", &cause)?;
+    if found.exchanged.is_some() {
+        object.string("hint", EXCHANGED_HINT)?;
+    }
+    Ok(())
 }
 
 /// The line of JSON on what became of a makefile whose run ended with this status. Whether the makefile was

@@ -1,5 +1,9 @@
 mod CommandLineLemmas
 mod LineLemmas
+mod LogLemmas
+mod MadeLemmas
+mod ScriptLemmas
+mod ServerLemmas
 mod StepLemmas
 mod TalkLemmas
 mod TextLineLemmas

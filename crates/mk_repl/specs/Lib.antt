@@ -10,4 +10,7 @@ pub mod Reverted
 pub mod SessionFaults
 pub mod SessionForms
 pub mod SessionReplies
+pub mod StandingScripts
 pub mod Talks
+-- # Vocabulary of private contracts
+pub mod CommandLogs

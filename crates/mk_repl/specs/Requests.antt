@@ -68,7 +68,7 @@ words =
     (word.Diff, codes "diff") ∷ (word.Vars, codes "vars") ∷ (word.Rules, codes "rules")
     ∷ (word.Recipes, codes "recipes") ∷ (word.Check, codes "check") ∷ (word.Caveats, codes "caveats")
     ∷ (word.Write, codes "write") ∷ (word.WriteAnyway, codes "write!")
-    ∷ (word.History, codes "history") ∷ (word.Help, codes "help")
+    ∷ (word.History, codes "history") ∷ (word.Script, codes "script") ∷ (word.Help, codes "help")
     ∷ (word.Revert, codes "revert") ∷ (word.Quit, codes "quit") ∷ (word.QuitAnyway, codes "quit!") ∷ []
 
 abbrev pub request_named : List ℕ → Option RequestWord

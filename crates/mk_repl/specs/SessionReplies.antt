@@ -14,10 +14,12 @@ use Rattle.mk_repl.specs.declared.request.RequestOf.TheVariants as of
 use Rattle.mk_repl.specs.declared.request.RequestWord.TheVariants as word
 use Rattle.mk_repl.specs.declared.talk.After.{After}
 use Rattle.mk_repl.specs.declared.talk.After.TheVariants.{GoesOn, Ends}
+use Rattle.mk_cli.specs.declared.request.Form.TheVariants.{Text}
 use Rattle.mk_queries.specs.Queries.{check_text, recipes_text, rules_text, vars_text}
 use Rattle.mk_tree.specs.Documents.{document_lines}
 use Rattle.mk_repl.specs.SessionFaults.{fault_text}
 use Rattle.mk_repl.specs.SessionForms.{in_form}
+use Rattle.mk_repl.specs.StandingScripts.{MakesText}
 use Rattle.mk_repl.specs.declared.server.Opened.{Opened}
 use Rattle.mk_repl.specs.declared.not_done.NotDone.{NotDone}
 use Rattle.mk_repl.specs.declared.not_done.NotDone.TheVariants.{NoMemory, Refused, BeyondDepth}
@@ -60,11 +62,18 @@ answer_in opened text asked = option_and_then (in_form opened.form) (answer_for_
 abbrev pub HasAnswer : (wanted : Option (List ℕ)) → Result (List ℕ) NotDone → Type 0
 HasAnswer wanted result = IfSome wanted (λ text. IfOk result (λ answer. answer ≡ text))
 
+-- a script is answered for a person: it makes the text that is shown of the one that was opened
+abbrev HasScript : Opened → (text : List ℕ) → Result (List ℕ) NotDone → Type 0
+HasScript opened text result =
+    opened.form ≡ Text → IfOk result (λ script. MakesText script opened.text.items text)
+
 -- This came of a request, and this is shown before and after it: no other than `revert` changes anything.
 abbrev pub IsRequestDone : Asked → Opened → (old new : Shown (List ℕ))
     → Result (List ℕ) NotDone → Type 0
 IsRequestDone (Word word.Revert) opened old new result =
     IsReverted opened.text.items old new result
+IsRequestDone (Word word.Script) opened old new result =
+    (new ≡ old) × HasScript opened old.text result
 IsRequestDone other opened old new result =
     (new ≡ old) × HasAnswer (answer_in opened old.text other) result
 

@@ -1,10 +1,11 @@
 //! A command, and the reply to it: a line, and below it the lines of its blocks.
 //!
 //! A comment and a blank line have no reply, as they have no line in a report.
-ghost use Rattle.std.specs.Prelude.{◌≡◌, false, true, map, IfErr, IfOk, OnOk};
+ghost use Rattle.std.specs.Prelude.{◌≡◌, ℕ, List, false, true, map, IfErr, IfOk, OnOk};
 ghost use Rattle.mk_run.specs.RunEnds.{IsOut, IsPrefixOut, written};
 ghost use Rattle.mk_lines.specs.Device.{Writes};
-ghost use Rattle.mk_script.specs.Scripts.{step_of};
+ghost use Rattle.mk_history.specs.Shown.{Shown};
+ghost use Rattle.mk_script.specs.Scripts.{IsScriptFault, step_of};
 ghost use Rattle.mk_repl.specs.Replies.{AreExecuted, IsAnswered, IsLineExecuted, came_of, refused_reply, reply_to};
 
 use mk_lines::sink::write_all;
@@ -42,7 +43,7 @@ pub enum Executed {
 }
 
 // What came of a step that was executed.
-fn came_of(executed: Result<(), RefusedCommand>) -> Executed
+pub(crate) fn came_of(executed: Result<(), RefusedCommand>) -> Executed
     ensures { result ≡ came_of executed }
 {
     match executed {
@@ -66,6 +67,17 @@ fn execute_only<A: Allocator + Copy, T: Observer<A>>(
     }
 }
 
+// What comes of a line that is not read for this fault.
+pub(crate) fn unread(fault: ScriptFault) -> Executed
+    ensures { (line : List ℕ) (shown : Shown (List ℕ)) → IsScriptFault line fault
+        → IsLineExecuted line shown shown result }
+{
+    match fault {
+        ScriptFault::NotACommand(_) => Executed::NoCommand,
+        ScriptFault::NoMemory => Executed::Refused(Refusal::NoMemory),
+    }
+}
+
 /// Executes the command of a line, and says what came of it. The line is one of a script: its line end
 /// is LF, CR LF or none. Below it may stand the lines of its blocks, and no others. It may begin with
 /// `try`; `or` needs the lines above it, and is no command here. `observer` is told of each edit that is
@@ -83,8 +95,7 @@ where
 {
     match parse_script(alloc, line) {
         Ok(steps) => execute_only(session, steps.as_slice(), observer),
-        Err(ScriptFault::NotACommand(_)) => Executed::NoCommand,
-        Err(ScriptFault::NoMemory) => Executed::Refused(Refusal::NoMemory),
+        Err(fault) => unread(fault),
     }
 }
 

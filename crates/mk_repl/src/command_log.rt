@@ -1,50 +1,58 @@
-//! The lines of the edits and groups that can be undone and redone.
+//! The edits and groups that can be undone and redone, and those that stand.
 //!
-//! The session keeps no text of what it was told. So these lines are kept beside it, by the same rules:
-//! docs/EDITS.md, "Undo and groups".
+//! The session keeps no text of what it was told, and no edit that it cannot undo any more. So the edits are
+//! kept beside it, by the same rules: docs/EDITS.md, "Undo and groups".
+ghost use Rattle.std.specs.Prelude.{◌≡◌, ◌-◌, ◌||◌, ◌++◌, [], ◌∷◌, IfOk, OnOk, false, is_err, length, map, true};
+ghost use Rattle.mk_edit_language.specs.CommandViews.{command_of};
+ghost use Rattle.mk_edit_language.specs.EditViews.{edit_of};
+ghost use Rattle.mk_history.specs.Machine.{Apply, End, Redo, Undo};
+ghost use Rattle.mk_repl.specs.CommandLogs.{AddsLines, Carries, Closes, Follows, HasLines, IsNew, IsOfLog, KeepsUp, KeepsUpUndone};
+ghost use Rattle.mk_repl.specs.CommandLogs.{edits_of, newest_first};
 
 use bstr::ByteSlice;
-use mk_run::{Command, Observer, Reported, Step, parse_script};
-use mk_session::{Edit, Session};
+use mk_script::line_of_edit;
+use mk_session::{Command, Edit};
 use std::alloc::{AllocError, Global};
 
-// Whether an edit was made.
-#[derive(Drop)]
-pub struct EditMade(pub bool);
-
-impl Observer<Global> for EditMade {
-    fn refused(&mut self, _reported: &Reported<'_, Global>, _session: &Session<Global>) {}
-
-    fn accepted(&mut self, _line: u64, _edit: &Edit<Global>, _session: &Session<Global>) {
-        self.0 = true;
-    }
-}
-
-// The line of a command, or of a group; and the lines of its blocks, each with a line feed before it.
+// An edit, or the edits of a group; the line of its command, or of the group; and the lines of the blocks,
+// each with a line feed before it.
 #[derive(Drop)]
 struct Member {
+    edits: Vec<Edit>,
     line: Vec<u8>,
     below: Vec<u8>,
 }
 
 impl Member {
-    fn new(alloc: Global) -> Member {
+    fn new(alloc: Global) -> Member
+        ensures { edits_of result ≡ [] }
+    {
         Member {
+            edits: Vec::new(alloc),
             line: Vec::new(alloc),
             below: Vec::new(alloc),
         }
     }
 
-    // Puts a command behind what is there.
-    fn push(&mut self, command: &[u8]) -> Result<(), AllocError> {
-        let mut lines = command.lines();
-        if let Some(line) = lines.next() {
-            self.line.extend_from_slice(line.trim_ascii())?;
+    // Puts an edit behind those that are there, and its command.
+    fn push(&mut self, command: &[u8], edit: Edit) -> Result<(), AllocError>
+        ensures { OnOk result (edits_of self.new ≡ edits_of self.old ++ edit_of edit ∷ []) }
+    {
+        push_command(&mut self.line, &mut self.below, command)?;
+        if self.edits.push(edit).is_err() {
+            return Err(AllocError);
         }
-        for line in lines {
-            self.below.extend_from_slice(b"\n")?;
-            self.below.extend_from_slice(line)?;
-        }
+        Ok(())
+    }
+
+    // The group is ended.
+    fn end(&mut self, alloc: Global) -> Result<(), AllocError>
+        ensures { edits_of self.new ≡ edits_of self.old }
+    {
+        let mut line = Vec::from_slice(alloc, b"begin")?;
+        line.extend_from_slice(self.line.as_slice())?;
+        line.extend_from_slice(b"; end")?;
+        self.line = line;
         Ok(())
     }
 
@@ -57,19 +65,32 @@ impl Member {
     }
 }
 
-/// What can be undone and redone.
-#[derive(Drop)]
-pub struct CommandLog {
-    alloc: Global,
-    // How many edits or groups can be undone.
-    depth: usize,
-    // What can be undone, the last at the end, and what can be redone, the next at the end.
-    done: Vec<Member>,
-    undone: Vec<Member>,
-    // The commands of the open group.
-    group: Option<Member>,
-    // Whether memory was short, and nothing is known.
-    is_lost: bool,
+// Puts a command behind the lines that are there.
+fn push_command(line: &mut Vec<u8>, below: &mut Vec<u8>, command: &[u8]) -> Result<(), AllocError> {
+    let mut lines = command.lines();
+    if let Some(first) = lines.next() {
+        line.extend_from_slice(first.trim_ascii())?;
+    }
+    for other in lines {
+        below.extend_from_slice(b"\n")?;
+        below.extend_from_slice(other)?;
+    }
+    Ok(())
+}
+
+// The last of some members goes to others, if there is one.
+fn carry(from: &mut Vec<Member>, to: &mut Vec<Member>) -> Result<(), AllocError>
+    ensures carries { OnOk result (Carries (newest_first from.old.items) (newest_first to.old.items)
+        (newest_first from.new.items) (newest_first to.new.items)) }
+    ensures fewer { length from.new.items ≡ length from.old.items - 1 }
+{
+    match from.pop() {
+        Some(member) => match to.push(member) {
+            Ok(()) => Ok(()),
+            Err(_) => Err(AllocError),
+        },
+        None => Ok(()),
+    }
 }
 
 // Puts what can be undone or redone behind a text, the last first, each behind this word.
@@ -80,13 +101,53 @@ fn push_members(text: &mut Vec<u8>, word: &[u8], members: &[Member]) -> Result<(
     Ok(())
 }
 
+// Puts edits behind a script.
+fn push_edits(alloc: Global, script: &mut Vec<u8>, edits: &[Edit]) -> Result<(), AllocError>
+    ensures { OnOk result (AddsLines script.old.items (map edit_of edits.now) script.new.items) }
+{
+    for edit in edits {
+        push_edit(alloc, script, edit)?;
+    }
+    Ok(())
+}
+
+// Puts an edit behind a script.
+fn push_edit(alloc: Global, script: &mut Vec<u8>, edit: &Edit) -> Result<(), AllocError>
+    ensures { OnOk result (AddsLines script.old.items (edit_of edit.now ∷ []) script.new.items) }
+{
+    let Ok(lines) = line_of_edit(alloc, edit) else {
+        return Err(AllocError);
+    };
+    script.extend_from_slice(lines.as_slice())
+}
+
+/// The edits that stand, and those that can be redone.
+#[derive(Drop)]
+pub struct CommandLog {
+    alloc: Global,
+    // How many edits or groups can be undone.
+    depth: usize,
+    // What stands, the last at the end. So many of the first cannot be undone any more.
+    done: Vec<Member>,
+    floor: usize,
+    // What can be redone, the next at the end.
+    undone: Vec<Member>,
+    // The edits of the open group.
+    group: Option<Member>,
+    // Whether memory was short, or an edit was made that was not told: nothing is known.
+    is_lost: bool,
+}
+
 impl CommandLog {
     /// Nothing can be undone or redone yet. The depth is that of the session.
-    pub fn new(alloc: Global, depth: usize) -> CommandLog {
+    pub fn new(alloc: Global, depth: usize) -> CommandLog
+        ensures { IsNew depth result }
+    {
         CommandLog {
             alloc,
             depth,
             done: Vec::new(alloc),
+            floor: 0,
             undone: Vec::new(alloc),
             group: None,
             is_lost: false,
@@ -94,36 +155,41 @@ impl CommandLog {
     }
 
     // One edit or group more was made.
-    fn push(&mut self, member: Member) -> Result<(), AllocError> {
-        if self.done.len() >= self.depth && !self.done.is_empty() {
-            self.done.remove(0);
-        }
+    fn push(&mut self, member: Member) -> Result<(), AllocError>
+        ensures closes { OnOk result (Closes (edits_of member) self.old self.new) }
+        ensures same { IsOfLog self.old self.new }
+    {
         if self.done.push(member).is_err() {
             return Err(AllocError);
         }
+        let beyond = self.done.len().saturating_sub(self.depth);
+        self.floor = self.floor.max(beyond);
         Ok(())
     }
 
     // An edit was made by this command. What was undone cannot be redone any more.
-    fn edited(&mut self, command: &[u8]) -> Result<(), AllocError> {
+    fn edited(&mut self, command: &[u8], edit: Edit) -> Result<(), AllocError>
+        ensures follows { OnOk result (Follows (Apply (edit_of edit)) self.old self.new) }
+        ensures same { IsOfLog self.old self.new }
+    {
         self.undone.clear();
         if let Some(group) = &mut self.group {
             group.line.extend_from_slice(b"; ")?;
-            return group.push(command);
+            return group.push(command, edit);
         }
         let mut member = Member::new(self.alloc);
-        member.push(command)?;
+        member.push(command, edit)?;
         self.push(member)
     }
 
     // The open group was ended. Without edits it leaves nothing.
-    fn ended(&mut self) -> Result<(), AllocError> {
+    fn ended(&mut self) -> Result<(), AllocError>
+        ensures follows { OnOk result (Follows End self.old self.new) }
+        ensures same { IsOfLog self.old self.new }
+    {
         match self.group.take() {
-            Some(mut group) if !group.line.is_empty() => {
-                let mut line = Vec::from_slice(self.alloc, b"begin")?;
-                line.extend_from_slice(group.line.as_slice())?;
-                line.extend_from_slice(b"; end")?;
-                group.line = line;
+            Some(mut group) if !group.edits.is_empty() => {
+                group.end(self.alloc)?;
                 self.push(group)
             }
             _ => Ok(()),
@@ -131,64 +197,67 @@ impl CommandLog {
     }
 
     // The last was undone.
-    fn undone(&mut self) -> Result<(), AllocError> {
-        match self.done.pop() {
-            Some(member) => match self.undone.push(member) {
-                Ok(()) => Ok(()),
-                Err(_) => Err(AllocError),
-            },
-            None => Ok(()),
-        }
+    fn undone(&mut self) -> Result<(), AllocError>
+        ensures follows { OnOk result (Follows Undo self.old self.new) }
+        ensures same { IsOfLog self.old self.new }
+        ensures fewer { length self.new.done.items ≡ length self.old.done.items - 1 }
+    {
+        carry(&mut self.done, &mut self.undone)
     }
 
     // The next was redone.
-    fn redone(&mut self) -> Result<(), AllocError> {
-        match self.undone.pop() {
-            Some(member) => self.push(member),
-            None => Ok(()),
-        }
+    fn redone(&mut self) -> Result<(), AllocError>
+        ensures follows { OnOk result (Follows Redo self.old self.new) }
+        ensures same { IsOfLog self.old self.new }
+    {
+        carry(&mut self.undone, &mut self.done)
     }
 
-    // A command that has made no edit was done.
-    fn moved(&mut self, command: &[u8]) -> Result<(), AllocError> {
-        let Ok(steps) = parse_script(self.alloc, command) else {
-            return Err(AllocError);
-        };
-        let [Step::Alone(alone)] = steps.as_slice() else {
-            return Ok(());
-        };
-        match &alone.command {
+    // A command was done.
+    fn done(&mut self, text: &[u8], command: Command) -> Result<(), AllocError>
+        ensures follows { OnOk result (Follows (command_of command) self.old self.new) }
+        ensures same { IsOfLog self.old self.new }
+    {
+        match command {
+            Command::Apply(edit) => return self.edited(text, edit),
             Command::Undo => return self.undone(),
             Command::Redo => return self.redone(),
             Command::End => return self.ended(),
             Command::Begin => self.group = Some(Member::new(self.alloc)),
             Command::Cancel => self.group = None,
-            Command::Apply(_) => {}
         }
         Ok(())
     }
 
-    /// A command was done, and has made an edit or not. Its text is a line, or a line and below it those of
-    /// its blocks.
-    pub fn note(&mut self, command: &[u8], made: &EditMade) {
-        let noted = if made.0 {
-            self.edited(command)
-        } else {
-            self.moved(command)
-        };
+    /// A command was done. Its text is a line, or a line and below it those of its blocks.
+    pub fn note(&mut self, text: &[u8], command: Command)
+        ensures { KeepsUp (command_of command) self.old self.new }
+    {
+        let noted = self.done(text, command);
         self.keep(noted);
     }
 
     // Where memory was short nothing is known any more.
-    fn keep(&mut self, noted: Result<(), AllocError>) {
+    fn keep(&mut self, noted: Result<(), AllocError>)
+        ensures { self.new ≡ record self.old { is_lost = self.old.is_lost || is_err noted } }
+    {
         if noted.is_err() {
             self.is_lost = true;
         }
     }
 
+    /// Edits were made that are not told.
+    pub fn lose(&mut self)
+        ensures { self.new.is_lost ≡ true }
+    {
+        self.is_lost = true;
+    }
+
     /// All was undone that can be.
-    pub fn note_reverted(&mut self) {
-        for _ in 0..self.done.len() {
+    pub fn note_reverted(&mut self)
+        ensures { KeepsUpUndone self.old self.new }
+    {
+        while self.done.len() > self.floor {
             let noted = self.undone();
             self.keep(noted);
         }
@@ -207,8 +276,31 @@ impl CommandLog {
         if let Some(group) = &self.group {
             group.put(b"open begin", &mut text)?;
         }
-        push_members(&mut text, b"undo ", self.done.as_slice())?;
+        let done = self.done.as_slice().get(self.floor..).unwrap_or_default();
+        push_members(&mut text, b"undo ", done)?;
         push_members(&mut text, b"redo ", self.undone.as_slice())?;
         Ok(text)
+    }
+
+    /// The edits that stand, the first of them first, as a script.
+    ///
+    /// # Errors
+    ///
+    /// Want of memory, also of a former edit.
+    pub fn script(&self) -> Result<Vec<u8>, AllocError>
+        ensures known { OnOk result (self.now.is_lost ≡ false) }
+        ensures lines { IfOk result (λ script. HasLines self.now script.items) }
+    {
+        if self.is_lost {
+            return Err(AllocError);
+        }
+        let mut script = Vec::new(self.alloc);
+        for member in &self.done {
+            push_edits(self.alloc, &mut script, member.edits.as_slice())?;
+        }
+        if let Some(group) = &self.group {
+            push_edits(self.alloc, &mut script, group.edits.as_slice())?;
+        }
+        Ok(script)
     }
 }

@@ -17,6 +17,7 @@ Requests:
     get NAME    nth N get NAME               the value of a variable
     check    caveats                         what is not read, and what make may read otherwise
     history                                  what can be undone and redone
+    script                                   the edits that stand, as a script
     explain REFUSAL                          why a command is refused, and what to do then
     write    write!    write FILE            puts the text into the file, or into another
     revert                                   undoes all that can be undone

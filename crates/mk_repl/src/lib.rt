@@ -25,7 +25,7 @@
 //! - `undoing`: all that can be undone, undone.
 //! - `question`: what is found for a question to a makefile.
 //! - `server`: a makefile that is open, and what it answers; `help_text`: what `help` says.
-//! - `command_log`: the lines of what can be undone and redone.
+//! - `command_log`: the edits that stand, and what can be undone and redone.
 //! - `text_lines`: answers as lines of JSON.
 //! - `not_done`: why a request is not done.
 //! - `on_disk`: the makefile's file.

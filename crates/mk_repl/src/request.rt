@@ -24,6 +24,8 @@ pub enum RequestWord {
     WriteAnyway,
     /// `history`: what can be undone and redone.
     History,
+    /// `script`: the edits that stand, as a script.
+    Script,
     /// `help`: the commands and the requests.
     Help,
     /// `revert`: all that can be undone is undone.
@@ -94,6 +96,8 @@ const WRITE: &[u8] = b"write";
 const WRITE_ANYWAY: &[u8] = b"write!";
 
 const HISTORY: &[u8] = b"history";
+
+const SCRIPT: &[u8] = b"script";
 
 const REVERT: &[u8] = b"revert";
 
@@ -182,6 +186,8 @@ fn request_named(word: &[u8]) -> Option<RequestWord>
         Some(RequestWord::WriteAnyway)
     } else if word == HISTORY {
         Some(RequestWord::History)
+    } else if word == SCRIPT {
+        Some(RequestWord::Script)
     } else if word == HELP {
         Some(RequestWord::Help)
     } else if word == REVERT {

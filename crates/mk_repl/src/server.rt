@@ -1,11 +1,16 @@
 //! A makefile that is open, and what it answers to requests.
-ghost use Rattle.std.specs.Prelude.{◌≡◌, IfErr, IfOk, List, None, OnOk, Some, [], false, true, is_ok, option_and_then};
+ghost use Rattle.std.specs.Prelude.{◌≡◌, ◌||◌, IfErr, IfOk, List, None, OnOk, Some, [], false, true, is_ok, map, option_and_then};
 ghost use Rattle.mk_diff.specs.HunkTexts.{diff_text};
 ghost use Rattle.mk_diff.specs.Hunks.{Hunk, IsDiff};
 ghost use Rattle.mk_diff.specs.NameTexts.{patch_name};
 ghost use Rattle.mk_lines.specs.PhysicalLines.{physical_lines};
+ghost use Rattle.mk_run.specs.ExecutedSteps.{is_met, is_missing};
+ghost use Rattle.mk_run.specs.RunSteps.{IsExecuted};
+ghost use Rattle.mk_script.specs.Scripts.{Alone, Tried, numbered, numbered_edit, step_of};
+ghost use Rattle.mk_repl.specs.CommandLogs.{IsKept};
+ghost use Rattle.mk_repl.specs.StandingScripts.{MakesText};
 ghost use Rattle.mk_repl.specs.AnswerLines.{lines_between};
-ghost use Rattle.mk_repl.specs.Replies.{IsLineExecuted, reply_to};
+ghost use Rattle.mk_repl.specs.Replies.{AreExecuted, IsLineExecuted, reply_to};
 ghost use Rattle.mk_repl.specs.Requests.{Of, Word, asked_of};
 ghost use Rattle.mk_session.specs.Sessions.{IsOpeningFault, seen_opened};
 ghost use Rattle.mk_tree.specs.Documents.{document_lines};
@@ -14,22 +19,23 @@ ghost use Rattle.mk_repl.specs.Quits.{IsLeft, MayQuit, left_with};
 ghost use Rattle.mk_repl.specs.SessionForms.{in_form};
 ghost use Rattle.mk_repl.specs.SessionReplies.{HasAnswer, IsRequestDone, IsReverted, after_request, answer_in, answer_text, is_quit};
 
-use crate::command_log::{CommandLog, EditMade};
+use crate::answer::{came_of, unread};
+use crate::command_log::CommandLog;
 use crate::help_text::HELP;
 use crate::not_done::NotDone;
 use crate::on_disk::{look, look_missing, put, put_or_make};
 use crate::question::{json_lines, put_lines};
 use crate::text_lines::text_lines;
-use crate::{
-    After, Executed, Request, RequestOf, RequestWord, Reverted, execute_line, lines_between, revert,
-};
+use crate::{After, Executed, Request, RequestOf, RequestWord, Reverted, lines_between, revert};
 use mk_cli::{Form, Query, SessionWords, command_called, put_explanation, put_help, refusal_of};
 use mk_diff::{diff, patch_name};
 use mk_escape::TextSink;
 use mk_fs::{AsRead, Expected};
 use mk_lines::Fault;
 use mk_lookup::get;
-use mk_session::{Refusal, Session};
+use mk_run::{RefusedCommand, Step, execute_step, parse_script};
+use mk_script::{NumberedCommand, NumberedEdit};
+use mk_session::{Command, Refusal, Session};
 use mk_tree::text_of;
 use std::alloc::Global;
 use std::str::from_utf8;
@@ -60,6 +66,7 @@ pub struct Server<'a> {
     is_warned: bool,
     // Whether a request has ended the session.
     is_over: bool,
+    ghost kept: { ∥ IsKept opened.text.items command_log session.shown ∥₁ },
 }
 
 /// What came of a request.
@@ -79,6 +86,16 @@ fn is_quit(request: Request<'_>) -> bool
         Request::Word(RequestWord::Quit | RequestWord::QuitAnyway) => true,
         _ => false,
     }
+}
+
+// Whether a refusal behind `try` is none.
+fn is_idle(refusal: Refusal) -> bool
+    ensures { result ≡ (is_missing refusal || is_met refusal) }
+{
+    matches!(
+        refusal,
+        Refusal::NoSuch | Refusal::Absent | Refusal::Already
+    )
 }
 
 // Whether the session goes on after a request that was done or not.
@@ -405,6 +422,14 @@ impl<'a> Server<'a> {
         !self.is_over && self.quit().is_err()
     }
 
+    // The edits that stand, as a script.
+    fn script(&self) -> Result<Vec<u8>, NotDone>
+        ensures { IfOk result (λ script. MakesText script.items self.now.opened.text.items
+            self.now.session.shown.text) }
+    {
+        Ok(self.command_log.script()?)
+    }
+
     // The commands and the requests, for a person.
     fn commands(&self) -> Result<Vec<u8>, NotDone> {
         Ok(Vec::from_slice(self.rt.alloc(), HELP.as_bytes())?)
@@ -428,6 +453,7 @@ impl<'a> Server<'a> {
             RequestWord::Check => return self.query(Query::Check),
             RequestWord::Caveats => return self.query(Query::Caveats),
             RequestWord::History => return self.in_form(self.command_log.text()?),
+            RequestWord::Script => return self.in_form(self.script()?),
             RequestWord::Help => return self.in_form(self.commands()?),
             RequestWord::Write => self.write_if_left()?,
             RequestWord::WriteAnyway => self.write_text()?,
@@ -480,6 +506,95 @@ impl<'a> Server<'a> {
         }
     }
 
+    // Executes a command alone, and takes note of it if it is done.
+    fn execute_alone(&mut self, text: &[u8], alone: NumberedCommand) -> Result<(), RefusedCommand>
+        ensures executed { IsExecuted (Alone (numbered alone)) result self.old.session.shown
+            self.new.session.shown }
+        ensures opened { self.new.opened ≡ self.old.opened }
+        ensures written { self.new.written ≡ self.old.written }
+        ensures warned { self.new.is_warned ≡ self.old.is_warned }
+    {
+        match self.session.execute(&alone.command) {
+            Ok(()) => {
+                self.command_log.note(text, alone.command);
+                Ok(())
+            }
+            Err(refusal) => Err(RefusedCommand {
+                line: alone.line,
+                refusal,
+            }),
+        }
+    }
+
+    // The same of an edit behind `try`: an idle refusal is none.
+    fn execute_try(&mut self, text: &[u8], tried: NumberedEdit) -> Result<(), RefusedCommand>
+        ensures executed { IsExecuted (Tried (numbered_edit tried)) result self.old.session.shown
+            self.new.session.shown }
+        ensures opened { self.new.opened ≡ self.old.opened }
+        ensures written { self.new.written ≡ self.old.written }
+        ensures warned { self.new.is_warned ≡ self.old.is_warned }
+    {
+        match self.session.apply(&tried.edit) {
+            Ok(()) => {
+                self.command_log.note(text, Command::Apply(tried.edit));
+                Ok(())
+            }
+            Err(refusal) if is_idle(refusal) => Ok(()),
+            Err(refusal) => Err(RefusedCommand {
+                line: tried.line,
+                refusal,
+            }),
+        }
+    }
+
+    // The same of a step. A session is told of no chain: its lines are commands of their own.
+    fn execute_step(&mut self, text: &[u8], step: Step) -> Result<(), RefusedCommand>
+        ensures executed { IsExecuted (step_of step) result self.old.session.shown
+            self.new.session.shown }
+        ensures opened { self.new.opened ≡ self.old.opened }
+        ensures written { self.new.written ≡ self.old.written }
+        ensures warned { self.new.is_warned ≡ self.old.is_warned }
+    {
+        match step {
+            Step::Alone(alone) => self.execute_alone(text, alone),
+            Step::Try(tried) => self.execute_try(text, tried),
+            chain => {
+                self.command_log.lose();
+                execute_step(&mut self.session, &chain, &mut ())
+            }
+        }
+    }
+
+    // The same of the steps of a text, of which there may be one.
+    fn execute_only(&mut self, text: &[u8], mut steps: Vec<Step>) -> Executed
+        ensures executed { AreExecuted (map step_of steps.items) self.old.session.shown
+            self.new.session.shown result }
+        ensures opened { self.new.opened ≡ self.old.opened }
+        ensures written { self.new.written ≡ self.old.written }
+        ensures warned { self.new.is_warned ≡ self.old.is_warned }
+    {
+        if steps.len() > 1 {
+            return Executed::NoCommand;
+        }
+        match steps.pop() {
+            Some(step) => came_of(self.execute_step(text, step)),
+            None => Executed::Nothing,
+        }
+    }
+
+    // The same of a text.
+    fn execute_text(&mut self, text: &[u8]) -> Executed
+        ensures executed { IsLineExecuted text.now self.old.session.shown self.new.session.shown result }
+        ensures opened { self.new.opened ≡ self.old.opened }
+        ensures written { self.new.written ≡ self.old.written }
+        ensures warned { self.new.is_warned ≡ self.old.is_warned }
+    {
+        match parse_script(self.rt.alloc(), text) {
+            Ok(steps) => self.execute_only(text, steps),
+            Err(fault) => unread(fault),
+        }
+    }
+
     /// Executes the command of a text, if it is one: a line, or a line and below it those of its blocks.
     pub fn execute(&mut self, text: &[u8]) -> Executed
         ensures executed { IsLineExecuted text.now self.old.session.shown self.new.session.shown result }
@@ -489,11 +604,7 @@ impl<'a> Server<'a> {
             → (reply_to result ≡ []) × (self.old.is_warned ≡ true) }
         ensures name { self.new.opened.name ≡ self.old.opened.name }
     {
-        let mut made = EditMade(false);
-        let executed = execute_line(self.rt.alloc(), &mut self.session, text, &mut made);
-        if executed == Executed::Done {
-            self.command_log.note(text, &made);
-        }
+        let executed = self.execute_text(text);
         if matches!(executed, Executed::Done | Executed::Refused(_)) {
             self.is_warned = false;
         }

@@ -2,7 +2,7 @@
 //!
 //! A session does not tell how many edits the depth has dropped, so the text is compared with the
 //! one that was opened.
-ghost use Rattle.std.specs.Prelude.{◌≡◌, ◌≢◌, IfErr, OnErr, OnOk, Ok, is_some, true};
+ghost use Rattle.std.specs.Prelude.{◌≡◌, ◌≢◌, IfErr, None, OnErr, OnOk, Ok, is_some, true};
 ghost use Rattle.mk_repl.specs.Reverted.{undone};
 
 use mk_session::{Refusal, Session};
@@ -12,6 +12,7 @@ use std::alloc::Allocator;
 // Undoes all that can be undone.
 fn undo_all<A: Allocator + Copy>(session: &mut Session<A>) -> Result<(), Refusal>
     ensures undone { OnOk result (session.new.shown ≡ undone session.old.shown) }
+    ensures shut { OnOk result (session.old.shown.begun ≡ None) }
     ensures refused { IfErr result (λ refusal. (refusal ≡ Refusal.GroupOpen)
         × (is_some session.old.shown.begun ≡ true)) }
     ensures same { OnErr result (session.new.shown ≡ session.old.shown) }
@@ -47,6 +48,7 @@ pub fn revert<A: Allocator + Copy>(
     opened: &[u8],
 ) -> Result<Reverted, Refusal>
     ensures undone { OnOk result (session.new.shown ≡ undone session.old.shown) }
+    ensures shut { OnOk result (session.old.shown.begun ≡ None) }
     ensures opened { result ≡ Ok Reverted.Opened → session.new.shown.text ≡ opened.now }
     ensures other { result ≡ Ok Reverted.BeyondDepth → session.new.shown.text ≢ opened.now }
     ensures refused { IfErr result (λ refusal. (refusal ≡ Refusal.GroupOpen)

@@ -52,6 +52,10 @@ result_after k did =
       output = output_after k did.refused (ended did.shown).text;
     }
 
+-- what a run without a refusal comes to, from which this text goes out
+abbrev pub done_with : (text : List ℕ) → RunResult
+done_with text = record { outcome = Done; report = []; output = Some text }
+
 -- ---- a whole run
 
 -- a run that ends before any command

@@ -24,6 +24,6 @@ pub use engine::{read_script, run, run_steps};
 pub use mk_script::{ScriptFault, Step, parse_script};
 pub use mk_session::Command;
 pub use observer::{Observer, Reported};
-pub use outcome::{Outcome, message, status};
+pub use outcome::{Outcome, Statuses, message, status};
 pub use report::write_refusal;
 pub use step::{RefusedCommand, execute_step};

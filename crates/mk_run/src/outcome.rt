@@ -1,10 +1,12 @@
 //! How a run ends.
-ghost use Rattle.std.specs.Prelude.{◌≡◌, false};
+ghost use Rattle.std.specs.Prelude.{◌≡◌, false, max};
+ghost use Rattle.std.specs.Process.{exit_status};
 ghost use Rattle.mk_lines.specs.Device.{Writes};
-ghost use Rattle.mk_run.specs.Outcome.{message_of, outcome_of, status_of};
+ghost use Rattle.mk_run.specs.Outcome.{is_printed, message_of, outcome_of, status_of};
 
 use mk_lines::sink::{write_all, write_parts};
 use mk_lines::{ByteSink, Fault};
+use std::process::ExitCode;
 
 /// How a run ended.
 #[derive(Clone, Copy, Debug, PartialEq, Eq)]
@@ -28,6 +30,19 @@ pub enum Outcome {
     Write,
     /// A growth was refused.
     NoMemory,
+}
+
+impl Outcome {
+    /// Whether the text of a run that ended so is out.
+    pub fn is_printed(&self, keep_going: bool) -> bool
+        ensures { result ≡ is_printed self.now keep_going }
+    {
+        match self {
+            Outcome::Done => true,
+            Outcome::Refused(_) => keep_going,
+            _ => false,
+        }
+    }
 }
 
 impl From<Fault> for Outcome {
@@ -56,6 +71,37 @@ pub fn status(outcome: &Outcome) -> u8
         Outcome::NotACommand(_) | Outcome::BadDepth => 2,
         Outcome::TooLong | Outcome::TooDeep | Outcome::Read | Outcome::Write | Outcome::NoMemory =>
             3,
+    }
+}
+
+/// The greatest of some statuses.
+#[derive(Clone, Copy)]
+pub struct Statuses {
+    greatest: u8,
+}
+
+impl Statuses {
+    /// None yet, which is as good as 0.
+    pub fn new() -> Statuses
+        ensures { result.greatest ≡ 0 }
+    {
+        Statuses { greatest: 0 }
+    }
+
+    /// With one more.
+    pub fn add(&mut self, status: u8)
+        ensures { self.new.greatest ≡ max self.old.greatest status }
+    {
+        if self.greatest < status {
+            self.greatest = status;
+        }
+    }
+
+    /// The greatest as the status of the program.
+    pub fn code(self) -> ExitCode
+        ensures { exit_status result ≡ self.greatest }
+    {
+        ExitCode::from(self.greatest)
     }
 }
 

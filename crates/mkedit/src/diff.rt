@@ -36,17 +36,6 @@ pub(crate) struct DiffForm<'a> {
     pub has_color: bool,
 }
 
-// Whether a run that ended so has put its text out.
-fn is_printed(outcome: &Outcome, keep_going: bool) -> bool
-    ensures { result ≡ is_printed outcome.now keep_going }
-{
-    match outcome {
-        Outcome::Done => true,
-        Outcome::Refused(_) => keep_going,
-        _ => false,
-    }
-}
-
 /// The name of the makefile in a diff: as `patch` takes it. Standard input is `-`.
 pub(crate) fn diff_name<'a>(file: Input<'a>) -> &'a [u8] {
     match file {
@@ -109,7 +98,7 @@ where
     if sink.is_failed {
         return Outcome::NoMemory;
     }
-    if !is_printed(&outcome, keep_going) {
+    if !outcome.is_printed(keep_going) {
         return outcome;
     }
     let Ok(text) = shown_diff(alloc, old, &sink.text, form) else {

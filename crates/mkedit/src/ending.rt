@@ -1,5 +1,5 @@
 //! How the program ends: a message on standard error, and the status.
-ghost use Rattle.std.specs.Prelude.{◌≡◌, ◌≢◌, ◌++◌, [], IfErr, OnOk, false, if◌then◌else◌, max};
+ghost use Rattle.std.specs.Prelude.{◌≡◌, ◌≢◌, ◌++◌, [], IfErr, OnOk, false, if◌then◌else◌};
 ghost use Rattle.std.specs.Io.KnownBytes.{Appends};
 ghost use Rattle.std.specs.Process.{exit_status};
 ghost use Rattle.clap.specs.Values.{kind_of};
@@ -239,37 +239,6 @@ pub fn ended(rt: &HostRuntime, end: &End<'_>, form: Report) -> ExitCode
         return ExitCode::from(status(&end.outcome));
     }
     told(end, notes.as_slice(), &mut errors)
-}
-
-/// The greatest of some statuses.
-#[derive(Clone, Copy)]
-pub struct Statuses {
-    greatest: u8,
-}
-
-impl Statuses {
-    /// None yet, which is as good as 0.
-    pub fn new() -> Statuses
-        ensures { result.greatest ≡ 0 }
-    {
-        Statuses { greatest: 0 }
-    }
-
-    /// With one more.
-    pub fn add(&mut self, status: u8)
-        ensures { self.new.greatest ≡ max self.old.greatest status }
-    {
-        if self.greatest < status {
-            self.greatest = status;
-        }
-    }
-
-    /// The greatest as the status of the program.
-    pub fn code(self) -> ExitCode
-        ensures { exit_status result ≡ self.greatest }
-    {
-        ExitCode::from(self.greatest)
-    }
 }
 
 /// How a query or a help ends whose print ended so. Where nobody reads the output any more, it is done.

@@ -2,6 +2,7 @@
 //! What its words ask for, [`mk_cli`] reads; files are read and written by [`mk_fs`].
 //!
 //! - `edit`: a script over makefiles; `run`: over one of them, by [`mk_run::run_steps`].
+//! - `derive`: a script out of two makefiles, by [`mk_derive`].
 //! - `diff`: the diff of a makefile and its text, in place of that text, by [`mk_diff`].
 //! - `input`: what is read, and what it is called; `destination`: where the text of a makefile goes.
 //! - `several`: what is said of one of several makefiles; `named`: lines that begin with its name.
@@ -12,6 +13,7 @@
 //! - `session`: a makefile that is edited step by step, by [`mk_repl`].
 #![tactic(auto)]
 
+mod derive;
 mod destination;
 mod diff;
 mod edit;
@@ -49,6 +51,10 @@ fn done(rt: &HostRuntime, words: &[String]) -> ExitCode {
         Ok(Request::Edit(mut words)) => {
             words.report = words.report.at(rt.stderr().is_terminal());
             edit::edit(rt, &words)
+        }
+        Ok(Request::Derive(mut words)) => {
+            words.report = words.report.at(rt.stderr().is_terminal());
+            derive::derive(rt, words)
         }
         Ok(Request::Query(mut words)) => {
             words.report = words.report.at(rt.stderr().is_terminal());

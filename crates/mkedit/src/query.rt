@@ -16,7 +16,7 @@ ghost use Rattle.mk_run.specs.Report.{refusal_text};
 ghost use Rattle.mk_run.specs.RunEnds.{PutsOut, PutsOutIf, ReadsOnce};
 ghost use Rattle.mk_repl.specs.QueryTexts.{IsSaid, answer_refusal, answer_text, found_text, has_prefix};
 
-use crate::ending::{Effect, End, Statuses, query_outcome};
+use crate::ending::{Effect, End, query_outcome};
 use crate::input::{input_name, name_of, open_input};
 use crate::several::{Told, put_named, tell_end, tell_named};
 use mk_cli::{Form, Input, Progress, QueryWords, Question, Report};
@@ -25,7 +25,7 @@ use mk_fs::{STANDARD_OUTPUT, Stream, WithError};
 use mk_lines::source::{BUFFER, MAX_TEXT, read_all};
 use mk_lines::{ByteSink, ByteSource, Fault, StdSink, StdSource};
 use mk_repl::{Found, Unanswered, found_for, put_found};
-use mk_run::{Outcome, write_refusal};
+use mk_run::{Outcome, Statuses, write_refusal};
 use mk_session::{Refusal, Session};
 use mk_tree::Doc;
 use std::alloc::{Allocator, Global};

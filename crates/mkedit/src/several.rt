@@ -14,7 +14,7 @@ ghost use Rattle.mk_session.specs.Sessions.{IsBadDepth};
 ghost use Rattle.mkedit.specs.NamedLines.{named_lines};
 
 use crate::destination::open_makefile;
-use crate::ending::{Effect, End, Statuses, UNWANTED_CHANGE, notes_on, put_message};
+use crate::ending::{Effect, End, UNWANTED_CHANGE, notes_on, put_message};
 use crate::input::{input_name, name_of};
 use crate::named::named_lines;
 use crate::run::{Run, run_over, run_with_notes};
@@ -24,7 +24,7 @@ use mk_fs::Cause;
 use mk_lines::sink::write_all;
 use mk_lines::{ByteSink, Fault, StdSink};
 use mk_notes::file_in_json;
-use mk_run::{Outcome, status};
+use mk_run::{Outcome, Statuses, status};
 use std::alloc::Allocator;
 use std::io::{ErrorKind, IsTerminal};
 use std::process::ExitCode;

@@ -88,15 +88,22 @@ fn lines_before(heap: &Heap) -> Result<Site<&Heap>, AllocError> {
 
 /// The copy of the place of a number, which has to be the same.
 fn place_at(heap: &Heap, number: u64) -> Result<Place<&Heap>, AllocError> {
-    let place = match number {
-        23 => Place::before_var(heap, b"A")?,
-        24 => Place::after_var(heap, b"A")?,
-        25 => Place::before_rule(heap, b"A")?,
-        26 => Place::before_rule(heap, b"A")?.nth(2),
-        _ => Place::Bottom,
-    };
-    let copy = clone_place(&place)?;
-    if is_same_place(&copy, &place) {
+    same_copy(&place_of(heap, number)?)
+}
+
+fn place_of(heap: &Heap, number: u64) -> Result<Place<&Heap>, AllocError> {
+    match number {
+        23 => Place::before_var(heap, b"A"),
+        24 => Place::after_var(heap, b"A"),
+        25 => Place::before_rule(heap, b"A"),
+        26 => Ok(Place::before_rule(heap, b"A")?.nth(2)),
+        _ => Ok(Place::Bottom),
+    }
+}
+
+fn same_copy<'h>(place: &Place<&'h Heap>) -> Result<Place<&'h Heap>, AllocError> {
+    let copy = clone_place(place)?;
+    if is_same_place(&copy, place) {
         Ok(copy)
     } else {
         Err(AllocError)
@@ -114,51 +121,124 @@ pub fn applied(case: &Case<'_>, call: &[u8], makefile: &[u8]) -> Result<Vec<u8>,
 }
 
 /// Makes the call of a number.
+// Three calls stand in a function, since where many ways join, all that each of them tells is carried
+// through the proof of the others: with all calls in one function that proof took half an hour.
 fn apply_at(session: &mut Session<&Heap>, number: u64) -> Result<(), Refusal> {
+    match number {
+        0 | 1 | 22 => change_value(session, number),
+        2 | 3 | 23 => change_word(session, number),
+        24 | 26 | 27 => change_beside(session, number),
+        4 | 5 | 31 => change_values(session, number),
+        6 | 7 | 32 => change_words(session, number),
+        33..=35 => change_texts(session, number),
+        8 | 20 | 25 => change_assignment(session, number),
+        9 | 10 | 21 => change_rule(session, number),
+        11..=13 => change_prerequisite(session, number),
+        14..=16 => write_recipe(session, number),
+        17..=19 => change_recipe(session, number),
+        28..=30 => change_lines(session, number),
+        _ => change_recipes(session, number),
+    }
+}
+
+fn change_value(session: &mut Session<&Heap>, number: u64) -> Result<(), Refusal> {
     match number {
         0 => session.set(b"A", b"b"),
         1 => session.append(b"A", b"b"),
+        _ => session.prepend(b"A", b"b"),
+    }
+}
+
+fn change_word(session: &mut Session<&Heap>, number: u64) -> Result<(), Refusal> {
+    match number {
         2 => session.add_word(b"A", b"b"),
         3 => session.drop_word(b"A", b"b"),
+        _ => session.replace_word(b"A", b"b", b"c"),
+    }
+}
+
+fn change_beside(session: &mut Session<&Heap>, number: u64) -> Result<(), Refusal> {
+    match number {
+        24 => session.substitute(b"A", b"b", b"c"),
+        26 => session.add_before(b"A", b"b", b"c"),
+        _ => session.add_after(b"A", b"b", b"c"),
+    }
+}
+
+fn change_values(session: &mut Session<&Heap>, number: u64) -> Result<(), Refusal> {
+    match number {
         4 => session.all_set(b"A", b"b"),
         5 => session.all_append(b"A", b"b"),
+        _ => session.all_prepend(b"A", b"b"),
+    }
+}
+
+fn change_words(session: &mut Session<&Heap>, number: u64) -> Result<(), Refusal> {
+    match number {
         6 => session.all_add_word(b"A", b"b"),
         7 => session.all_drop_word(b"A", b"b"),
+        _ => session.all_replace_word(b"A", b"b", b"c"),
+    }
+}
+
+fn change_texts(session: &mut Session<&Heap>, number: u64) -> Result<(), Refusal> {
+    match number {
+        33 => session.all_substitute(b"A", b"b", b"c"),
+        34 => session.all_operator(b"A", Flavor::Simple),
+        _ => session.values_substitute(b"A", b"b"),
+    }
+}
+
+fn change_assignment(session: &mut Session<&Heap>, number: u64) -> Result<(), Refusal> {
+    match number {
         8 => session.unset(b"A"),
+        20 => session.assign(Place::Bottom, b"A", Flavor::Simple, b"b"),
+        _ => session.operator(b"A", Flavor::Simple),
+    }
+}
+
+fn change_rule(session: &mut Session<&Heap>, number: u64) -> Result<(), Refusal> {
+    match number {
         9 => session.unrule(b"A"),
         10 => session.rename(b"A", b"b"),
-        11 => session.depend(b"A", b"b"),
-        12 => session.depend_order(b"A", b"b"),
-        13 => session.undepend(b"A", b"b"),
-        14 => session.recipe(b"A", b"b"),
-        15 => session.recipe_insert(b"A", 1, b"b"),
-        16 => session.recipe_set(b"A", 1, b"b"),
-        17 => session.recipe_del(b"A", 1),
-        18 => session.recipe_replace(b"A", b"b", b"c"),
-        19 => session.recipe_remove(b"A", b"b"),
-        20 => session.assign(Place::Bottom, b"A", Flavor::Simple, b"b"),
-        22 => session.prepend(b"A", b"b"),
-        23 => session.replace_word(b"A", b"b", b"c"),
-        24 => session.substitute(b"A", b"b", b"c"),
-        25 => session.operator(b"A", Flavor::Simple),
-        26 => session.add_before(b"A", b"b", b"c"),
-        27 => session.add_after(b"A", b"b", b"c"),
-        28 => session.insert(Site::Top, b"A"),
-        29 => session.line_replace(b"ifdef B", b"ifndef B"),
-        30 => session.line_remove(b"A=b"),
-        31..=37 => apply_to_lines_at(session, number),
         _ => session.rule(Place::Bottom, b"A", RuleSeparator::Single, b"b"),
     }
 }
 
-/// Makes the call of a number that is an edit of several lines.
-fn apply_to_lines_at(session: &mut Session<&Heap>, number: u64) -> Result<(), Refusal> {
+fn change_prerequisite(session: &mut Session<&Heap>, number: u64) -> Result<(), Refusal> {
     match number {
-        31 => session.all_prepend(b"A", b"b"),
-        32 => session.all_replace_word(b"A", b"b", b"c"),
-        33 => session.all_substitute(b"A", b"b", b"c"),
-        34 => session.all_operator(b"A", Flavor::Simple),
-        35 => session.values_substitute(b"A", b"b"),
+        11 => session.depend(b"A", b"b"),
+        12 => session.depend_order(b"A", b"b"),
+        _ => session.undepend(b"A", b"b"),
+    }
+}
+
+fn write_recipe(session: &mut Session<&Heap>, number: u64) -> Result<(), Refusal> {
+    match number {
+        14 => session.recipe(b"A", b"b"),
+        15 => session.recipe_insert(b"A", 1, b"b"),
+        _ => session.recipe_set(b"A", 1, b"b"),
+    }
+}
+
+fn change_recipe(session: &mut Session<&Heap>, number: u64) -> Result<(), Refusal> {
+    match number {
+        17 => session.recipe_del(b"A", 1),
+        18 => session.recipe_replace(b"A", b"b", b"c"),
+        _ => session.recipe_remove(b"A", b"b"),
+    }
+}
+
+fn change_lines(session: &mut Session<&Heap>, number: u64) -> Result<(), Refusal> {
+    match number {
+        28 => session.insert(Site::Top, b"A"),
+        29 => session.line_replace(b"ifdef B", b"ifndef B"),
+        _ => session.line_remove(b"A=b"),
+    }
+}
+
+fn change_recipes(session: &mut Session<&Heap>, number: u64) -> Result<(), Refusal> {
+    match number {
         36 => session.recipe_substitute(b"A", b"b", b"c"),
         _ => session.recipes_substitute(b"A", b"b"),
     }

@@ -140,6 +140,10 @@ fn run_over<A: Allocator + Copy>(
 /// the text. Another end without memory than an early one is a write fault.
 pub fn ended(case: &Case<'_>, run: [&[u8]; 3], report: &[u8]) -> Result<Vec<u8>, Fault> {
     let answer = run_over(case.alloc, case.heap, run, 1_000, None);
+    shown(case.alloc, &answer, report)
+}
+
+fn shown(alloc: Global, answer: &Answer, report: &[u8]) -> Result<Vec<u8>, Fault> {
     if answer.outcome == Outcome::NoMemory {
         let is_early = answer.is_early(Outcome::NoMemory, report);
         return Err(if is_early {
@@ -148,20 +152,24 @@ pub fn ended(case: &Case<'_>, run: [&[u8]; 3], report: &[u8]) -> Result<Vec<u8>,
             Fault::Write
         });
     }
-    let outcome = answer.outcome;
-    let said = format!(in case.alloc; "{outcome:?}, {}: ", status(&outcome))?;
-    let mut shown = MemorySink::new(said.into_bytes(), 7);
-    message(&outcome, &mut shown)?;
-    let told = answer.told.as_bytes();
+    let end = end_of(alloc, answer.outcome)?;
     let parts = [
-        shown.bytes(),
-        told,
+        end.bytes(),
+        answer.told.as_bytes(),
         b"|",
         answer.report.bytes(),
         b"|",
         answer.out.bytes(),
     ];
-    Ok(joined(case.alloc, &parts)?)
+    Ok(joined(alloc, &parts)?)
+}
+
+/// An outcome with its status and its message.
+fn end_of(alloc: Global, outcome: Outcome) -> Result<MemorySink, Fault> {
+    let said = format!(in alloc; "{outcome:?}, {}: ", status(&outcome))?;
+    let mut shown = MemorySink::new(said.into_bytes(), 7);
+    message(&outcome, &mut shown)?;
+    Ok(shown)
 }
 
 /// Whether a run with this report and this text ends as it has to where each call of each device fails in

@@ -1,6 +1,5 @@
--- By what the line is.
-use Rattle.std.proofs.Common.{refl, subst, map, inl, inr}
-use Rattle.mk_script.specs.Scripts.{IsScriptFault, step_of}
+use Rattle.std.proofs.Common.{subst, map, inl}
+use Rattle.mk_script.specs.Scripts.{step_of}
 use Rattle.mk_repl.specs.Replies.{AreExecuted}
 use Rattle.mk_repl.proofs.answer.execute_line.Goals as goal
 
@@ -13,6 +12,5 @@ returns-in-Ok g c =
           c.as_slice.ensures.value c.execute_only.ensures,
     )
 
-pub returns-in-Err-NoMemory : goal.returns-in-Err-NoMemory
-returns-in-Err-NoMemory g c =
-    inr (inl (subst (λ fault. IsScriptFault c.args.line.now fault) c.in-Err-NoMemory.field-0-is c.in-Err-NoMemory.ensures.fault, refl, refl))
+pub returns-in-Err : goal.returns-in-Err
+returns-in-Err g c = c.unread.ensures c.args.line.now c.args.session.now.shown c.in-Err.ensures.fault

@@ -2,7 +2,7 @@
 use Rattle.std.proofs.Common.{◌≡◌, ◌∙◌, sym, ap, subst, List, [], ◌∷◌, ◌++◌, ℕ, map, rules}
 use Rattle.std.specs.Prelude.{◌≢◌, Option}
 use Rattle.mk_script.specs.SeenFields.{bytes}
-use Rattle.mk_repl.specs.CommandLines.{Takes, waited_behind, waited_for}
+use Rattle.mk_repl.specs.CommandLines.{waited_behind, waited_for}
 use Rattle.mk_repl.specs.InputLines.{LosesLine}
 use Rattle.mk_repl.proofs.CommandLineLemmas.{Takes-none, Takes-trans, Waits, behind-long, waits-closed, waits-more, waits-none}
 use Rattle.mk_repl.proofs.TalkLemmas.{prompts-more, prompts-none}

@@ -1,0 +1,2 @@
+-- Lemmas on runs that are done
+mod DoneLemmas
