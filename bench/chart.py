@@ -23,6 +23,7 @@ text { font: 14px sans-serif; fill: #1f2328 }
 .s2 { stroke: #0b5cad } .f2 { fill: #0b5cad }
 .s3 { stroke: #00704f } .f3 { fill: #00704f }
 .s4 { stroke: #8a2b8f } .f4 { fill: #8a2b8f }
+.s5 { stroke: #6e5600 } .f5 { fill: #6e5600 }
 .beside { stroke-width: 1.5; stroke-dasharray: 2 4 }
 @media (prefers-color-scheme: dark) {
 text { fill: #f0f6fc }
@@ -33,12 +34,13 @@ text { fill: #f0f6fc }
 .s2 { stroke: #6cb6ff } .f2 { fill: #6cb6ff }
 .s3 { stroke: #56d364 } .f3 { fill: #56d364 }
 .s4 { stroke: #d2a8ff } .f4 { fill: #d2a8ff }
+.s5 { stroke: #e3c55a } .f5 { fill: #e3c55a }
 }
 """
 
 
 class Panel(NamedTuple):
-    """A title, what the amounts are, how some of them are called, and at most five curves.
+    """A title, what the amounts are, how some of them are called, and at most six curves.
 
     A curve has a name, and points of an amount and the seconds that it takes. Beside some curves
     stands a dotted one of the same colour, which has points alone: they are given by the curve's name.

@@ -6,9 +6,9 @@
 KIND is the edit, with its place where it has one, or `mixture`. Each edit has a name of its own: one
 variable, or one rule, of each of so many equal parts of the makefile, in a random order. Each is
 accepted. With `all` before the edit the script is this one edit, which changes COUNT lines of a makefile of the
-kind `every-COUNT`. In the mixture eight of ten commands are edits of random kinds, and somewhere among them an
-`undo` and a `redo` follow each other. The kinds of OF_COUNTED are for a makefile of the kind `counted`. The same
-arguments give the same script.
+kind `every-COUNT`. In the mixture eight of ten commands are edits of random kinds, of all but `recipe-subst`, and
+somewhere among them an `undo` and a `redo` follow each other. The kinds of OF_COUNTED are for a makefile of the
+kind `counted`. The same arguments give the same script.
 """
 
 import random
@@ -17,8 +17,11 @@ import sys
 from pathlib import Path
 
 MIXTURE = "mixture"
-# A variable with the first word of its value, which it has once, and its rule with the header file that it needs.
-PAIR = re.compile(r"(?m)^([A-Z]+\d+) \S+ (\S+)(?=\s)(?!.* \2\s).*\n([a-z]+\d+\.o): \S+ (?:\\\n )?(\S+\.h) ")
+# The line of a variable with its value, whose first word it has once, and its rule with the header file that it needs.
+PAIR = re.compile(
+    r"(?m)^(?P<line>(?P<variable>[A-Z]+\d+) \S+ (?P<value>(?P<flag>\S+)(?=\s)(?!.* (?P=flag)\s).*?)(?: #.*)?)\n"
+    r"(?P<target>[a-z]+\d+\.o): \S+ (?:\\\n )?(?P<header>\S+\.h) "
+)
 COMMANDS = {
     "set": "set {variable} value",
     "append": "append {variable} -DNEW={number}",
@@ -28,18 +31,24 @@ COMMANDS = {
     "add-after": "add-after {variable} {flag} -DNEW={number}",
     "subst": "subst {variable} {flag} -DNEW={number}",
     "operator": "operator {variable} ::=",
+    "set-if": 'set-if {variable} "{value}" value',
     "unset": "unset {variable}",
+    "comment-out": "comment-out {variable}",
     "assign bottom": "assign bottom NEW_{number} = value",
     "assign after-var": "assign after-var {variable} NEW_{number} := value",
     "rule before-rule": 'rule before-rule {target} new{number} : "{target} new.h"',
     "unrule": "unrule {target}",
     "depend": "depend {target} new{number}.h",
     "undepend": "undepend {target} {header}",
+    "depend-replace": "depend-replace {target} {header} new{number}.h",
     "recipe": 'recipe {target} "@echo {number}"',
     "recipe-set": 'recipe-set {target} 1 "$(CC) -DNEW={number} -c $<"',
     "recipe-del": "recipe-del {target} 1",
     "recipe-insert": 'recipe-insert {target} 1 "@echo {number}"',
+    "recipe-subst": 'recipe-subst {target} $(CC) "$(CC) -DNEW={number}"',
     "rename": "rename {target} new/{number}.o",
+    "insert after-rule": 'insert after-rule {target} "# {number}"',
+    "line-replace": 'line-replace "{line}" "NEW_{number} = value"',
 }
 # One edit of every line of a name.
 OF_EVERY_LINE = {
@@ -57,8 +66,9 @@ OF_COUNTED = {
     "recipe-set of a high number": 'recipe-set long {number} "@echo value"',
     "recipe over blank lines": 'recipe gap "@echo {number}"',
 }
-# How many edits stand in so many commands of a mixture.
+# How many edits stand in so many commands of a mixture, and the kind of which it has none: each walks over all lines.
 EDITS, TURN = 8, 10
+UNMIXED = "recipe-subst"
 
 
 class Script:
@@ -72,20 +82,19 @@ class Script:
 
     def pairs(self, makefile, count):
         """What so many commands name, from all over the makefile."""
-        found = PAIR.findall(makefile)
+        found = [it.groupdict() for it in PAIR.finditer(makefile)]
         if len(found) < count:
             sys.exit(f"make_many.py: the makefile has only {len(found)} pairs")
         chosen = [found[(it + 1) * len(found) // count - 1] for it in range(count)]
         chosen.sort(key=lambda _: self.draw())
-        names = ("variable", "flag", "target", "header")
         for number, parts in enumerate(chosen):
-            yield {"number": number, **dict(zip(names, parts))}
+            yield {"number": number, **parts}
 
     def edits(self, makefile, kind, count):
         """So many commands of a kind, or of kinds that are drawn."""
+        kinds = [it for it in COMMANDS if it != UNMIXED] if kind == MIXTURE else [kind]
         for pair in self.pairs(makefile, count):
-            command = self.pick([*COMMANDS.values()]) if kind == MIXTURE else COMMANDS[kind]
-            yield command.format(**pair)
+            yield COMMANDS[self.pick(kinds)].format(**pair)
 
     def counted(self, makefile, kind, count):
         most = makefile.count("\nONE = ")

@@ -28,10 +28,11 @@ _mkedit_refusals="BadArgument Reserved RecipePrefix NoSuch Ambiguous Absent Alre
 # made until here
 
 # made by tools/texts: commands
-_mkedit_script_commands="set append add drop prepend replace add-before add-after subst operator \
-    values-subst unset assign rule unrule depend depend-order undepend recipe recipe-insert \
-    recipe-set recipe-del recipe-replace recipe-remove recipe-subst recipes-subst insert \
-    line-replace line-remove rename nth all undo redo begin end cancel try or"
+_mkedit_script_commands="set set-if append add drop prepend replace add-before add-after subst \
+    operator values-subst unset comment-out uncomment assign rule unrule depend depend-order \
+    undepend depend-replace recipe recipe-insert recipe-set recipe-del recipe-replace recipe-remove \
+    recipe-subst recipes-subst insert line-replace line-remove rule-replace rule-remove rename nth \
+    all undo redo begin end cancel try or"
 # made until here
 
 # The makefile that the command line names, or else the one that make reads in this folder.

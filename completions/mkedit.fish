@@ -62,7 +62,7 @@ complete -c mkedit -n '__fish_seen_subcommand_from get; and test (count (command
 complete -c mkedit -n '__fish_seen_subcommand_from edit derive vars rules recipes check caveats get session; and not __fish_seen_subcommand_from help' -F
 complete -c mkedit -n '__fish_seen_subcommand_from help' -a 'edit derive vars rules recipes check caveats get explain session help'
 # made by tools/texts: commands
-set -l script_commands set append add drop prepend replace add-before add-after subst operator values-subst unset assign rule unrule depend depend-order undepend recipe recipe-insert recipe-set recipe-del recipe-replace recipe-remove recipe-subst recipes-subst insert line-replace line-remove rename nth all undo redo begin end cancel try or
+set -l script_commands set set-if append add drop prepend replace add-before add-after subst operator values-subst unset comment-out uncomment assign rule unrule depend depend-order undepend depend-replace recipe recipe-insert recipe-set recipe-del recipe-replace recipe-remove recipe-subst recipes-subst insert line-replace line-remove rule-replace rule-remove rename nth all undo redo begin end cancel try or
 # made until here
 complete -c mkedit -n '__fish_seen_subcommand_from help' -a "$script_commands"
 # made by tools/texts: refusals

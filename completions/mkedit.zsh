@@ -170,10 +170,11 @@ _mkedit_help() {
     local -a words
     # made by tools/texts: commands
     words=(
-        set append add drop prepend replace add-before add-after subst operator values-subst unset
-        assign rule unrule depend depend-order undepend recipe recipe-insert recipe-set recipe-del
-        recipe-replace recipe-remove recipe-subst recipes-subst insert line-replace line-remove
-        rename nth all undo redo begin end cancel try or
+        set set-if append add drop prepend replace add-before add-after subst operator values-subst
+        unset comment-out uncomment assign rule unrule depend depend-order undepend depend-replace
+        recipe recipe-insert recipe-set recipe-del recipe-replace recipe-remove recipe-subst
+        recipes-subst insert line-replace line-remove rule-replace rule-remove rename nth all undo
+        redo begin end cancel try or
     )
     # made until here
     _alternative \

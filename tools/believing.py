@@ -12,7 +12,7 @@ sys.path.insert(0, str(Path(__file__).resolve().parent.parent))
 from tests.gate.believed import Believed, Place  # noqa: E402
 
 # The law that has all definitions of the statement, and how many lines these may be.
-STATEMENT, MOST = "mk_session::calls_are_taken_back", 164
+STATEMENT, MOST = "mk_session::calls_are_taken_back", 174
 # The most characters of a cell of a table.
 WIDEST = 120
 # The main calls, lowest first. Each is named by its crate, its type and its name.

@@ -6,12 +6,13 @@ use crate::table::Table;
 use std::io::{self, BufWriter, Write};
 use std::mem;
 
-/// Under which names the lines are noted: those of variables, of targets, of targets and prerequisites.
+/// Under what the lines are noted: names of variables, targets, targets and prerequisites, their texts.
 #[derive(Default)]
 pub struct Wanted {
     pub variables: bool,
     pub targets: bool,
     pub words: bool,
+    pub texts: bool,
 }
 
 /// Where a line stands in the text, and the lines beside it. It keeps these while it is out of the
@@ -41,6 +42,8 @@ pub struct Document {
     pub variables: Table,
     /// By targets, and where that is wanted by prerequisites too.
     pub rules: Table,
+    /// By what they say, without the line feed.
+    pub texts: Table,
     /// What each edit has changed. The last one may still be at work.
     done: Vec<Vec<Change>>,
     undone: Vec<Vec<Change>>,
@@ -54,6 +57,7 @@ impl Document {
             lines: Vec::with_capacity(text.len() / 32),
             variables: Table::new(size_if(wanted.variables)),
             rules: Table::new(size_if(wanted.targets || wanted.words)),
+            texts: Table::new(size_if(wanted.texts)),
             wanted,
             done: Vec::new(),
             undone: Vec::new(),
@@ -110,6 +114,9 @@ impl Document {
     pub fn note(&mut self, number: u32) {
         let it = &self.lines[number as usize];
         let line = &self.text[it.start as usize..it.end as usize];
+        if self.wanted.texts {
+            self.texts.put_in(line.strip_suffix(b"\n").unwrap_or(line), number);
+        }
         match class_of(line) {
             Class::Assign { name, .. } if self.wanted.variables => {
                 self.variables.put_in(&line[name], number);

@@ -31,7 +31,16 @@ pub fn obey(document: &mut Document, command: &Command<'_>) -> Option<()> {
         [kind @ (b"add-before" | b"add-after"), name, word, new] => {
             put_beside(document, variable(document, name)?, kind == b"add-after", word, new)?;
         }
+        [b"set-if", name, old, value] => {
+            let number = only(variables(document, name).filter(|it| has_value(document, *it, old)))?;
+            give(document, number, value, false)?;
+        }
         [b"unset", name] => document.take_out(variable(document, name)?),
+        [b"comment-out", name] => {
+            let number = variable(document, name)?;
+            let line = document.line(number).to_vec();
+            document.exchange(number, &[b"#", &line]);
+        }
         [b"assign", ref place @ .., name, operator, value] => {
             let gap: &[u8] = if value.is_empty() { b"" } else { b" " };
             document.put_in(place_of(document, place)?, &[name, b" ", operator, gap, value, b"\n"]);
@@ -44,10 +53,9 @@ pub fn obey(document: &mut Document, command: &Command<'_>) -> Option<()> {
         [b"depend", target, word] => depend(document, target, word, false)?,
         [b"depend-order", target, word] => depend(document, target, word, true)?,
         [b"undepend", target, word] => undepend(document, target, word)?,
+        [b"depend-replace", target, old, new] => depend_on_other(document, target, old, new)?,
         [b"recipe", target, line] => {
-            let header = rule(document, target)?;
-            let last = recipe(document, header).last().unwrap_or(header);
-            document.put_in(last, &[b"\t", line, b"\n"]);
+            document.put_in(end_of_rule(document, target)?, &[b"\t", line, b"\n"]);
         }
         [b"recipe-set", target, number, line] => {
             document.exchange(recipe_line(document, target, number)?, &[b"\t", line, b"\n"]);
@@ -57,7 +65,15 @@ pub fn obey(document: &mut Document, command: &Command<'_>) -> Option<()> {
             let below = place_in_recipe(document, target, number)?;
             document.put_in(below, &[b"\t", line, b"\n"]);
         }
+        [b"recipe-subst", target, old, new] => substitute_in_recipe(document, target, old, new)?,
         [b"rename", old, new] => rename(document, old, new)?,
+        [b"insert", b"after-rule", target, line] => {
+            document.put_in(end_of_rule(document, target)?, &[line, b"\n"]);
+        }
+        [b"line-replace", old, new] => {
+            let number = only(lines_that_say(document, old))?;
+            document.exchange(number, &[new, b"\n"]);
+        }
         _ => return None,
     }
     Some(())
@@ -75,6 +91,19 @@ fn variables(document: &Document, name: &[u8]) -> impl Iterator<Item = u32> {
         let line = document.line(*number);
         let is_named = matches!(class_of(line), Class::Assign { name: it, .. } if line[it.clone()] == *name);
         is_named && document.is_in(*number)
+    })
+}
+
+/// Whether a line assigns this value.
+fn has_value(document: &Document, number: u32, value: &[u8]) -> bool {
+    let line = document.line(number);
+    matches!(class_of(line), Class::Assign { operator_end, .. } if line[value_of(line, operator_end)] == *value)
+}
+
+/// The lines that say a text.
+fn lines_that_say(document: &Document, text: &[u8]) -> impl Iterator<Item = u32> {
+    document.texts.lines(text).filter(move |it| {
+        document.is_in(*it) && document.line(*it).strip_suffix(b"\n") == Some(text)
     })
 }
 
@@ -173,10 +202,10 @@ fn exchange_places(
     Some(())
 }
 
-/// Where a text stands in a value, from the left.
-fn occurrences(line: &[u8], value: Range<usize>, text: &[u8]) -> Vec<Range<usize>> {
-    let (mut found, mut at) = (Vec::new(), value.start);
-    while at + text.len() <= value.end {
+/// Where a text stands in a part of a line, from the left.
+fn occurrences(line: &[u8], part: Range<usize>, text: &[u8]) -> Vec<Range<usize>> {
+    let (mut found, mut at) = (Vec::new(), part.start);
+    while at + text.len() <= part.end {
         let is_here = line[at..].starts_with(text);
         if is_here {
             found.push(at..at + text.len());
@@ -265,6 +294,12 @@ fn recipe(document: &Document, header: u32) -> impl Iterator<Item = u32> {
     })
 }
 
+/// The last line of the recipe of a rule, or the rule's where it has none.
+fn end_of_rule(document: &Document, target: &[u8]) -> Option<u32> {
+    let header = rule(document, target)?;
+    Some(recipe(document, header).last().unwrap_or(header))
+}
+
 /// The index of what a number counts from 1.
 fn index_of(number: &[u8]) -> Option<usize> {
     str::from_utf8(number).ok()?.parse::<usize>().ok()?.checked_sub(1)
@@ -341,6 +376,34 @@ fn undepend(document: &mut Document, target: &[u8], word: &[u8]) -> Option<()> {
     let places = words(&line, from).filter(|it| line[it.clone()] == *word).map(|it| with_gap(&line, it));
     document.exchange(number, &replaced(&line, places, b"")?);
     Some(())
+}
+
+/// Puts a prerequisite in the place of another.
+fn depend_on_other(document: &mut Document, target: &[u8], old: &[u8], new: &[u8]) -> Option<()> {
+    let number = rule(document, target)?;
+    let (line, from) = copied(document, number)?;
+    if words(&line, from).any(|it| line[it] == *new) {
+        return None;
+    }
+    let places = words(&line, from).filter(|it| line[it.clone()] == *old);
+    document.exchange(number, &replaced(&line, places, new)?);
+    document.note_word(new, number);
+    Some(())
+}
+
+/// Puts a text in the place of another in the recipe of a rule.
+fn substitute_in_recipe(document: &mut Document, target: &[u8], old: &[u8], new: &[u8]) -> Option<()> {
+    let lines: Vec<u32> = recipe(document, rule(document, target)?).collect();
+    let mut is_found = false;
+    for number in lines {
+        let line = document.line(number).to_vec();
+        let found = occurrences(&line, 1..line.len(), old);
+        if let Some(parts) = replaced(&line, found.into_iter(), new) {
+            document.exchange(number, &parts);
+            is_found = true;
+        }
+    }
+    is_found.then_some(())
 }
 
 fn rename(document: &mut Document, old: &[u8], new: &[u8]) -> Option<()> {

@@ -3,8 +3,8 @@
 //!     plain edit SCRIPT FILE    does the commands of the script and writes the text
 //!
 //! It cuts the text into a linked list of lines and notes in tables under which names they stand; then
-//! each edit looks its lines up there. It does the twelve edits, `undo` and `redo` as mkedit does over
-//! the texts of bench/many, and `nth` before edits of a value; it promises nothing, and leaves this out:
+//! each edit looks its lines up there. It does the edits of bench/many, `undo` and `redo` as mkedit does
+//! over the texts there, and `nth` before edits of a value; it promises nothing, and leaves this out:
 //!
 //!     most causes of refusal    it ends where a line is not there, or is there twice, and tests no field
 //!     contexts                  a line that begins with a tab is a recipe line, and each other line

@@ -19,7 +19,8 @@ pub fn wanted(commands: &[(usize, Command<'_>)]) -> Wanted {
         match &command[0][..] {
             b"set" | b"append" | b"drop" | b"all" | b"nth" | b"unset" => wanted.variables = true,
             b"prepend" | b"replace" | b"subst" | b"operator" => wanted.variables = true,
-            b"add-before" | b"add-after" => wanted.variables = true,
+            b"add-before" | b"add-after" | b"set-if" | b"comment-out" => wanted.variables = true,
+            b"line-replace" => wanted.texts = true,
             b"assign" | b"rule" if command[1].ends_with(b"-var") => wanted.variables = true,
             b"assign" | b"rule" if &command[1][..] == b"bottom" => {}
             b"rename" => wanted.words = true,

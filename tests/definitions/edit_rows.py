@@ -48,11 +48,12 @@ REFUSALS = dict(
     )
 )
 REFUSALS[21] = "Misread"
-# The edits that are checked by reading.
+# The edits that read no line where another cause than `Misread` holds, and the change of values that does not.
 CHECKED = (
-    "PrependValue ReplaceWord InsertBefore InsertAfter SubstituteValue SetOperator"
-    " ChangeEach SubstValues SubstRecipe SubstRecipes"
+    "PrependValue ReplaceWord InsertBefore InsertAfter SubstituteValue SetOperator SetValueIf ReplacePrereq"
+    " CommentOut Uncomment ChangeEach SubstValues SubstRecipe SubstRecipes"
 ).split()
+CHECKED_CHANGE = "SetIf"
 
 
 def antt_refusal(report):
@@ -70,19 +71,24 @@ def antt_span(span):
     return f"span {int(start)} {int(end)} {antt_text(bytes.fromhex(new))}"
 
 
-def antt_not_made(row, name, refusal):
-    """The refusal of a row's edit, of this name, and its cost where the table and the definitions say it, as a term."""
+def is_checked(name, *arguments):
+    """Whether an edit reads no line where another cause than `Misread` holds."""
+    return name in CHECKED or name == "ChangeValues" and arguments[1][0] == CHECKED_CHANGE
+
+
+def antt_not_made(row, edit, refusal):
+    """The refusal of a row's edit, and its cost where the table and the definitions say it, as a term."""
     if "cost" not in row:
         return f"Refused {refusal}"
-    is_tried = name not in CHECKED or refusal == "Misread"
+    is_tried = not is_checked(*edit) or refusal == "Misread"
     return f"NotMade {int(row['cost'])} {refusal}" if is_tried else f"NotTried {refusal}"
 
 
-def answer_of(row, name):
-    """The answer of a row, whose edit has this name, as a term."""
+def answer_of(row, edit):
+    """The answer of a row, which has this edit, as a term."""
     report = unescape(row["stderr"])
     if report:
-        return antt_not_made(row, name, antt_refusal(report))
+        return antt_not_made(row, edit, antt_refusal(report))
     outcome = f"Becomes {antt_text(bytes_of(row, 'stdout'))}"
     if "spans" not in row:
         return outcome
@@ -96,7 +102,7 @@ def rows_of(table):
         steps = meaning_of(bytes_of(row, "script")) if row["status"] in ("0", "1") else []
         if len(steps) == 1 and is_edit(steps[0]):
             _, *edit = steps[0]
-            yield row["name"], [bare(antt_text(bytes_of(row, "makefile"))), bare(antt_edit(*edit)), answer_of(row, edit[0])]
+            yield row["name"], [bare(antt_text(bytes_of(row, "makefile"))), bare(antt_edit(*edit)), answer_of(row, edit)]
 
 
 IMPORTS = [

@@ -37,6 +37,7 @@ FIELD = re.compile(rb'[ \t]*(?:"((?:[^"\\]|\\["\\])*)"|([^ \t"][^ \t]*))(?=[ \t]
 # how many texts follow.
 EDITS = {
     b"set": ("SetValue", [], 2),
+    b"set-if": ("SetValueIf", [], 3),
     b"append": ("AppendValue", [], 2),
     b"add": ("AddWord", [], 2),
     b"drop": ("RemoveWord", [], 2),
@@ -46,16 +47,21 @@ EDITS = {
     b"add-after": ("InsertAfter", [], 3),
     b"subst": ("SubstituteValue", [], 3),
     b"unset": ("RemoveAssign", [], 1),
+    b"comment-out": ("CommentOut", [], 1),
+    b"uncomment": ("Uncomment", [], 1),
     b"unrule": ("RemoveRule", [], 1),
     b"depend": ("AddPrereq", [False], 2),
     b"depend-order": ("AddPrereq", [True], 2),
     b"undepend": ("RemovePrereq", [], 2),
+    b"depend-replace": ("ReplacePrereq", [], 3),
     b"recipe": ("AddRecipe", [], 2),
     b"recipe-replace": ("SetRecipeByText", [], 3),
     b"recipe-remove": ("RemoveRecipeByText", [], 2),
     b"recipe-subst": ("SubstRecipe", [], 3),
     b"line-replace": ("ReplaceLines", [], 2),
     b"line-remove": ("RemoveLines", [], 1),
+    b"rule-replace": ("ReplaceRule", [], 2),
+    b"rule-remove": ("RemoveWholeRule", [], 1),
 }
 # The edits before which no number stands, by their word: their names.
 UNNUMBERED = {b"rename": "RenameTarget", b"values-subst": "SubstValues", b"recipes-subst": "SubstRecipes"}
@@ -63,6 +69,7 @@ UNNUMBERED = {b"rename": "RenameTarget", b"values-subst": "SubstValues", b"recip
 # number of its texts.
 EVERY = {
     b"set": ("ChangeValues", "Set", 1),
+    b"set-if": ("ChangeValues", "SetIf", 2),
     b"append": ("ChangeValues", "Append", 1),
     b"add": ("ChangeValues", "Add", 1),
     b"drop": ("ChangeValues", "Remove", 1),
@@ -71,11 +78,12 @@ EVERY = {
     b"subst": ("ChangeEach", "Substitute", 2),
     b"operator": ("ChangeEach", "SetOperator", 1),
 }
-# The places of a new line, by their word: those without an address, and those with one; and the same for whole lines.
-ENDS = {b"bottom": "Bottom"}
-PLACES = {b"before-var": "BeforeVar", b"after-var": "AfterVar", b"before-rule": "BeforeRule"}
+# The places of a new line, by their word: those without an address, those with a name and no number, and those with an
+# address; and the latter of whole lines.
+ENDS = {b"top": "Top", b"bottom": "Bottom"}
+LAST = {b"after-last-var": "AfterLastVar"}
+PLACES = {b"before-var": "BeforeVar", b"after-var": "AfterVar", b"before-rule": "BeforeRule", b"after-rule": "AfterRule"}
 TEXT_PLACES = {b"before-line": "BeforeRun", b"after-line": "AfterRun"}
-SITE_ENDS = {**ENDS, b"top": "Top"}
 SITES = {**PLACES, **TEXT_PLACES}
 CALLS = {b"undo": "Undo", b"redo": "Redo", b"begin": "Begin", b"end": "End", b"cancel": "Cancel"}
 # What marks the lines of a block, in a field without quotes.
@@ -119,9 +127,11 @@ def first_block(fields):
     word, place, *_ = [*fields[at : at + 2], b"", b""]
     if word in (b"line-replace", b"line-remove"):
         return at + 1
-    if word == b"insert" and place in PLACES:
+    if word == b"insert" and (place in PLACES or place in LAST):
         return at + 3
-    return at + 2 if word == b"insert" and (place in SITE_ENDS or place in TEXT_PLACES) else len(fields)
+    if word == b"rule-replace" or word == b"insert" and (place in ENDS or place in TEXT_PLACES):
+        return at + 2
+    return len(fields)
 
 
 def with_blocks(fields, below):
@@ -170,10 +180,12 @@ def taken(fields, count):
     return fields
 
 
-def place_of(nth, fields, ends=ENDS, places=PLACES):
-    """The place at the front of fields, by the words that places have, and the fields after it."""
-    if nth is None and fields and fields[0] in ends:
-        return (ends[fields[0]],), fields[1:]
+def place_of(nth, fields, places=PLACES):
+    """The place at the front of fields, by the words that places with an address have, and the fields after it."""
+    if nth is None and fields and fields[0] in ENDS:
+        return (ENDS[fields[0]],), fields[1:]
+    if nth is None and len(fields) > 1 and fields[0] in LAST:
+        return (LAST[fields[0]], fields[1]), fields[2:]
     if len(fields) > 1 and fields[0] in places:
         return (places[fields[0]], nth, fields[1]), fields[2:]
     raise NoCommand
@@ -209,7 +221,7 @@ def edit_of(nth, word, fields):
             return ("AddAssign", place, first, known(FLAVORS, sign), last)
         return ("AddRule", place, first, known(SEPARATORS, sign), last)
     if word == b"insert":
-        site, fields = place_of(nth, fields, SITE_ENDS, SITES)
+        site, fields = place_of(nth, fields, SITES)
         return ("InsertLines", site, *taken(fields, 1))
     if word == b"operator":
         name, sign = taken(fields, 2)
@@ -332,16 +344,17 @@ def antt_block(text):
 
 def antt_place(place):
     """A place as a term."""
-    if len(place) == 1:
-        return place[0]
-    kind, nth, field = place
-    return f"({kind} {antt_nth(nth)} {antt_block(field) if kind in TEXT_PLACES.values() else antt_text(field)})"
+    kind, *parts = place
+    if not parts:
+        return kind
+    *numbers, field = parts
+    text = antt_block(field) if kind in TEXT_PLACES.values() else antt_text(field)
+    return f"({' '.join([kind, *map(antt_nth, numbers), text])})"
 
 
 def antt_site(place):
     """A place of whole lines as a term."""
-    is_of_line = place[0] in (*ENDS.values(), *PLACES.values())
-    return f"(AtPlace {antt_place(place)})" if is_of_line else antt_place(place)
+    return antt_place(place) if place[0] in TEXT_PLACES.values() else f"(AtPlace {antt_place(place)})"
 
 
 def antt_argument(name, part):
@@ -358,6 +371,7 @@ def antt_argument(name, part):
 # The form that each edit has in the definitions, with its arguments in their order.
 FORMS = {
     "SetValue": f"ChangeValue (One {{0}}) {{1}} {antt_change('Set', '{2}')}",
+    "SetValueIf": f"ChangeValue (One {{0}}) {{1}} {antt_change('SetIf', '{2} {3}')}",
     "AppendValue": f"ChangeValue (One {{0}}) {{1}} {antt_change('Append', '{2}')}",
     "AddWord": f"ChangeValue (One {{0}}) {{1}} {antt_change('Add', '{2}')}",
     "RemoveWord": f"ChangeValue (One {{0}}) {{1}} {antt_change('Remove', '{2}')}",
@@ -370,10 +384,13 @@ FORMS = {
     "SetOperator": f"ChangeLine {{0}} {{1}} {antt_change('SetOperator', '{2}')}",
     "AddAssign": "AddLine {0} (NewAssign {1} {2} {3})",
     "RemoveAssign": "RemoveLines (OfAssign {0} {1})",
+    "CommentOut": "SwitchLine CommentOut {0} {1}",
+    "Uncomment": "SwitchLine Uncomment {0} {1}",
     "AddRule": "AddLine {0} (NewRule {1} {2} {3})",
     "RemoveRule": "RemoveLines (OfRule {0} {1})",
     "AddPrereq": "ChangePrereqs {1} {2} (AddPrereq {0} {3})",
     "RemovePrereq": "ChangePrereqs {0} {1} (RemovePrereq {2})",
+    "ReplacePrereq": "ChangePrereqs {0} {1} (ReplacePrereq {2} {3})",
     "AddRecipe": "AddRecipe {0} {1} Last {2}",
     "SetRecipe": "SetRecipe {0} {1} (ByNumber {2}) {3}",
     "RemoveRecipe": "RemoveLines (OfRecipe {0} {1} (ByNumber {2}))",
@@ -384,6 +401,8 @@ FORMS = {
     "InsertLines": "ExchangeLines {0} (block_lines {1})",
     "ReplaceLines": "ExchangeLines (OfRun {0} (block_lines {1})) (block_lines {2})",
     "RemoveLines": "ExchangeLines (OfRun {0} (block_lines {1})) []",
+    "ReplaceRule": "ExchangeLines (OfRuleRun {0} {1}) (block_lines {2})",
+    "RemoveWholeRule": "ExchangeLines (OfRuleRun {0} {1}) []",
     "ChangeEach": "EachLine (ChangeEach {0} {1})",
     "SubstValues": "EachLine (SubstValues {0} {1})",
     "SubstRecipe": "EachLine (SubstRecipe {0} {1} {2} {3})",
@@ -391,9 +410,9 @@ FORMS = {
 }
 # The words of the forms.
 FORM_WORDS = (
-    "One Every NewAssign NewRule AddPrereq RemovePrereq ByNumber ByText Last At OfAssign OfRule OfRecipe AtPlace OfRun"
-    " ChangeEach SubstValues SubstRecipe SubstRecipes ChangeValue ChangeLine ChangePrereqs AddLine AddRecipe SetRecipe"
-    " RemoveLines RenameTarget ExchangeLines EachLine"
+    "One Every NewAssign NewRule AddPrereq RemovePrereq ReplacePrereq ByNumber ByText Last At OfAssign OfRule OfRecipe"
+    " CommentOut Uncomment AtPlace OfRun OfRuleRun ChangeEach SubstValues SubstRecipe SubstRecipes ChangeValue ChangeLine"
+    " ChangePrereqs AddLine AddRecipe SetRecipe RemoveLines SwitchLine RenameTarget ExchangeLines EachLine"
 ).split()
 
 
@@ -434,7 +453,7 @@ EDIT_IMPORTS = [
     ("Rattle.mk_class.specs.declared.assignment.Flavor.TheVariants", list(FLAVORS.values())),
     ("Rattle.mk_edit_language.specs.declared.edit.RuleSeparator.TheVariants", list(SEPARATORS.values())),
     ("Rattle.mk_edit_language.specs.declared.edit.Side.TheVariants", ["Before", "After"]),
-    ("Rattle.mk_edit_language.specs.Edits", ["Edit", *SITE_ENDS.values(), *SITES.values()]),
+    ("Rattle.mk_edit_language.specs.Edits", ["Edit", *ENDS.values(), *LAST.values(), *SITES.values()]),
     ("Rattle.mk_edit_language.specs.Edits", FORM_WORDS),
     ("Rattle.mk_edit_language.specs.Edits", "edits"),
     ("Rattle.mk_edit_language.specs.LineRuns", ["block_lines"]),

@@ -3,7 +3,7 @@
 import re
 
 import tests.soak  # noqa: F401  (it says where script_rows is)
-from script_rows import CALLS, EDITS, SITE_ENDS, SITES, UNNUMBERED
+from script_rows import CALLS, EDITS, ENDS, LAST, SITES, UNNUMBERED
 from tests.lib.reading import CONDITIONALS as CONDITIONAL_WORDS
 from tests.lib.reading import PREFIX_NAME
 from tests.lib.tables import rows, unescape
@@ -21,7 +21,7 @@ LONGEST = 60
 OTHER_COMMANDS = (
     b"operator assign rule recipe-set recipe-del recipe-insert recipe-replace recipe-remove insert nth all".split()
 )
-COMMANDS = [*EDITS, *UNNUMBERED, *SITE_ENDS, *SITES, *CALLS, *OTHER_COMMANDS]
+COMMANDS = [*EDITS, *UNNUMBERED, *ENDS, *LAST, *SITES, *CALLS, *OTHER_COMMANDS]
 WORDS = [
     *(it + b" " for it in COMMANDS if it not in CALLS),
     *(it + b"\n" for it in CALLS),

@@ -9,7 +9,7 @@ from typing import NamedTuple
 
 QUERIES = ("vars", "rules", "recipes", "check", "caveats")
 
-BLOCK = b"LAST = one # c\nlast: a b\n\tfirst\n\tsecond\nEND = 1\n"
+BLOCK = b"LAST = one # c\nlast: a b\n\tfirst\n\tsecond\nEND = 1\n# OFF = 1\n"
 BLOCK_LINES = BLOCK.count(b"\n")
 # What the queries say of the block: a line's number in it, and what follows the number.
 BLOCK_ANSWERS = {
@@ -23,6 +23,7 @@ BLOCK_ANSWERS = {
 # line ends as the first line of the text does, which is to stand for @.
 EDITS = {
     "set": (b"set LAST two", b"= one", b"= two"),
+    "set-if": (b"set-if LAST one two", b"= one", b"= two"),
     "append": (b"append LAST two", b"= one", b"= one two"),
     "add": (b"add LAST two", b"= one", b"= one two"),
     "drop": (b"drop LAST one", b"one # c\n", b"# c\n"),
@@ -33,6 +34,7 @@ EDITS = {
     "subst": (b"subst LAST ne ld", b"= one", b"= old"),
     "operator": (b"operator LAST :=", b"LAST =", b"LAST :="),
     "all set": (b"all set LAST two", b"= one", b"= two"),
+    "all set-if": (b"all set-if LAST one two", b"= one", b"= two"),
     "all append": (b"all append LAST two", b"= one", b"= one two"),
     "all add": (b"all add LAST two", b"= one", b"= one two"),
     "all drop": (b"all drop LAST one", b"one # c\n", b"# c\n"),
@@ -42,12 +44,17 @@ EDITS = {
     "all operator": (b"all operator LAST :=", b"LAST =", b"LAST :="),
     "values-subst": (b"values-subst one two", b"= one", b"= two"),
     "unset": (b"unset LAST", b"LAST = one # c\n", b""),
+    "comment-out": (b"comment-out LAST", b"LAST", b"#LAST"),
+    "uncomment": (b"uncomment OFF", b"# OFF", b"OFF"),
+    "assign last": (b"assign after-last-var LAST NEW = 1", b"last:", b"NEW = 1@last:"),
+    "rule after": (b"rule after-rule last new : a", b"END", b"new: a@END"),
     "assign": (b"assign after-var LAST NEW = 1", b"last:", b"NEW = 1@last:"),
     "rule": (b'rule before-rule last new : "a b"', b"last:", b"new: a b@last:"),
     "unrule": (b"unrule last", b"last: a b\n\tfirst\n\tsecond\n", b""),
     "depend": (b"depend last c", b"a b\n", b"a b c\n"),
     "depend-order": (b"depend-order last c", b"a b\n", b"a b | c\n"),
     "undepend": (b"undepend last a", b"last: a b", b"last: b"),
+    "depend-replace": (b"depend-replace last a c", b"last: a b", b"last: c b"),
     "recipe": (b"recipe last third", b"END", b"\tthird@END"),
     "recipe-set": (b"recipe-set last 2 third", b"second", b"third"),
     "recipe-del": (b"recipe-del last 1", b"\tfirst\n", b""),
@@ -61,6 +68,8 @@ EDITS = {
     "line-replace": (b'line-replace "END = 1" "END = 2"', b"END = 1", b"END = 2"),
     "line-remove": (b'line-remove "\tfirst"', b"\tfirst\n", b""),
     "insert lines": (b"insert before-rule last <<E\n# 1\n# 2\nE", b"last:", b"# 1@# 2@last:"),
+    "rule-replace": (b"rule-replace last <<E\nlast: c\n\tthird\nE", b"last: a b\n\tfirst\n\tsecond", b"last: c\n\tthird"),
+    "rule-remove": (b"rule-remove last", b"last: a b\n\tfirst\n\tsecond\n", b""),
     "replace lines": (b"line-replace <<O <<N\n\tfirst\n\tsecond\nO\n\tthird\nN", b"first\n\tsecond", b"third"),
 }
 BOTTOM = {
@@ -82,6 +91,9 @@ ALL = (
     b"recipe-subst last sixth seventh\nrecipes-subst seventh eighth\n"
     b"rename last final\n"
     b'insert before-line "END = 1" "# new"\nline-replace "# new" "# newer"\nline-remove "# newer"\n'
+    b"depend-replace final b e\nassign after-last-var LAST LAST = 1\nset-if LAST 1 2\nall set-if LAST 2 3\n"
+    b"nth 2 comment-out LAST\nuncomment LAST\nnth 2 unset LAST\n"
+    b"rule-replace new new:c\nrule-remove new\n"
     b"unrule final\nunset LAST\n"
 )
 

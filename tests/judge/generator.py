@@ -8,7 +8,7 @@ most are accepted.
 
 from tests.lib import reading
 
-from .stated import OF_EVERY_LINE, OF_LINES
+from .stated import OF_EVERY_LINE, OF_LINES, says
 
 # A value refers only to names after its own, so that no variable refers to itself.
 VARIABLES = b"A B CC CFLAGS X.y n-1 _d R Z".split()
@@ -26,7 +26,7 @@ COMMANDS = [
     *(b"", b"echo a", b"@echo $@", b"-rm -f x", b"  two", b"# not a comment", b"$(CC) -c $<", b"$(A)#b"),
     *(b"a\\\\", b"x = 1", b"t: u", b"a \\\n\tb", b"a \\\n  b", b"if x; then \\\n\ty; fi"),
 ]
-COMMENTS = [b"# c", b"#", b"# a \\\n  b", b"  # x = 1", b"# t:", b"#\tz"]
+COMMENTS = [b"# c", b"#", b"# a \\\n  b", b"  # A = 1", b"#CC := gcc # d", b"# export B += a", b"# t:", b"#\tz"]
 PLAIN_BLANKS = [b"", b" ", b"  "]
 FOLDED_BLANKS = [b" \\\n ", b"\\\n\t", b"  \\\n"]
 # Lines of a define: single ones, and others.
@@ -150,7 +150,8 @@ class Writer:
         if self.chance(0.12):
             modifiers = self.one([b"override ", b"export ", b"private ", b"override export "])
         led = self.one([b" ", b"  "]) if self.chance(0.08) else b""
-        return led + modifiers + self.definition(self.one(VARIABLES)) + b"\n"
+        mark = self.one([b"#", b"# "]) if self.chance(0.08) else b""
+        return led + mark + modifiers + self.definition(self.one(VARIABLES)) + b"\n"
 
     def target_assignment(self):
         targets = self.one([*TARGETS, *DOUBLE, b"t u", b"%.o"])
@@ -309,12 +310,13 @@ class Editor:
         fields = FIELDS[command](self)
         if fields is None:
             return None
-        is_counted = command not in UNNUMBERED and fields[0] not in (b"top", b"bottom")
-        return (command, self.nth(command, fields[0]) if is_counted else None, *fields)
+        is_counted = command not in UNNUMBERED and not fields[0].startswith((b"top", b"bottom", b"after-last-var "))
+        return (command, self.nth(command, *fields[:2]) if is_counted else None, *fields)
 
-    def nth(self, command, address):
+    def nth(self, command, address, value=None):
         """A number among the lines that an address means, where there are several."""
-        count = self.count(address.removeprefix(b"before-line ").removeprefix(b"after-line "), command in OF_LINES)
+        of_value, of_comments = self.values.count((address, value)), len(self.comments(address))
+        count = of_value if command == "set-if" else of_comments if command == "uncomment" else self.count(address.removeprefix(b"before-line ").removeprefix(b"after-line "), command in OF_LINES)
         return self.source.randint(1, count) if count > 1 and self.source.random() < 0.9 else None
 
     def count(self, address, is_text):
@@ -337,6 +339,18 @@ class Editor:
         folded = self.writer.value(name)
         return b" ".join(folded.replace(b"\\\n", b" ").split())
 
+    def value_of(self, name):
+        """A value of a variable."""
+        return self.one([value for of, value in self.values if of == name])
+
+    def comments(self, name):
+        """The comments that say an assignment of a name."""
+        return [it for it in self.lines if says(name)(it)]
+
+    def commented(self):
+        names = [it for it in VARIABLES if self.comments(it)]
+        return (self.one(names),) if names else None
+
     def word(self):
         if self.writer.chance(CORNERED):
             return self.one(NEW_WORDS)
@@ -344,8 +358,9 @@ class Editor:
 
     def place(self):
         name, target = self.name(), self.target()
-        places = [b"bottom"] + ([b"before-var " + name, b"after-var " + name] if name else [])
-        return self.one(places + ([b"before-rule " + target] if target else []))
+        places = [b"bottom", b"top"]
+        places += [b"before-var " + name, b"after-var " + name, b"after-last-var " + name] if name else []
+        return self.one(places + ([b"before-rule " + target, b"after-rule " + target] if target else []))
 
     def needed(self, target):
         """A prerequisite of a rule, most often."""
@@ -431,7 +446,7 @@ class Editor:
     def insert(self):
         line = self.one_line()
         if line is None or self.source.random() < 0.3:
-            return self.one([b"top", self.place()]), self.new_lines()
+            return self.place(), self.new_lines()
         side = self.one([b"before-line ", b"after-line "])
         if line.kind == "Header" and side == b"after-line " or line.kind == "Recipe":
             new = line.context.prefix + self.command()
@@ -453,6 +468,11 @@ class Editor:
             at = self.lines.index(line)
             return (b"\n".join(map(text_of, self.lines[at : at + 2])),)
         return line and (text_of(line),)
+
+    def rule_replace(self):
+        target = self.target()
+        rule = target and target + b": " + self.word()
+        return target and (target, self.one([rule, rule + b"\n\t" + self.command(), self.new_lines()]))
 
     def new_lines(self):
         """A line that may stand anywhere, or several."""
@@ -502,6 +522,8 @@ FIELDS = {
     "add-after": lambda it: it.for_name(it.held, lambda _: it.word()),
     "subst": lambda it: it.for_name(it.part, lambda _: it.new_part()),
     "operator": lambda it: it.for_name(lambda _: it.one(OPERATORS)),
+    "set-if": lambda it: it.for_name(it.value_of, it.value),
+    "all set-if": lambda it: it.for_every_line(it.value_of, it.value),
     "all set": lambda it: it.for_every_line(it.value),
     "all append": lambda it: it.for_every_line(lambda name: it.value(name) or b"more"),
     "all add": lambda it: it.for_every_line(lambda _: it.word()),
@@ -512,12 +534,15 @@ FIELDS = {
     "all operator": lambda it: it.for_every_line(lambda _: it.one(OPERATORS)),
     "values-subst": Editor.values_subst,
     "unset": lambda it: it.for_name(),
+    "comment-out": lambda it: it.for_name(),
+    "uncomment": Editor.commented,
     "assign": Editor.assign,
     "rule": Editor.rule,
     "unrule": lambda it: it.for_target(),
     "depend": lambda it: it.for_target(lambda _: it.word()),
     "depend-order": lambda it: it.for_target(lambda _: it.word()),
     "undepend": lambda it: it.for_target(it.needed),
+    "depend-replace": lambda it: it.for_target(it.needed, lambda _: it.word()),
     "recipe": lambda it: it.for_target(lambda _: it.command()),
     "recipe-set": lambda it: it.for_target(it.number, lambda _: it.command()),
     "recipe-del": lambda it: it.for_target(it.number),
@@ -530,4 +555,6 @@ FIELDS = {
     "insert": Editor.insert,
     "line-replace": Editor.line_replace,
     "line-remove": Editor.line_remove,
+    "rule-replace": Editor.rule_replace,
+    "rule-remove": lambda it: it.for_target(),
 }

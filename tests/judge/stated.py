@@ -15,11 +15,15 @@ from .database import SECTIONS
 from .expected import Expected, Item, items
 from .values import shown
 
-OF_LINES = ("insert", "line-replace", "line-remove")
-OF_EVERY_LINE = tuple("all " + it for it in "set append add drop prepend replace subst operator".split())
+OF_LINES = ("insert", "line-replace", "line-remove", "rule-replace", "rule-remove")
+OF_EVERY_LINE = tuple("all " + it for it in "set set-if append add drop prepend replace subst operator".split())
 OF_RECIPES = ("recipe-subst", "recipes-subst")
 CHECKED_BY_READING = ("prepend", "replace", "add-before", "add-after", "subst", "operator")
-OF_VARIABLES = ("set", "append", "add", "drop", *CHECKED_BY_READING, "unset", "assign", "values-subst", *OF_EVERY_LINE)
+OF_SWITCHES = ("comment-out", "uncomment")
+OF_VARIABLES = (
+    *("set", "set-if", "append", "add", "drop", *CHECKED_BY_READING, "unset", *OF_SWITCHES, "assign", "values-subst"),
+    *OF_EVERY_LINE,
+)
 
 
 def field(text):
@@ -49,6 +53,16 @@ def assigns(name):
     return lambda item: item.kind == "Assign" and item.parts[1] == name
 
 
+def has_value(name, value):
+    return lambda item: assigns(name)(item) and item.parts[-1] == value
+
+
+def says(name):
+    """Whether an item is a comment that begins as an assignment does."""
+    form = re.compile(rb"[ \t]*#[ \t]*((override|export|private)[ \t]+)*%s[ \t]*([?+!]|:{0,3})=" % re.escape(name))
+    return lambda item: item.kind == "Comment" and form.match(item.raw)
+
+
 def has_target(target):
     return lambda item: item.kind == "Header" and target in item.parts[0]
 
@@ -66,7 +80,7 @@ def run_of(of, nth, old):
     return found[(nth or 1) - 1]
 
 
-ADDRESSES = {b"before-var": assigns, b"after-var": assigns, b"before-rule": has_target}
+ADDRESSES = {b"before-var": assigns, b"after-var": assigns, b"before-rule": has_target, b"after-rule": has_target}
 
 
 def place_of(of, nth, place):
@@ -76,7 +90,10 @@ def place_of(of, nth, place):
         return 0 if word == b"top" else len(of)
     if word in (b"before-line", b"after-line"):
         return run_of(of, nth, field)[word == b"after-line"]
-    return addressed(of, nth, ADDRESSES[word](field)) + word.startswith(b"after")
+    if word == b"after-last-var":
+        return [at for at, item in enumerate(of) if assigns(field)(item)][-1] + 1
+    at = addressed(of, nth, ADDRESSES[word](field))
+    return [at, *recipe_places(of, at)][-1] + 1 if word == b"after-rule" else at + word.startswith(b"after")
 
 
 def recipe_places(of, at):
@@ -101,16 +118,29 @@ def after(of, edit):
     return CHANGES[command](list(of), nth, *fields)
 
 
+def valued(item, new):
+    """An assignment with another value."""
+    return Item("Assign", (*item.parts[:-1], new), item.tail if new else b"")
+
+
 def with_value(of, nth, name, change):
     at = addressed(of, nth, assigns(name))
-    *front, old = of[at].parts
-    new = change(old)
-    of[at] = Item("Assign", (*front, new), of[at].tail if new else b"")
+    of[at] = valued(of[at], change(of[at].parts[-1]))
     return of
 
 
 def set_value(of, nth, name, value):
     return with_value(of, nth, name, lambda _: value)
+
+
+def set_if(of, nth, name, old, value):
+    at = addressed(of, nth, has_value(name, old))
+    of[at] = valued(of[at], value)
+    return of
+
+
+def all_set_if(of, _, name, old, value):
+    return [valued(it, value) if has_value(name, old)(it) else it for it in of]
 
 
 def append(of, nth, name, more):
@@ -224,6 +254,12 @@ def unset(of, nth, name):
     return of
 
 
+def uncomment(of, nth, name):
+    at = addressed(of, nth, says(name))
+    line = re.sub(rb"#[ \t]*", b"", of[at].raw, count=1)
+    return with_line(of, at, at + 1, reading.without_line_end(line))
+
+
 def assign(of, nth, place, name, operator, value):
     of.insert(place_of(of, nth, place), Item("Assign", ((), name, operator, value)))
     return of
@@ -263,6 +299,25 @@ def line_remove(of, nth, old):
     return of
 
 
+def rule_run(of, nth, target):
+    """Where the lines begin and end of a rule, its recipe and the conditionals in it."""
+    at = addressed(of, nth, has_target(target))
+    end = [at, *recipe_places(of, at)][-1] + 1
+    while sum({"If": 1, "Endif": -1}.get(it.kind, 0) for it in of[at:end]):
+        end += 1
+    return at, end
+
+
+def rule_replace(of, nth, target, lines):
+    return with_line(of, *rule_run(of, nth, target), lines)
+
+
+def rule_remove(of, nth, target):
+    first, end = rule_run(of, nth, target)
+    del of[first:end]
+    return of
+
+
 def with_header(of, nth, target, change):
     at = addressed(of, nth, has_target(target))
     targets, separator, pattern, normal, order, inline = of[at].parts
@@ -284,6 +339,10 @@ def without(words, word):
 
 def undepend(of, nth, target, word):
     return with_header(of, nth, target, lambda *lists: tuple(without(it, word) for it in lists))
+
+
+def depend_replace(of, nth, target, old, new):
+    return with_header(of, nth, target, lambda *lists: tuple(tuple(new if it == old else it for it in of) for of in lists))
 
 
 def recipe(of, nth, target, line):
@@ -365,6 +424,7 @@ def rename(of, _, old, new):
 
 CHANGES = {
     "set": set_value,
+    "set-if": set_if,
     "append": append,
     "add": append,
     "drop": drop,
@@ -375,12 +435,15 @@ CHANGES = {
     "subst": substitute,
     "operator": operator,
     "unset": unset,
+    "comment-out": unset,
+    "uncomment": uncomment,
     "assign": assign,
     "rule": rule,
     "unrule": unrule,
     "depend": depend,
     "depend-order": depend_order,
     "undepend": undepend,
+    "depend-replace": depend_replace,
     "recipe": recipe,
     "recipe-set": recipe_set,
     "recipe-del": recipe_del,
@@ -394,7 +457,10 @@ CHANGES = {
     "insert": insert,
     "line-replace": line_replace,
     "line-remove": line_remove,
+    "rule-replace": rule_replace,
+    "rule-remove": rule_remove,
     **{it: at_every_line(it.removeprefix("all ")) for it in OF_EVERY_LINE},
+    "all set-if": all_set_if,
 }
 
 

@@ -124,9 +124,17 @@ class Judge:
             else:
                 contents = before.content(key), after.content(key)
                 wrong.append("not what was edited: " + difference(key, *contents))
+        if wrong and puts_blanks_below_a_fold(edited, edit):
+            return Verdict(GROUP, "make_takes_blanks_below_a_fold_in")
         if wrong:
             return excused_or_found([text, edited], wrong)
         return Verdict(kind, "", len(known))
+
+
+def puts_blanks_below_a_fold(edited, edit):
+    """Whether an edit puts blanks in the place of a text, and blanks alone stand then in the last line of a value."""
+    puts_blanks = edit[0] in ("subst", "all subst", "values-subst") and not edit[-1].strip(b" \t")
+    return puts_blanks and re.search(rb"\\\r?\n[ \t]*(?:#.*)?(?:\r?\n|\Z)", edited) is not None
 
 
 def known_differences(expected, database):
@@ -144,6 +152,8 @@ def why_changed(key, first, then, texts, edit, of):
         names = stated.edited_names(of, edit)
         is_for_target = key[0] == "target_variables" and key[1][1] in names
         return NOT_FOLLOWED if is_for_target or depends(texts, names) else None
+    if edit[0] == "recipes-subst" and any(it.kind == "Rough" for it in of):
+        return NOT_FOLLOWED  # that line is a rule for make, and what it has is not known here
     targets = [target for it in stated.edited_rules(of, edit) for target in it]
     is_of_suffixes = key[0] == "patterns" and (first.has_suffixes or then.has_suffixes)
     is_free = is_of_suffixes or any(it == b".PHONY" or b"$" in it for it in targets)

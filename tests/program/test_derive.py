@@ -40,6 +40,12 @@ SCRIPTS = [
     ),
     ("C = -g\nC += -W -x\n", "C = -g\nC += -x\n", "all drop C -W\n"),
     ("i:\n\tcc -c x\n", "i:\n\tcc -O -c x\n", 'recipe-subst i "cc -c x" "cc -O -c x"\n'),
+    ("F = -g\nF += -O2\n", "F = -g\nF += -O2 -W\n", "set-if F -O2 \"-O2 -W\"\n"),
+    ("a: b c\n\tcc\n", "a: d c\n\tcc\n", "depend-replace a b d\n"),
+    ("DEBUG = 1\n", "#DEBUG = 1\n", "comment-out DEBUG\n"),
+    ("# DEBUG = 1\n", "DEBUG = 1\n", "uncomment DEBUG\n"),
+    ("S = a\nS += b\ninclude m\n", "S = a\nS += b\nS += c\ninclude m\n", "assign after-last-var S S += c\n"),
+    ("a:\n\tx\n\ninclude m\n", "a:\n\tx\n# n\n\ninclude m\n", 'insert after-rule a "# n"\n'),
     ("X\nX\n", "X\n", None),
 ]
 # An old makefile, a new one, and what is said.

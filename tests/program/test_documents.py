@@ -28,9 +28,10 @@ QUOTED = (
 )
 LAST_CHAPTER = "## 8. Where make reads otherwise\n"
 COMMANDS = (
-    "nth all set append add drop prepend replace add-before add-after subst operator values-subst unset assign rule "
-    "unrule depend depend-order undepend recipe recipe-set recipe-del recipe-insert recipe-replace recipe-remove "
-    "recipe-subst recipes-subst rename insert line-replace line-remove"
+    "nth all set set-if append add drop prepend replace add-before add-after subst operator values-subst unset "
+    "comment-out uncomment assign rule unrule depend depend-order undepend depend-replace recipe recipe-set "
+    "recipe-del recipe-insert recipe-replace recipe-remove recipe-subst recipes-subst rename insert line-replace "
+    "line-remove rule-replace rule-remove"
 )
 EXAMPLE = re.compile(
     rf"^    (\S.*?⏎|X=1) {{2,}}((?:{COMMANDS.replace(' ', '|')}) .*?) {{2,}}(\S.*⏎)$", re.M

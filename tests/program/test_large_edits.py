@@ -18,6 +18,7 @@ ROUNDS = 5
 # for a word of nearly 16 MB.
 LONG_LINES = {
     "set": (b"set CC @", b"CC = gcc # c\n", b"CC = @ # c\n"),
+    "set-if": (b"set-if CC gcc @", b"CC = gcc # c\n", b"CC = @ # c\n"),
     "append": (b"append CC @", b"CC = gcc # c\n", b"CC = gcc @ # c\n"),
     "add": (b"add CC @", b"CC = gcc # c\n", b"CC = gcc @ # c\n"),
     "drop": (b"drop CC gcc", b"CC = gcc @ # c\n", b"CC = @ # c\n"),
@@ -28,6 +29,7 @@ LONG_LINES = {
     "subst": (b"subst CC gcc @", b"CC = gcc # c\n", b"CC = @ # c\n"),
     "operator": (b"operator CC :=", b"CC = @ # c\n", b"CC := @ # c\n"),
     "all set": (b"all set CC @", b"CC = gcc # c\n", b"CC = @ # c\n"),
+    "all set-if": (b"all set-if CC gcc @", b"CC = gcc # c\n", b"CC = @ # c\n"),
     "all append": (b"all append CC @", b"CC = gcc # c\n", b"CC = gcc @ # c\n"),
     "all add": (b"all add CC @", b"CC = gcc # c\n", b"CC = gcc @ # c\n"),
     "all drop": (b"all drop CC gcc", b"CC = gcc @ # c\n", b"CC = @ # c\n"),
@@ -37,12 +39,15 @@ LONG_LINES = {
     "all operator": (b"all operator CC :=", b"CC = @ # c\n", b"CC := @ # c\n"),
     "values-subst": (b"values-subst gcc @", b"CC = gcc # c\n", b"CC = @ # c\n"),
     "unset": (b"unset CC", b"CC = @\n", b""),
+    "comment-out": (b"comment-out CC", b"CC = @\n", b"#CC = @\n"),
+    "uncomment": (b"uncomment CC", b"# CC = @\n", b"CC = @\n"),
     "assign": (b"assign bottom CC = @", b"", b"CC = @\n"),
     "rule": (b"rule bottom all : @", b"", b"all: @\n"),
     "unrule": (b"unrule all", b"all: @\n\tcc\n", b""),
     "depend": (b"depend all @", b"all: a\n", b"all: a @\n"),
     "depend-order": (b"depend-order all @", b"all: a\n", b"all: a | @\n"),
     "undepend": (b"undepend all a", b"all: a @\n", b"all: @\n"),
+    "depend-replace": (b"depend-replace all a @", b"all: a\n", b"all: @\n"),
     "recipe": (b"recipe all @", b"all:\n", b"all:\n\t@\n"),
     "recipe-set": (b"recipe-set all 1 @", b"all:\n\tcc\n", b"all:\n\t@\n"),
     "recipe-del": (b"recipe-del all 1", b"all:\n\t@\n", b"all:\n"),
@@ -55,10 +60,13 @@ LONG_LINES = {
     "insert": (b"insert bottom #@", b"", b"#@\n"),
     "line-replace": (b"line-replace CC=gcc CC=@", b"CC=gcc\n", b"CC=@\n"),
     "line-remove": (b"line-remove CC=@", b"CC=@\n", b""),
+    "rule-replace": (b"rule-replace all @:", b"all:\n\tcc\n", b"@:\n"),
+    "rule-remove": (b"rule-remove all", b"all: @\n\tcc\n", b""),
 }
 # Commands for variables that have numbers, and what becomes of a line `V1 = a`.
 LISTS = {
     "set": (b"set V%d b\n", b"V%d = b\n"),
+    "set-if": (b"set-if V%d a b\n", b"V%d = b\n"),
     "append": (b"append V%d b\n", b"V%d = a b\n"),
     "add": (b"add V%d b\n", b"V%d = a b\n"),
     "drop": (b"drop V%d a\n", b"V%d = \n"),
@@ -106,6 +114,9 @@ class LargeEdits(RoomCase):
         self.assert_edit(b"rename a b", b"a:\n" + b"c: a\n" * MANY, b"b:\n" + b"c: b\n" * MANY)
         self.assert_edit(b"rename a bc", b"a:\n" + b"c: a\n" * MANY, b"bc:\n" + b"c: bc\n" * MANY)
         self.assert_edit(b"unrule a", b"a:\n" + b"\tc\n" * MANY, b"")
+        self.assert_edit(b"rule-remove a", b"a:\n" + b"ifdef A\n\tc\nendif\n" * (MANY // 2), b"")
+        self.assert_edit(b"rule-replace a b:", b"a:\n" + b"\tc\n" * MANY, b"b:\n")
+        self.assert_edit(b"all set-if A 1 12", b"A = 1\nA = 2\n" * MANY, b"A = 12\nA = 2\n" * MANY)
         self.assert_edit(b"all set A 12", b"A = 1\n" * MANY, b"A = 12\n" * MANY)
         self.assert_edit(b"all add A c", b"A = b\nA = b c\n" * MANY, b"A = b c\n" * 2 * MANY)
         self.assert_edit(b"all drop A c", b"A = b\nA = b c\n" * MANY, b"A = b\n" * 2 * MANY)
@@ -117,6 +128,7 @@ class LargeEdits(RoomCase):
 
     def test_a_block_may_have_a_million_lines(self):
         lines = b"".join(b"A%d = 1\n" % at for at in range(MANY))
+        self.assert_edit(b"rule-replace a <<E\n" + lines + b"E", b"a:\n\tb\n", lines)
         self.assert_edit(b"insert top <<E\n" + lines + b"E", b"#\n", lines + b"#\n")
         self.assert_edit(b"line-replace <<E #\n" + lines + b"E", lines, b"#\n")
         self.assert_edit(b"line-replace # <<E\n" + lines + b"E", b"#\n", lines)

@@ -53,6 +53,27 @@ CASES = (
         "-e 1: note: `nth 1` or `nth 2` before the command says which",
     )),
     ("recipe-remove clean rm", "5 Ambiguous 2", ("config.mk:18: note: clean:",)),
+    # edits of the line with a value, and of comments; places and whole rules
+    ("set-if CFLAGS -O3 x", "6 Absent", (
+        "config.mk:1: note: CFLAGS = -O2",
+        "config.mk:2: note: CFLAGS += -g",
+    )),
+    ("nth 2 set-if CFLAGS -g x", "4 NoSuch", (
+        "config.mk:2: note: CFLAGS += -g",
+        "-e 1: note: `nth` is at most 1",
+    )),
+    ("depend-replace main main.c x", "6 Absent", ("config.mk:7: note: main: main.o | out",)),
+    ("comment-out CFLAG", "4 NoSuch", (
+        "config.mk:1: note: CFLAGS = -O2",
+        "config.mk:2: note: CFLAGS += -g",
+        "-e 1: note: did you mean one of these?",
+    )),
+    ("rule-remove two", "9 SharedRule 2", ("config.mk:16: note: one two: three",)),
+    ("assign after-last-var CFLAG A = b", "4 NoSuch", (
+        "config.mk:1: note: CFLAGS = -O2",
+        "config.mk:2: note: CFLAGS += -g",
+        "-e 1: note: did you mean one of these?",
+    )),
     # NoSuch
     ("nth 3 set CFLAGS x", "4 NoSuch", (
         "config.mk:1: note: CFLAGS = -O2",
@@ -221,6 +242,12 @@ class RefusalNotes(RoomCase):
             "config.mk:2: note: A = a b",
             "config.mk:4: note: A = c",
             "-e 1: note: `nth 1` or `nth 2` before the command says which",
+        ))  # fmt: skip
+
+    def test_a_comment_that_would_be_no_assignment(self):
+        self.assert_noted(b".RECIPEPREFIX = X\nt:\n# X = 1\n", "uncomment X", "21 Misread", (
+            "config.mk:3: note: # X = 1",
+            "-e 1: note: it would become `X = 1`",
         ))  # fmt: skip
 
     def test_a_line_that_no_edit_looks_at(self):

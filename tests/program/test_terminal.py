@@ -142,7 +142,7 @@ class Terminal(RoomCase):
         user.shown(b"> ")
         self.assertEqual(
             user.types(b"set X 3\n"),
-            b"refused 5 Ambiguous 2: Several assignments or several rules have this name, and neither `nth` nor "
+            b"refused 5 Ambiguous 2: Several assignments, rules or comments have this name, and neither `nth` nor "
             b"`all` says which are meant.\ntwo> ",
         )
         self.assertEqual(

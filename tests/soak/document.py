@@ -1,5 +1,6 @@
 """A makefile as edits see it: its lines with their places, and the parts of a line that edits mean."""
 
+import re
 from functools import lru_cache
 from typing import NamedTuple
 
@@ -8,6 +9,8 @@ from tests.lib import reading
 CONDITIONAL_LINES = ("If", "Else", "Endif")
 MOST_CONDITIONALS = 256
 PASSED_OVER = ("Blank", "Comment", *CONDITIONAL_LINES)
+OF_RECIPES = ("Recipe", *PASSED_OVER)
+MODIFIERS = b"override|export|private"
 PREFIX_OPERATORS = (b"=", b":=", b"::=")
 
 
@@ -83,6 +86,11 @@ class Document:
         """The indices of the assignments of a variable that stand on lines of their own."""
         return [at for at, it in enumerate(self.lines) if it.kind == "Assign" and it.parts[1] == name]
 
+    def comments(self, name):
+        """The indices of the comments that begin as assignments of a variable do."""
+        says = re.compile(rb"[ \t]*#[ \t]*(?:(?:%s)[ \t]+)*%s[ \t]*(?:[?+!]|:{0,3})=" % (MODIFIERS, re.escape(name)))
+        return [at for at, it in enumerate(self.lines) if it.kind == "Comment" and says.match(it.raw)]
+
     def rules(self, target):
         """The indices of the lines of rules that have this target."""
         return [at for at, it in enumerate(self.lines) if it.kind == "Header" and target in it.targets]
@@ -101,6 +109,18 @@ class Document:
             if kind == "Recipe":
                 found.append(at)
         return found
+
+    def rule_end(self, rule):
+        """The index of the line below the rule whose line has this index, its recipe and the conditionals in it, or None."""
+        last, depth = max(self.recipe_lines(rule), default=rule), 0
+        for at in range(rule, len(self.lines)):
+            kind = self.lines[at].kind
+            if at > rule and (kind not in OF_RECIPES or kind in ("Else", "Endif") and not depth):
+                return None
+            depth += {"If": 1, "Endif": -1}.get(kind, 0)
+            if at >= last and not depth:
+                return at + 1
+        return None
 
     def runs(self, texts):
         """The runs of lines that say these texts together: where each begins and ends, by the indices of lines."""

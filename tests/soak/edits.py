@@ -30,6 +30,11 @@ NAMES = dict(
 NAMES[21] = "Misread"
 
 
+# The places at the ends of the file, and what makes a line a comment.
+ENDS = ("Top", "Bottom")
+MARK = re.compile(rb"#[ \t]*")
+
+
 class Refused(Exception):
     """A refusal, with the count or the field that some have."""
 
@@ -165,6 +170,27 @@ class SetValue(OfVariable):
         return [Span(start, end, self.value)], b"\\" if leaves_fold else self.value
 
 
+class SetValueIf(SetValue):
+    """That of the assignments that have another value."""
+
+    def __init__(self, nth, name, old, value):
+        super().__init__(nth, name, value)
+        self.old = old
+
+    def fields(self):
+        return [("name", self.name, is_name), ("old", self.old, is_value), ("value", self.value, is_value)]
+
+    def is_in(self, line):
+        return line.parts[-1] == self.old
+
+    def find(self, doc):
+        found = doc.assignments(self.name)
+        refuse(4, not found)
+        having = [at for at in found if self.is_in(doc.lines[at])]
+        refuse(6, not having)
+        return picked(having, self.nth)
+
+
 class AppendValue(OfVariable):
     def fields(self):
         return [("name", self.name, is_name), ("value", self.value, lambda it: it and is_value(it))]
@@ -227,24 +253,25 @@ class ChangeValues(Edit):
     """The edit of every assignment of a name: that of one, made at each that it does something to."""
 
     def __init__(self, name, change):
-        kind, text = change
-        kinds = {"Set": SetValue, "Append": AppendValue, "Add": AddWord, "Remove": RemoveWord}
+        kind, *texts = change
+        kinds = {"Set": SetValue, "SetIf": SetValueIf, "Append": AppendValue, "Add": AddWord, "Remove": RemoveWord}
         self.name, self.names = name, (name,)
-        self.of_one, self.text = kinds[kind](None, name, text), text
+        self.of_one, self.text = kinds[kind](None, name, *texts), texts[0]
 
     def fields(self):
         return self.of_one.fields()
 
     def does_something(self, line):
-        """Whether an assignment is changed: by all but the words that it has or lacks already."""
+        """Whether an assignment is changed: by all but the words that it has or lacks already, and by another value."""
         has_word = self.text in reading.texts(reading.units(line.parts[-1]))
-        return {AddWord: not has_word, RemoveWord: has_word}.get(type(self.of_one), True)
+        has_value = line.parts[-1] == self.text
+        return {AddWord: not has_word, RemoveWord: has_word, SetValueIf: has_value}.get(type(self.of_one), True)
 
     def plan_in(self, doc):
         found = doc.assignments(self.name)
         refuse(4, not found)
         changing = [at for at in found if self.does_something(doc.lines[at])]
-        refuse(6 if isinstance(self.of_one, RemoveWord) else 7, not changing)
+        refuse(6 if isinstance(self.of_one, (RemoveWord, SetValueIf)) else 7, not changing)
         return changed(doc, changing, self.of_one)
 
 
@@ -438,6 +465,35 @@ class RemoveAssign(OfVariable):
         return [removed(doc.lines[at])], items_of(doc.lines[:at] + doc.lines[at + 1 :])
 
 
+class CommentOut(OfVariable):
+    def fields(self):
+        return [("name", self.name, is_name)]
+
+    def plan_in(self, doc):
+        at = self.find(doc)
+        refuse_leaning(doc, at + 1, doc.context(at).flag, doc.context(at + 1).flag)
+        place = doc.lines[at].start
+        return [Span(place, place, b"#")], items_of(doc.lines[:at] + doc.lines[at + 1 :])
+
+
+class Uncomment(OfVariable):
+    def fields(self):
+        return [("name", self.name, is_name)]
+
+    def plan_in(self, doc):
+        at = picked(doc.comments(self.name), self.nth)
+        line = doc.lines[at]
+        mark = MARK.search(line.raw)
+        raw = line.raw[: mark.start()] + line.raw[mark.end() :]
+        below = doc.lines[at + 1].raw if at + 1 < len(doc.lines) else b""
+        first = document.read(raw + below, line.context).lines[0]
+        refuse(21, first.raw != raw or first.kind != "Assign" or first.parts[1] != self.name)
+        refuse_leaning(doc, at + 1, "Off", line.context.flag)
+        items = items_of(doc.lines)
+        items[at] = first.item
+        return [Span(line.start + mark.start(), line.start + mark.end(), b"")], items
+
+
 # ---- new lines and lines that go
 
 
@@ -470,21 +526,30 @@ class AtPlace(Edit):
     def __init__(self, place):
         self.place = place
         kind, field = place[0], place[-1]
-        self.names = (field,) if kind in ("BeforeVar", "AfterVar") else ()
-        self.targets = (field,) if kind == "BeforeRule" else ()
+        self.names = (field,) if kind in ("BeforeVar", "AfterVar", "AfterLastVar") else ()
+        self.targets = (field,) if kind in ("BeforeRule", "AfterRule") else ()
 
     def fields(self):
         kind, field = self.place[0], self.place[-1]
-        test = is_target if kind == "BeforeRule" else is_name
-        return [] if kind == "Bottom" else [("place", field, test)]
+        test = is_target if kind in ("BeforeRule", "AfterRule") else is_name
+        return [] if kind in ENDS else [("place", field, test)]
 
     def find(self, doc):
         """The index of the line before which the new one goes."""
-        if self.place[0] == "Bottom":
-            return len(doc.lines)
-        kind, nth, field = self.place
-        found = doc.rules(field) if kind == "BeforeRule" else doc.assignments(field)
-        return picked(found, nth) + (kind == "AfterVar")
+        kind, *parts = self.place
+        if not parts:
+            return 0 if kind == "Top" else len(doc.lines)
+        if kind == "AfterLastVar":
+            found = doc.assignments(*parts)
+            refuse(4, not found)
+            return found[-1] + 1
+        nth, field = parts
+        at = picked(doc.rules(field) if kind in ("BeforeRule", "AfterRule") else doc.assignments(field), nth)
+        if kind != "AfterRule":
+            return at + (kind == "AfterVar")
+        last = max(doc.recipe_lines(at), default=at)
+        refuse_straddling(doc, at, last)
+        return last + 1
 
     def refuse_end(self, doc, at):
         """Refuses a new line at the end of the text where that is open."""
@@ -615,6 +680,26 @@ class RemovePrereq(OfRule):
             left = tuple(it for it in items[at][part] if it != self.word)
             items[at] = item_with(items[at], part, left)
         return [Span(it.gap, it.end, b"") for it in found], items
+
+
+class ReplacePrereq(CheckedByReading, OfRule):
+    def __init__(self, nth, target, old, new):
+        super().__init__(nth, target)
+        self.old, self.new = old, new
+
+    def fields(self):
+        return [*super().fields(), ("old", self.old, is_word), ("new", self.new, is_word)]
+
+    def changes_in(self, doc):
+        at = self.find(doc)
+        line, item = doc.lines[at], doc.lines[at].item
+        parts = document.rule_parts(line)
+        found = [it for it in (*parts.normal, *parts.order) if it.text == self.old]
+        refuse(6, not found)
+        refuse(7, self.new in (*item[4], *item[5]))
+        for part in (4, 5):
+            item = item_with(item, part, tuple(self.new if it == self.old else it for it in item[part]))
+        return [(at, [Span(it.start, it.end, self.new) for it in found], item)]
 
 
 # ---- recipes
@@ -760,6 +845,7 @@ class RenameTarget(Edit):
 
 KINDS = (
     SetValue,
+    SetValueIf,
     AppendValue,
     AddWord,
     RemoveWord,
@@ -772,10 +858,13 @@ KINDS = (
     SetOperator,
     AddAssign,
     RemoveAssign,
+    CommentOut,
+    Uncomment,
     AddRule,
     RemoveRule,
     AddPrereq,
     RemovePrereq,
+    ReplacePrereq,
     AddRecipe,
     SetRecipe,
     RemoveRecipe,

@@ -18,7 +18,7 @@ BLOCKS = {
     "conditional": 7,
     "define": 5,
     "blank": 4,
-    "comment": 4,
+    "comment": 6,
     "directive": 3,
     "opaque": 3,
     "rough": 3,
@@ -207,6 +207,8 @@ class Makefiles(Drawing):
         return self.one([b"", b"", b" ", b" \t", self.fold()]) + self.line_end()
 
     def comment(self):
+        if self.chance(0.4):
+            return self.gap(b"") + b"#" + self.one([b"", b"", b" ", b"\t "]) + self.definition() + self.closing()
         return self.one([b"# c", b"#", b" # c", b"#\\", b"# a \\", b"#\0"]) + self.line_end()
 
     def directive(self):

@@ -6,7 +6,7 @@ is reached, so that many edits are accepted.
 
 import re
 
-from argument_rows import is_command, is_name, is_target, is_word
+from argument_rows import is_command, is_name, is_target, is_value, is_word
 from tests.lib.reading import PREFIX_NAME, texts, units
 
 from . import document
@@ -35,6 +35,7 @@ from .whole_lines import is_block
 # The edits with their weights, by what they need in the makefile.
 OF_NAMES = {
     b"set": 10,
+    b"set-if": 8,
     b"append": 8,
     b"add": 7,
     b"drop": 7,
@@ -45,6 +46,7 @@ OF_NAMES = {
     b"subst": 8,
     b"operator": 6,
     b"unset": 9,
+    b"comment-out": 7,
     b"values-subst": 8,
 }
 OF_RULES = {
@@ -52,6 +54,9 @@ OF_RULES = {
     b"depend": 7,
     b"depend-order": 6,
     b"undepend": 8,
+    b"depend-replace": 8,
+    b"rule-replace": 9,
+    b"rule-remove": 8,
     b"recipe": 9,
     b"rename": 9,
 }
@@ -66,6 +71,7 @@ OF_RECIPES = {
 }
 NEW_LINES = {b"assign": 10, b"rule": 9, b"insert": 12}
 OF_LINES = {b"line-replace": 12, b"line-remove": 9}
+OF_COMMENTS = {b"uncomment": 14}
 GREATEST = 4294967295
 
 
@@ -194,6 +200,7 @@ class Scripts(Drawing):
         for edits, kind in ((OF_NAMES, "Assign"), (OF_RULES, "Header"), (OF_RECIPES, "Recipe")):
             share = 1 if self.has(kind) else 0.08
             weights.update((it, weight * share) for it, weight in edits.items())
+        weights |= {it: weight * (1 if self.commented() else 0.05) for it, weight in OF_COMMENTS.items()}
         return weights | (OF_LINES if self.old_lines() else {})
 
     # ---- fields
@@ -219,6 +226,10 @@ class Scripts(Drawing):
         names = [it.parts[1] for it in self.document.lines if it.kind == "Assign"]
         names = [it for it in names if is_name(it) and it != PREFIX_NAME]
         return self.bad_or(self.standing(names, NAMES))
+
+    def commented(self):
+        """The names of which comments say assignments."""
+        return [it for it in NAMES if self.document.comments(it)]
 
     def target(self):
         if self.chance(0.012):
@@ -256,16 +267,18 @@ class Scripts(Drawing):
 
     def place(self):
         """The words `nth N`, or nothing, and the fields of a place."""
-        places = [b"bottom"]
-        places += [b"before-var", b"after-var"] * (self.has("Assign") or self.chance(0.05))
-        places += [b"before-rule"] * (self.has("Header") or self.chance(0.05))
+        places = [b"bottom"] if self.is_part else [b"bottom", b"top"]
+        places += [b"before-var", b"after-var", b"after-last-var"] * (self.has("Assign") or self.chance(0.05))
+        places += [b"before-rule", b"after-rule"] * (self.has("Header") or self.chance(0.05))
         kind = self.one(places)
-        if kind == b"bottom":
+        if kind in (b"bottom", b"top"):
             return [], [kind]
-        if kind == b"before-rule":
+        if kind in (b"before-rule", b"after-rule"):
             target = self.target()
             return self.number(len(self.document.rules(target))), [kind, target]
         name = self.name()
+        if kind == b"after-last-var":
+            return [], [kind, name]
         return self.number(len(self.document.assignments(name))), [kind, name]
 
     def old_lines(self):
@@ -312,6 +325,13 @@ class Scripts(Drawing):
 
     def set(self):
         return self.of_value(b"set", self.name(), self.value())
+
+    def set_if(self):
+        name = self.name()
+        values = [self.document.lines[at].parts[-1] for at in self.document.assignments(name)]
+        said = [it for it in values if is_value(it)]
+        old = self.one(said) if said and self.chance(0.85) else self.value()
+        return [*self.address(values.count(old)), b"set-if", name, old, self.value()]
 
     def append(self):
         return self.of_value(b"append", self.name(), self.value() or self.one([b"v", b"v", b""]))
@@ -381,6 +401,14 @@ class Scripts(Drawing):
     def unset(self):
         return self.of_name(b"unset", self.name())
 
+    def comment_out(self):
+        return self.of_name(b"comment-out", self.name())
+
+    def uncomment(self):
+        names = self.commented()
+        name = self.bad_or(self.standing(names, NAMES))
+        return [*self.number(len(self.document.comments(name))), b"uncomment", name]
+
     def assign(self):
         number, place = self.place()
         name = self.one([*NAMES, b"N"]) if self.chance(0.98) else PREFIX_NAME
@@ -395,10 +423,13 @@ class Scripts(Drawing):
         fields = [self.bad_or(targets), self.one([b":", b"::"]), self.bad_or(needs)]
         return [*number, b"rule", *place, *fields]
 
-    def unrule(self):
+    def single_target(self):
+        """A target of a rule that has no other one, more often than not."""
         alone = self.targets_of(it for it in self.headers() if len(it.targets) == 1)
-        target = self.one(alone) if alone and self.chance(0.6) else self.target()
-        return self.of_target(b"unrule", target)
+        return self.one(alone) if alone and self.chance(0.6) else self.target()
+
+    def unrule(self):
+        return self.of_target(b"unrule", self.single_target())
 
     def depend(self):
         target = self.target()
@@ -411,6 +442,10 @@ class Scripts(Drawing):
     def undepend(self):
         target = self.target()
         return self.of_target(b"undepend", target, self.need(target, 0.85))
+
+    def depend_replace(self):
+        target = self.target()
+        return self.of_target(b"depend-replace", target, self.need(target, 0.9), self.need(target, 0.1))
 
     def recipe(self):
         return self.of_target(b"recipe", self.target(), self.line_text())
@@ -490,6 +525,27 @@ class Scripts(Drawing):
     def line_remove(self):
         number, _, old = self.old_run()
         return [*number, b"line-remove", old]
+
+    def new_rule(self, target):
+        """Lines in the place of a rule for this target: most often such a rule."""
+        if self.chance(0.4):
+            return self.new_block()
+        prefix = next((it.context.prefix for it in self.headers() if target in it.targets), b"\t")
+        lines = [prefix + it for it in self.some(COMMANDS, 0, 2)]
+        lines = [b"ifdef A", *lines, b"endif"] if self.chance(0.2) else lines
+        return self.fresh(b"\n".join([target + b": " + self.one(WORDS), *lines]))
+
+    def rule_replace(self):
+        target = self.single_target()
+        rules = [at for at in self.document.rules(target) if self.document.rule_end(at)]
+        if rules and not self.is_part and self.chance(0.06):
+            at = self.one(rules)
+            block = Block(said_by(self.document.lines[at : self.document.rule_end(at)]))
+            return self.of_target(b"rule-replace", target, block)
+        return self.of_target(b"rule-replace", target, self.new_rule(target))
+
+    def rule_remove(self):
+        return self.of_target(b"rule-remove", self.single_target())
 
     def rename(self):
         standing = self.targets_of(self.document.lines)

@@ -56,7 +56,7 @@ BAD_FIELDS = [
 ]
 # Lines that a command may put in or take out, of each class.
 WHOLE_LINES = [
-    *(b"", b" ", b"# c", b"#", b"X = 1", b"export Y := a # c", b"a: b", b"a:: ; x", b"t: X = 1", b".RECIPEPREFIX = >"),
+    *(b"", b" ", b"# c", b"#", b"# X = 1", b"#Y:=", b"#\texport CC ?= a # c", b"X = 1", b"export Y := a # c", b"a: b", b"a:: ; x", b"t: X = 1", b".RECIPEPREFIX = >"),
     *(b"\tx", b"\t# c", b"\tX = 1", b"\t", b">x", b"else", b"endif", b"define D", b"endef", b"X = a \\\\", b"$(a"),
     *(b"define .RECIPEPREFIX", b"ifdef", b"endif # c", b"<<E", b"\xff"),
     *(CONDITIONALS + DIRECTIVES + BODIES + OPAQUE + ROUGH),
@@ -93,5 +93,9 @@ NO_COMMANDS = [
     *(b"assign after-line x Y = 1", b"rule before-line x a : b"),
     *(b"insert top <<E\nx", b"insert top <<E\nE", b"line-remove <<E", b"insert top <<E x\nE", b"line-replace <<E <<E\nx\nE\n"),
     *(b"all recipe-subst a b c", b"nth 1 values-subst a b", b"nth 1 recipes-subst a b", b"recipe-subst a b"),
+    *(b"set-if X 1", b"all comment-out X", b"all uncomment X", b"uncomment", b"comment-out X Y", b"all set-if X 1"),
+    *(b"depend-replace a b", b"all depend-replace a b c", b"rule-replace a", b"rule-remove", b"rule-remove a b"),
+    *(b"nth 1 assign top X = 1", b"nth 1 insert after-last-var X x", b"assign after-last-var = 1", b"rule after-rule a : b"),
+    *(b"rule-replace a <<E\nx", b"rule-replace a <<E\nE", b"all rule-replace a b", b"insert after-rule <<E x"),
     *(b"nth 1 all operator X =", b"all values-subst a b", b"values-subst a", b"recipes-subst X a b", b"all replace X a"),
 ]

@@ -12,7 +12,13 @@ from tests.lib import reading
 from . import document
 from .edits import LIMIT, AtPlace, Edit, Span, items_of, new_line, picked, refuse, refuse_leaning
 
-TESTS = {"BeforeVar": is_name, "AfterVar": is_name, "BeforeRule": is_target}
+TESTS = {
+    "BeforeVar": is_name,
+    "AfterVar": is_name,
+    "AfterLastVar": is_name,
+    "BeforeRule": is_target,
+    "AfterRule": is_target,
+}
 
 
 def is_block(text):
@@ -77,8 +83,6 @@ class InsertLines(ExchangeLines, AtPlace):
     def place_in(self, doc):
         """The index of the line before which the new ones go."""
         kind = self.place[0]
-        if kind == "Top":
-            return 0
         if kind in ("BeforeRun", "AfterRun"):
             _, nth, old = self.place
             return picked(runs_of(doc, old), nth)[kind == "AfterRun"]
@@ -97,7 +101,17 @@ class InsertLines(ExchangeLines, AtPlace):
         return b"".join(it + doc.line_end() for it in self.block.split(b"\n"))
 
 
-class OfRun(ExchangeLines):
+class OfLines(ExchangeLines):
+    """An edit of lines that go."""
+
+    def span(self, doc, first, end):
+        return Span(doc.lines[first].start, doc.lines[end - 1].end, self.text(doc, first, end))
+
+    def text(self, doc, first, end):
+        return b""
+
+
+class OfRun(OfLines):
     """An edit of lines that say a block."""
 
     def __init__(self, nth, old):
@@ -109,11 +123,29 @@ class OfRun(ExchangeLines):
     def find(self, doc):
         return picked(runs_of(doc, self.old), self.nth)
 
-    def span(self, doc, first, end):
-        return Span(doc.lines[first].start, doc.lines[end - 1].end, self.text(doc, first, end))
+
+class OfRuleRun(OfLines):
+    """An edit of a rule with its recipe and the conditionals in it."""
+
+    def __init__(self, nth, target):
+        self.nth, self.target = nth, target
+        self.targets = (target,)
+
+    def fields(self):
+        return [("target", self.target, is_target)]
+
+    def find(self, doc):
+        at = picked(doc.rules(self.target), self.nth)
+        count = len(doc.lines[at].targets)
+        refuse(9, count > 1, count)
+        end = doc.rule_end(at)
+        refuse(10, end is None)
+        return at, end
 
 
-class ReplaceLines(OfRun):
+class ByLines(OfLines):
+    """An edit that exchanges lines for those of a block."""
+
     def __init__(self, nth, old, block):
         super().__init__(nth, old)
         self.block = block
@@ -121,21 +153,33 @@ class ReplaceLines(OfRun):
     def fields(self):
         return [*super().fields(), ("block", self.block, is_block)]
 
-    def find(self, doc):
-        runs, there = runs_of(doc, self.old), runs_of(doc, self.block)
-        meant = runs if self.nth is None else [picked(runs, self.nth)]
-        refuse(7, meant and all(has_within(there, *it) for it in meant))
-        return super().find(doc)
-
     def text(self, doc, first, end):
         last, lines = reading.line_end(doc.lines[end - 1].raw), self.block.split(b"\n")
         new = b"".join(it + (last or doc.line_end()) for it in lines)
         return new if last or not lines[-1] else reading.without_line_end(new)
 
 
+class ReplaceLines(ByLines, OfRun):
+    def find(self, doc):
+        runs, there = runs_of(doc, self.old), runs_of(doc, self.block)
+        meant = runs if self.nth is None else [picked(runs, self.nth)]
+        refuse(7, meant and all(has_within(there, *it) for it in meant))
+        return super().find(doc)
+
+
 class RemoveLines(OfRun):
-    def text(self, doc, first, end):
-        return b""
+    pass
 
 
-KINDS = (InsertLines, ReplaceLines, RemoveLines)
+class ReplaceRule(ByLines, OfRuleRun):
+    def find(self, doc):
+        run = super().find(doc)
+        refuse(7, has_within(runs_of(doc, self.block), *run))
+        return run
+
+
+class RemoveWholeRule(OfRuleRun):
+    pass
+
+
+KINDS = (InsertLines, ReplaceLines, RemoveLines, ReplaceRule, RemoveWholeRule)

@@ -11,7 +11,8 @@ were.
 
 from .errors import BadReply, Ended, Error, Fault, Refused, TimedOut
 from .found import Assignment, Condition, Found, Line, RecipeLine, Rule, Step
-from .places import BOTTOM, TOP, Place, Site, after_line, after_var, before_line, before_rule, before_var
+from .places import BOTTOM, TOP, Place, Site
+from .places import after_last_var, after_line, after_rule, after_var, before_line, before_rule, before_var
 from .session import Session, open
 from .texts import assignments, edit
 from .words import NewSeparator, Operator, PlaceWord, Separator, SiteWord
@@ -42,7 +43,9 @@ __all__ = [
     "SiteWord",
     "Step",
     "TimedOut",
+    "after_last_var",
     "after_line",
+    "after_rule",
     "after_var",
     "assignments",
     "before_line",

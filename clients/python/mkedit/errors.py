@@ -27,22 +27,25 @@ SENTENCES = {
         " by `define`, with `+=`, `?=`, `!=` or `:::=`, or to a byte that cannot be a prefix, such as the `$`"
         " of a reference."
     ),
-    "NoSuch": "No assignment or rule has this name, or no lines are OLD, or there is no N-th of them.",
+    "NoSuch": (
+        "No assignment or rule has this name, or no lines are OLD, or there is no N-th of them; for "
+        "`uncomment`, no comment has the form of an assignment of it."
+    ),
     "Ambiguous": (
-        "Several assignments or several rules have this name, and neither `nth` nor `all` says which are "
+        "Several assignments, rules or comments have this name, and neither `nth` nor `all` says which are "
         "meant."
     ),
     "Absent": (
-        "The word to remove or to replace, or beside which a new one is to go, is no prerequisite of the "
-        "rule, or no word of the value, and with `all` of no value of the name; no value or recipe line that "
-        "the command is about has the text FROM; the rule has no K-th recipe line, or none whose text is OLD."
+        "What the command would remove or replace, or put something beside, is not there: a word of the "
+        "prerequisites or of the value, with `all` of any value of the name; the value OLD; the text FROM; "
+        "recipe line K, or one whose text is OLD."
     ),
     "Already": (
         "The new word is already in the prerequisites, or in the value, to which the command adds it, and "
         "with `all` in each value of the name."
     ),
     "Taken": "The new name is already a target of a rule or of a target-specific assignment.",
-    "SharedRule": "The rule to remove has several targets.",
+    "SharedRule": "The rule to remove or to replace has several targets.",
     "Straddles": "A conditional directive stands between the rule's line and its last recipe line.",
     "OpenValue": (
         "The value has a reference that is not closed, or ends in a lone `$` or a lone backslash, or with "

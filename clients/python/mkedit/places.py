@@ -5,8 +5,10 @@ from typing import Optional
 
 from .words import PLACE_WORDS, SITE_WORDS, PlaceWord, SiteWord, one_of
 
-# The words of the places that are no line's, and of those that a line or several tell by their text.
+# The words of the places that are no line's, those that have no number, and those that a line or several tell
+# by their text.
 ENDS = ("top", "bottom")
+SINGLE = (*ENDS, "after-last-var")
 LINE_WORDS = ("before-line", "after-line")
 
 
@@ -22,11 +24,12 @@ class Site:
     nth: Optional[int] = None
 
     def __post_init__(self) -> None:
-        if one_of(SITE_WORDS, self.word) not in ENDS:
-            if self.name is None:
-                raise TypeError(f"{self.word} needs a name")
-        elif (self.name, self.nth) != (None, None):
-            raise ValueError(f"{self.word} has no name and no number")
+        if one_of(SITE_WORDS, self.word) not in ENDS and self.name is None:
+            raise TypeError(f"{self.word} needs a name")
+        if self.word in ENDS and self.name is not None:
+            raise ValueError(f"{self.word} has no name")
+        if self.word in SINGLE and self.nth is not None:
+            raise ValueError(f"{self.word} has no number")
 
 
 @dataclass(frozen=True)
@@ -42,7 +45,7 @@ class Place(Site):
 
 # The end and the start of the file.
 BOTTOM = Place("bottom")
-TOP = Site("top")
+TOP = Place("top")
 
 
 def before_var(name: str, nth: Optional[int] = None) -> Place:
@@ -55,9 +58,19 @@ def after_var(name: str, nth: Optional[int] = None) -> Place:
     return Place("after-var", name, nth)
 
 
+def after_last_var(name: str) -> Place:
+    """After the last assignment of a name."""
+    return Place("after-last-var", name)
+
+
 def before_rule(target: str, nth: Optional[int] = None) -> Place:
     """Before the line of the rule for a target: of the only one, or of the nth, from 1."""
     return Place("before-rule", target, nth)
+
+
+def after_rule(target: str, nth: Optional[int] = None) -> Place:
+    """After the recipe of that rule."""
+    return Place("after-rule", target, nth)
 
 
 def before_line(old: str, nth: Optional[int] = None) -> Site:

@@ -77,6 +77,10 @@ class Session:
         """Replaces the value of an assignment."""
         self._do("set", name, value, nth=nth)
 
+    def set_if(self, name: str, old: str, value: str, nth: Optional[int] = None) -> None:
+        """Replaces the value of the assignment that has the value old."""
+        self._do("set-if", name, old, value, nth=nth)
+
     def append(self, name: str, value: str, nth: Optional[int] = None) -> None:
         """Appends a text to a value."""
         self._do("append", name, value, nth=nth)
@@ -92,6 +96,10 @@ class Session:
     def set_all(self, name: str, value: str) -> None:
         """Replaces the value of each assignment of a name."""
         self._do("set", name, value, before="all")
+
+    def set_if_all(self, name: str, old: str, value: str) -> None:
+        """Replaces the value of each assignment of a name that has the value old."""
+        self._do("set-if", name, old, value, before="all")
 
     def append_all(self, name: str, value: str) -> None:
         """Appends a text to each value of a name."""
@@ -153,6 +161,14 @@ class Session:
         """Removes an assignment."""
         self._do("unset", name, nth=nth)
 
+    def comment_out(self, name: str, nth: Optional[int] = None) -> None:
+        """Makes an assignment a comment."""
+        self._do("comment-out", name, nth=nth)
+
+    def uncomment(self, name: str, nth: Optional[int] = None) -> None:
+        """Makes a comment that has the form of an assignment the assignment."""
+        self._do("uncomment", name, nth=nth)
+
     def assign(self, place: Place, name: str, operator: Operator, value: str) -> None:
         """Inserts a new assignment."""
         self._put_in("assign", place, name, one_of(OPERATORS, operator), value)
@@ -178,6 +194,10 @@ class Session:
     def undepend(self, target: str, word: str, nth: Optional[int] = None) -> None:
         """Removes a word from a rule's prerequisites."""
         self._do("undepend", target, word, nth=nth)
+
+    def depend_replace(self, target: str, old: str, new: str, nth: Optional[int] = None) -> None:
+        """Replaces a word of a rule's prerequisites."""
+        self._do("depend-replace", target, old, new, nth=nth)
 
     def recipe(self, target: str, line: str, nth: Optional[int] = None) -> None:
         """Appends a line to a rule's recipe."""
@@ -234,6 +254,14 @@ class Session:
     def line_remove(self, old: str, nth: Optional[int] = None) -> None:
         """Removes the line that is old, or the lines."""
         self._exchange(["line-remove"], old, nth=nth)
+
+    def rule_replace(self, target: str, lines: str, nth: Optional[int] = None) -> None:
+        """Replaces a rule and its recipe, with the conditionals in it, by lines of any class."""
+        self._exchange(["rule-replace", field(target)], lines, nth=nth)
+
+    def rule_remove(self, target: str, nth: Optional[int] = None) -> None:
+        """Removes a rule and its recipe, with the conditionals in it."""
+        self._do("rule-remove", target, nth=nth)
 
     # ---- history
 

@@ -8,13 +8,13 @@ from typing import List, Literal, Tuple, TypeVar, get_args
 Operator = Literal["=", ":=", "::=", ":::=", "?=", "+=", "!="]
 Separator = Literal[":", "::", "&:", "&::"]
 NewSeparator = Literal[":", "::"]
-PlaceWord = Literal["bottom", "before-var", "after-var", "before-rule"]
-SiteWord = Literal["bottom", "before-var", "after-var", "before-rule", "top", "before-line", "after-line"]
+PlaceWord = Literal["top", "bottom", "before-var", "after-var", "after-last-var", "before-rule", "after-rule"]
+SiteWord = Literal[PlaceWord, "before-line", "after-line"]
 OPERATORS: Tuple[Operator, ...] = get_args(Operator)
 SEPARATORS: Tuple[Separator, ...] = get_args(Separator)
 NEW_SEPARATORS: Tuple[NewSeparator, ...] = get_args(NewSeparator)
 PLACE_WORDS: Tuple[PlaceWord, ...] = get_args(PlaceWord)
-SITE_WORDS: Tuple[SiteWord, ...] = get_args(SiteWord)
+SITE_WORDS: Tuple[SiteWord, ...] = (*PLACE_WORDS, "before-line", "after-line")
 W = TypeVar("W", bound=str)
 
 # The greatest number in a command (docs/EDITS.md: K, and N of `nth N`), and in a request (docs/PROTOCOL.md).
@@ -75,12 +75,12 @@ def block_words(command: str) -> List[str]:
         first += 1
     if fields[first] == "nth":
         first += 2
-    if fields[first] not in ("insert", "line-replace", "line-remove"):
+    plain = {"insert": 1, "rule-replace": 1, "line-replace": 0, "line-remove": 0}.get(fields[first])
+    if plain is None:
         return []
-    if fields[first] == "insert":
-        first += 1 if fields[first + 1] in ("before-var", "after-var", "before-rule") else 0
-        first += 1
-    return [it[1] for it in map(BLOCK.fullmatch, fields[first + 1 :]) if it]
+    if fields[first] == "insert" and fields[first + 1] not in ("top", "bottom", "before-line", "after-line"):
+        plain += 1
+    return [it[1] for it in map(BLOCK.fullmatch, fields[first + 1 + plain :]) if it]
 
 
 def word(text: str) -> str:

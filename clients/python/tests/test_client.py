@@ -25,6 +25,9 @@ class Client(ClientCase):
             (lambda it: it.set("CC", 'a "b" \\c'), "gcc", 'a "b" \\c'),
             (lambda it: it.set("X", "3", nth=2), "X = 2", "X = 3"),
             (lambda it: it.set_all("X", ""), "X = 1\nX = 2", "X = \nX = "),
+            (lambda it: it.set_if("X", "2", "3"), "X = 2", "X = 3"),
+            (lambda it: it.set_if("X", "2", "3", nth=1), "X = 2", "X = 3"),
+            (lambda it: it.set_if_all("X", "1", ""), "X = 1", "X = "),
             (lambda it: it.append("CFLAGS", "-g -pipe"), "-Werror", "-Werror -g -pipe"),
             (lambda it: it.append_all("X", "3"), "X = 1\nX = 2", "X = 1 3\nX = 2 3"),
             (lambda it: it.add("CFLAGS", "-g"), "-Werror", "-Werror -g"),
@@ -43,6 +46,9 @@ class Client(ClientCase):
             (lambda it: it.operator_all("X", ":="), "X = 1\nX = 2", "X := 1\nX := 2"),
             (lambda it: it.values_subst("-W", "-f"), "-Werror", "-ferror"),
             (lambda it: it.unset("X", nth=1), "X = 1\n", ""),
+            (lambda it: it.comment_out("X", nth=2), "X = 2", "#X = 2"),
+            (lambda it: it.assign(mkedit.TOP, "X", "=", ""), "CC", "X =\nCC"),
+            (lambda it: it.assign(mkedit.after_last_var("X"), "X", "+=", "3"), "X = 2\n", "X = 2\nX += 3\n"),
             (lambda it: it.assign(mkedit.after_var("CC"), "CXX", ":=", "g++"), "# c\n", "# c\nCXX := g++\n"),
             (lambda it: it.assign(mkedit.before_var("X", nth=2), "Y", "?=", ""), "X = 2", "Y ?=\nX = 2"),
         )
@@ -54,10 +60,12 @@ class Client(ClientCase):
         cases = (
             (lambda it: it.rule(mkedit.before_rule("all"), "x y", ":", "z"), "all:", "x y: z\nall:"),
             (lambda it: it.rule(mkedit.BOTTOM, "x", "::", ""), "x\n", "x\nx::\n"),
+            (lambda it: it.rule(mkedit.after_rule("all"), "x", ":", ""), "x\n", "x\nx:\n"),
             (lambda it: it.unrule("all"), MAKEFILE[MAKEFILE.index("all") :], ""),
             (lambda it: it.depend("all", "c.o"), "b.o", "b.o c.o"),
             (lambda it: it.depend_order("all", "out"), "b.o", "b.o | out"),
             (lambda it: it.undepend("all", "a.o"), " a.o", ""),
+            (lambda it: it.depend_replace("all", "a.o", "c.o"), "a.o", "c.o"),
             (lambda it: it.recipe("all", "ls"), "rm -f x\n", "rm -f x\n\tls\n"),
             (lambda it: it.recipe_insert("all", 1, "ls"), "\tcc", "\tls\n\tcc"),
             (lambda it: it.recipe_set("all", 2, "ls"), "rm -f x", "ls"),
@@ -89,6 +97,10 @@ class Client(ClientCase):
             (lambda it: it.line_replace("X = 1\nX = 2", "ifdef A\nX = 1\nendif"), "X = 1\nX = 2", "ifdef A\nX = 1\nendif"),
             (lambda it: it.insert(mkedit.after_line("X = 2\n"), "# b\n"), "X = 2\n\n", "X = 2\n\n# b\n\n"),
             (lambda it: it.line_remove("X = 1\nX = 2", nth=1), "X = 1\nX = 2\n", ""),
+            (lambda it: it.insert(mkedit.after_last_var("X"), "# x"), "X = 2\n", "X = 2\n# x\n"),
+            (lambda it: it.insert(mkedit.after_rule("all", nth=1), "# x\n# y"), "rm -f x\n", "rm -f x\n# x\n# y\n"),
+            (lambda it: it.rule_replace("all", "all:\n\tls"), MAKEFILE[MAKEFILE.index("all") :], "all:\n\tls\n"),
+            (lambda it: it.rule_remove("all", nth=1), MAKEFILE[MAKEFILE.index("all") :], ""),
         )
         for edit, old, new in cases:
             with self.subTest(new):

@@ -261,7 +261,7 @@ class Exceptions(unittest.TestCase):
             copy = pickle.loads(pickle.dumps(fault))
             self.assertEqual((type(copy), str(copy), vars(copy)), (type(fault), str(fault), vars(fault)))
         self.assertEqual(str(mkedit.Refused(20, "NoMemory", None)), "20 NoMemory: Memory ran out.")
-        self.assertRegex(str(mkedit.Refused(5, "Ambiguous", 2)), "^5 Ambiguous 2: Several assignments .*[.]$")
+        self.assertRegex(str(mkedit.Refused(5, "Ambiguous", 2)), "^5 Ambiguous 2: Several assignments.*[.]$")
 
 
 if __name__ == "__main__":

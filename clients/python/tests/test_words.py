@@ -3,7 +3,8 @@
 import unittest
 
 import mkedit
-from mkedit import BOTTOM, TOP, after_line, after_var, before_line, before_rule, before_var, words
+from mkedit import BOTTOM, TOP, words
+from mkedit import after_last_var, after_line, after_rule, after_var, before_line, before_rule, before_var
 
 from .cases import MAKEFILE, ClientCase
 
@@ -12,6 +13,10 @@ BAD_TEXTS = ("a\nwrite!", "\n", "a\n", "a\rb", "a\r", "a\0b", "\ud800")
 WITH_FIELD = (
     lambda it, bad: it.set(bad, "1"),
     lambda it, bad: it.set("X", bad),
+    lambda it, bad: it.set_if("X", bad, "1"),
+    lambda it, bad: it.set_if("X", "1", bad),
+    lambda it, bad: it.set_if_all("X", bad, "1"),
+    lambda it, bad: it.set_if_all(bad, "1", "2"),
     lambda it, bad: it.append("X", bad),
     lambda it, bad: it.add("X", bad),
     lambda it, bad: it.drop(bad, "1"),
@@ -40,11 +45,15 @@ WITH_FIELD = (
     lambda it, bad: it.values_subst(bad, "1"),
     lambda it, bad: it.values_subst("1", bad),
     lambda it, bad: it.unset(bad),
+    lambda it, bad: it.comment_out(bad),
+    lambda it, bad: it.uncomment(bad),
     lambda it, bad: it.assign(BOTTOM, bad, "=", "1"),
     lambda it, bad: it.assign(BOTTOM, "Y", bad, "1"),
     lambda it, bad: it.assign(BOTTOM, "Y", "=", bad),
     lambda it, bad: it.assign(before_var(bad), "Y", "=", "1"),
+    lambda it, bad: it.assign(after_last_var(bad), "Y", "=", "1"),
     lambda it, bad: it.rule(after_var(bad), "a", ":", "b"),
+    lambda it, bad: it.rule(after_rule(bad), "a", ":", "b"),
     lambda it, bad: it.rule(before_rule(bad), "a", ":", "b"),
     lambda it, bad: it.rule(mkedit.Place(bad, "X"), "a", ":", "b"),
     lambda it, bad: it.rule(BOTTOM, bad, ":", "b"),
@@ -54,6 +63,8 @@ WITH_FIELD = (
     lambda it, bad: it.depend("all", bad),
     lambda it, bad: it.depend_order(bad, "a"),
     lambda it, bad: it.undepend("all", bad),
+    lambda it, bad: it.depend_replace("all", bad, "a"),
+    lambda it, bad: it.depend_replace("all", "a", bad),
     lambda it, bad: it.recipe("all", bad),
     lambda it, bad: it.recipe_insert("all", 1, bad),
     lambda it, bad: it.recipe_set(bad, 1, "ls"),
@@ -66,6 +77,8 @@ WITH_FIELD = (
     lambda it, bad: it.recipes_subst(bad, "b"),
     lambda it, bad: it.recipes_subst("a", bad),
     lambda it, bad: it.rename("all", bad),
+    lambda it, bad: it.rule_replace(bad, "# x"),
+    lambda it, bad: it.rule_remove(bad),
     lambda it, bad: it.insert(before_var(bad), "# x"),
     lambda it, bad: it.insert(mkedit.Site(bad, "X"), "# x"),
 )
@@ -77,6 +90,7 @@ WITH_BLOCK = (
     lambda it, bad: it.line_replace(bad, "# x"),
     lambda it, bad: it.line_replace("X = 1", bad),
     lambda it, bad: it.line_remove(bad),
+    lambda it, bad: it.rule_replace("all", bad),
 )
 WITH_WORD = (
     lambda it, bad: it.get(bad),
@@ -90,6 +104,7 @@ WITH_WORD = (
 )
 WITH_NUMBER = (
     lambda it, bad: it.set("X", "1", nth=bad),
+    lambda it, bad: it.set_if("X", "1", "2", nth=bad),
     lambda it, bad: it.append("X", "1", nth=bad),
     lambda it, bad: it.add("X", "1", nth=bad),
     lambda it, bad: it.drop("X", "1", nth=bad),
@@ -100,13 +115,17 @@ WITH_NUMBER = (
     lambda it, bad: it.subst("X", "1", "2", nth=bad),
     lambda it, bad: it.operator("X", "=", nth=bad),
     lambda it, bad: it.unset("X", nth=bad),
+    lambda it, bad: it.comment_out("X", nth=bad),
+    lambda it, bad: it.uncomment("X", nth=bad),
     lambda it, bad: it.assign(before_var("X", nth=bad), "Y", "=", "1"),
     lambda it, bad: it.rule(after_var("X", nth=bad), "a", ":", "b"),
     lambda it, bad: it.rule(before_rule("all", nth=bad), "a", ":", "b"),
+    lambda it, bad: it.rule(after_rule("all", nth=bad), "a", ":", "b"),
     lambda it, bad: it.unrule("all", nth=bad),
     lambda it, bad: it.depend("all", "a", nth=bad),
     lambda it, bad: it.depend_order("all", "a", nth=bad),
     lambda it, bad: it.undepend("all", "a", nth=bad),
+    lambda it, bad: it.depend_replace("all", "a", "b", nth=bad),
     lambda it, bad: it.recipe("all", "ls", nth=bad),
     lambda it, bad: it.recipe_insert("all", bad, "ls"),
     lambda it, bad: it.recipe_insert("all", 1, "ls", nth=bad),
@@ -122,6 +141,8 @@ WITH_NUMBER = (
     lambda it, bad: it.insert(after_line("X = 1", nth=bad), "# x"),
     lambda it, bad: it.line_replace("X = 1", "# x", nth=bad),
     lambda it, bad: it.line_remove("X = 1", nth=bad),
+    lambda it, bad: it.rule_replace("all", "# x", nth=bad),
+    lambda it, bad: it.rule_remove("all", nth=bad),
 )
 WITH_NUMBER_OF_REQUEST = (
     lambda it, bad: it.lines(bad, 1),
@@ -181,7 +202,7 @@ class Words(ClientCase):
             lambda it, bad: it.assign(bad, "Y", "=", "1"),
             lambda it, bad: it.rule(bad, "a", ":", "b"),
             lambda it, bad: it.insert(bad, "# x"),
-            lambda it, _: it.assign(TOP, "Y", "=", "1"),
+            lambda it, _: it.assign(before_line("X = 1"), "Y", "=", "1"),
             lambda it, _: it.rule(before_line("X = 1"), "a", ":", "b"),
         )
         self.assert_nothing_is_sent(calls, ("bottom", ("bottom",), None), TypeError)

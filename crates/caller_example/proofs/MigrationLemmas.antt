@@ -11,7 +11,7 @@ use Rattle.mk_edit_language.specs.declared.refusal.Refusal.{Refusal}
 use Rattle.mk_edit_language.proofs.on_lines.SpotLemmas.{picked-is}
 use Rattle.mk_history.specs.Machine.{Apply}
 use Rattle.mk_history.specs.Shown.{Shown}
-use Rattle.mk_lookup.specs.Lookups.{looked_up, value_at, value_unless}
+use Rattle.mk_session.specs.Lookups.{looked_up, value_at, value_unless}
 use Rattle.mk_session.specs.CallerLaws.{EditsKeepTheirOtherLines, EditsReplaceTheirSpans}
 use Rattle.mk_session.specs.Sessions.{answer}
 use Rattle.caller_example.specs.Migrated.{AreMigrated, HasValue}

@@ -3,7 +3,7 @@
 use Rattle.std.specs.Prelude.{◌≡◌, ◌⊎◌, ℕ, true, List, [], ◌∷◌}
 use Rattle.mk_class.specs.ClassedLines.{ClassedLine}
 use Rattle.mk_edit_language.specs.Addresses.{assigns}
-use Rattle.mk_lookup.specs.Lookups.{value_of}
+use Rattle.mk_session.specs.Lookups.{value_of}
 
 -- a line assigns the variable of this name, and gives it this value
 abbrev pub HasValue : (name value : List ℕ) → ClassedLine → Type 0

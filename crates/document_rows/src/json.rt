@@ -2,8 +2,8 @@
 ghost use Rattle.mk_tree.specs.Documents.{IsFaithful};
 
 use crate::documents::document;
-use mk_json::{caveats_json, check_json, push_text_line, recipes_json, rules_json, vars_json};
 use mk_lines::Fault;
+use mk_queries::{caveats_json, check_json, push_text_line, recipes_json, rules_json, vars_json};
 use mk_tree::Doc;
 use std::alloc::{AllocError, Allocator};
 use test_support::Case;

@@ -11,11 +11,20 @@ use mk_lines::{
 use test_support::text::{joined, number};
 use test_support::{Case, MemorySource};
 
-/// The texts of the faults.
+/// The texts of the faults, with a bar behind each.
 pub fn faults(case: &Case<'_>) -> Result<Vec<u8>, Fault> {
-    let (memory, long, deep) = (Fault::NoMemory, Fault::TooLong, Fault::TooDeep);
-    let (depth, read, write) = (Fault::BadDepth, Fault::Read, Fault::Write);
-    let shown = format!(in case.alloc; "{memory}, {long}, {deep}, {depth}, {read}, {write}")?;
+    let mut shown = String::new(case.alloc);
+    for fault in [
+        Fault::NoMemory,
+        Fault::TooLong,
+        Fault::TooDeep,
+        Fault::BadDepth,
+        Fault::Read,
+        Fault::Write,
+    ] {
+        shown.push_str(&fault.to_string(case.alloc)?)?;
+        shown.push_str("|")?;
+    }
     Ok(shown.into_bytes())
 }
 

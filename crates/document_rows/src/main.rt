@@ -5,9 +5,9 @@
 //! - [`devices`]: a reader and a writer whose calls end as a text says.
 //! - [`classes`]: `mk_class`.
 //! - [`documents`]: `mk_tree`.
-//! - [`views`]: `mk_tree::views` and `mk_listing`.
+//! - [`views`]: `mk_tree::views` and `mk_queries::listing`.
 //! - [`queries`]: `mk_queries`.
-//! - [`json`]: `mk_json`.
+//! - [`json`]: the queries of `mk_queries` as JSON.
 //! - [`diffs`]: `mk_diff`.
 #![tactic(auto)]
 

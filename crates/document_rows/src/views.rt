@@ -2,7 +2,7 @@
 
 use crate::documents::document;
 use mk_lines::Fault;
-use mk_listing::{
+use mk_queries::listing::{
     RuleLine, assignment_number, assignments, assignments_of, line_at, numbered, rule_lines,
     rule_lines_for, rule_number, with_conditionals,
 };

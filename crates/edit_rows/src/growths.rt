@@ -11,7 +11,7 @@ use test_support::difference::{Stop, holds};
 /// Runs the commands of a row in a session, once for each of their growths, which is refused then.
 ///
 /// - A command that finds no memory changes nothing, and is made afterwards. Of the refusals none but
-///   `Misread` may be hidden by it, and `Leans` of whole lines.
+///   `Misread` may be hidden by it, and `Leans` of whole lines and of `uncomment`.
 /// - The text at the end is the expected one.
 /// - The end of a group, undoing all and redoing it take no memory.
 pub fn check_growths<'h>(alloc: Global, heap: &'h Heap, row: &Row<'_, 'h>) -> Result<(), Stop> {
@@ -69,12 +69,12 @@ fn check_commands<'h>(
 
 /// Whether want of memory may hide the reply to a command: of the refusals one that needs the new lines.
 fn may_be_hidden(expectation: &Expectation<'_, '_>) -> bool {
-    let is_of_lines = matches!(
+    let reads_first = matches!(
         &expectation.command,
-        Command::Apply(Edit::ExchangeLines { .. })
+        Command::Apply(Edit::ExchangeLines { .. } | Edit::Uncomment { .. })
     );
     let reply = expectation.reply;
-    reply == "done" || reply == "21 Misread" || (is_of_lines && reply == "14 Leans")
+    reply == "done" || reply == "21 Misread" || (reads_first && reply == "14 Leans")
 }
 
 /// Runs a command that has found no memory once more.

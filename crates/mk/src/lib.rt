@@ -17,14 +17,14 @@ pub use mk_diff::{diff, painted};
 pub use mk_history::history::MAX_DEPTH;
 pub use mk_lines::source::{MAX_TEXT, read_all};
 pub use mk_lines::{ByteSink, ByteSource, Fault, StdSink, StdSource};
-pub use mk_listing::{
+pub use mk_queries::listing::{
     AssignmentLine, Branch, LinesInBranches, Position, RecipeLine, RuleLine, assignment_number,
     assignments, assignments_of, line_at, numbered, rule_lines, rule_lines_for, rule_number,
     with_conditionals,
 };
-pub use mk_lookup::{find_assignment, find_rule, get};
 pub use mk_run::{Observer, Outcome, Reported, message, run, run_steps, status};
 pub use mk_script::{Chain, ScriptFault, Step, line_of_edit, parse_script};
+pub use mk_session::lookup::{find_assignment, find_rule, get};
 pub use mk_session::{
     Command, Detail, EachEdit, Edit, Expected, Field, Flavor, LineChange, Place, Refusal,
     RuleSeparator, Session, Side, Site, ValueChange, laws,

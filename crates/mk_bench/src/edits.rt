@@ -2,55 +2,13 @@
 //! many, in microseconds, with how many lines were read for them.
 use mk_class::{Class, Flavor};
 use mk_session::{Edit, Place, RuleSeparator, Session};
-use std::alloc::AllocError;
 use std::time::{CpuClock, Duration};
 
 /// How many edits of one kind are made where many are.
 const MANY: u32 = 1_000;
 
-fn bytes(rt: &HostRuntime, text: &[u8]) -> Result<Vec<u8>, AllocError> {
-    Vec::from_slice(rt.alloc(), text)
-}
-
-// Gives the only variable of a name another value.
-fn set_value(rt: &HostRuntime, name: &[u8], value: &[u8]) -> Result<Edit, AllocError> {
-    Ok(Edit::SetValue {
-        nth: None,
-        name: bytes(rt, name)?,
-        value: bytes(rt, value)?,
-    })
-}
-
-// Puts an assignment at the end.
-fn add_assign(rt: &HostRuntime, name: &[u8], value: &[u8]) -> Result<Edit, AllocError> {
-    Ok(Edit::AddAssign {
-        place: Place::Bottom,
-        name: bytes(rt, name)?,
-        flavor: Flavor::Recursive,
-        value: bytes(rt, value)?,
-    })
-}
-
-// Puts a rule without prerequisites at the end.
-fn add_rule(rt: &HostRuntime, target: &[u8]) -> Result<Edit, AllocError> {
-    Ok(Edit::AddRule {
-        place: Place::Bottom,
-        targets: bytes(rt, target)?,
-        separator: RuleSeparator::Single,
-        prereqs: bytes(rt, b"")?,
-    })
-}
-
-// Gives a target another name.
-fn rename_target(rt: &HostRuntime, from: &[u8], to: &[u8]) -> Result<Edit, AllocError> {
-    Ok(Edit::RenameTarget {
-        from: bytes(rt, from)?,
-        to: bytes(rt, to)?,
-    })
-}
-
-// Prints what a step cost: its time, and how many lines it read.
-fn told(
+/// Prints what a step cost: its time, and how many lines it read.
+pub(crate) fn told(
     rt: &HostRuntime,
     step: &str,
     start: Duration,
@@ -108,17 +66,17 @@ fn walked(rt: &HostRuntime, session: &Session) -> anyhow::Result<()> {
 }
 
 // Puts in the lines that are edited later, which is not measured.
-fn prepared(rt: &HostRuntime, session: &mut Session) -> anyhow::Result<()> {
-    session.apply(&add_assign(rt, b"LAST_OF_ALL", b"1")?)?;
-    session.apply(&add_rule(rt, b"build")?)?;
+fn prepared(session: &mut Session) -> anyhow::Result<()> {
+    session.assign(Place::Bottom, b"LAST_OF_ALL", Flavor::Recursive, b"1")?;
+    session.rule(Place::Bottom, b"build", RuleSeparator::Single, b"")?;
     Ok(())
 }
 
 // Sets the last variable once, and many times to two values in turn.
 fn sets(rt: &HostRuntime, session: &mut Session) -> anyhow::Result<()> {
     let values = [
-        set_value(rt, b"LAST_OF_ALL", b"22")?,
-        set_value(rt, b"LAST_OF_ALL", b"3")?,
+        Edit::set(rt.alloc(), b"LAST_OF_ALL", b"22")?,
+        Edit::set(rt.alloc(), b"LAST_OF_ALL", b"3")?,
     ];
     applied(rt, session, "set", &values[..1], 1)?;
     applied(rt, session, "sets", &values, MANY / 2)
@@ -126,14 +84,14 @@ fn sets(rt: &HostRuntime, session: &mut Session) -> anyhow::Result<()> {
 
 // Puts many assignments at the end.
 fn assigns(rt: &HostRuntime, session: &mut Session) -> anyhow::Result<()> {
-    let lines = [add_assign(rt, b"NEW_ONE", b"value")?];
-    applied(rt, session, "assigns", &lines, MANY)
+    let line = Place::Bottom.assign(rt.alloc(), b"NEW_ONE", Flavor::Recursive, b"value")?;
+    applied(rt, session, "assigns", &[line], MANY)
 }
 
 // Renames the last target.
 fn renames(rt: &HostRuntime, session: &mut Session) -> anyhow::Result<()> {
-    let names = [rename_target(rt, b"build", b"output")?];
-    applied(rt, session, "rename", &names, 1)
+    let names = Edit::rename(rt.alloc(), b"build", b"output")?;
+    applied(rt, session, "rename", &[names], 1)
 }
 
 // Undoes all that was done.
@@ -155,7 +113,7 @@ fn undos(rt: &HostRuntime, session: &mut Session) -> anyhow::Result<()> {
 pub(crate) fn measure(rt: &HostRuntime, text: &[u8]) -> anyhow::Result<()> {
     let mut session = opened(rt, text)?;
     walked(rt, &session)?;
-    prepared(rt, &mut session)?;
+    prepared(&mut session)?;
     sets(rt, &mut session)?;
     assigns(rt, &mut session)?;
     renames(rt, &mut session)?;

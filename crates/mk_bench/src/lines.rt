@@ -1,6 +1,7 @@
 //! The lines of a text: prints the processor time of splitting it, of the cells of its lines, of its
 //! units and words, and of the classes of its lines with their cells, in microseconds, with how many
 //! of them there are.
+use crate::edits::told;
 use mk_class::context::MAX_DEFINES;
 use mk_class::{Class, Context, Meter, classify};
 use mk_lines::cells::cells;
@@ -8,39 +9,47 @@ use mk_lines::split::{Span, split};
 use mk_lines::{units, words};
 use std::time::{CpuClock, Duration};
 
-// The microseconds of processor time since `start`.
-fn micros_since(rt: &HostRuntime, start: Duration) -> anyhow::Result<u128> {
-    let now = rt.process_cpu_time()?;
-    Ok(now.saturating_sub(start).as_micros())
-}
-
 /// Measures the lines of a text.
+// The steps are functions of their own, as those of edits are.
 pub(crate) fn measure(rt: &HostRuntime, text: &[u8]) -> anyhow::Result<()> {
     let start = rt.process_cpu_time()?;
     let lines = split(rt.alloc(), text)?;
-    println!(rt; "split {} {}", micros_since(rt, start)?, lines.len())?;
+    measure_lines(rt, text, lines.as_slice(), start)
+}
+
+// Measures what is done with the lines of a text, whose splitting began then.
+fn measure_lines(
+    rt: &HostRuntime,
+    text: &[u8],
+    lines: &[Span],
+    start: Duration,
+) -> anyhow::Result<()> {
+    told(rt, "split", start, 0, lines.len() as u64)?;
 
     let start = rt.process_cpu_time()?;
+    let joined = joined_length(rt, text, lines)?;
+    told(rt, "cells", start, 0, joined as u64)?;
+
+    let start = rt.process_cpu_time()?;
+    told(rt, "units", start, 0, units(text).count() as u64)?;
+
+    let start = rt.process_cpu_time()?;
+    told(rt, "words", start, 0, words(text).count() as u64)?;
+
+    let start = rt.process_cpu_time()?;
+    let read = read_lines(rt, text, lines)?;
+    told(rt, "classes", start, 0, read as u64)
+}
+
+// How many bytes the joined texts of lines have.
+fn joined_length(rt: &HostRuntime, text: &[u8], lines: &[Span]) -> anyhow::Result<usize> {
     let mut joined = 0usize;
-    for line in lines.as_slice() {
+    for line in lines {
         let line = text.get(line.start..line.end).unwrap_or_default();
         let cells = cells(rt.alloc(), line)?;
         joined = joined.saturating_add(cells.text(line).len());
     }
-    println!(rt; "cells {} {joined}", micros_since(rt, start)?)?;
-
-    let start = rt.process_cpu_time()?;
-    let count = units(text).count();
-    println!(rt; "units {} {count}", micros_since(rt, start)?)?;
-
-    let start = rt.process_cpu_time()?;
-    let count = words(text).count();
-    println!(rt; "words {} {count}", micros_since(rt, start)?)?;
-
-    let start = rt.process_cpu_time()?;
-    let count = read_lines(rt, text, lines.as_slice())?;
-    println!(rt; "classes {} {count}", micros_since(rt, start)?)?;
-    Ok(())
+    Ok(joined)
 }
 
 // How many of the lines are read inside, each classified in its context.

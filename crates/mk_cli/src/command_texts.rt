@@ -16,6 +16,21 @@ makes
     CC = clang # c
 ";
 
+const SET_IF: &str = "\
+Replaces the value of the assignment that has the value OLD.
+
+Is refused with BadArgument, Reserved, RecipePrefix, NoSuch, Absent, Ambiguous or TooLong.
+
+Example: over
+    CFLAGS = -g
+    CFLAGS += -O2
+the script
+    set-if CFLAGS -O2 -O3
+makes
+    CFLAGS = -g
+    CFLAGS += -O3
+";
+
 const APPEND: &str = "\
 Appends text to a value.
 
@@ -170,11 +185,41 @@ makes
     CFLAGS = -O2
 ";
 
+const COMMENT_OUT: &str = "\
+Makes an assignment a comment.
+
+Is refused with BadArgument, Reserved, RecipePrefix, NoSuch, Ambiguous, Leans or TooLong.
+
+Example: over
+    CC = gcc
+    CFLAGS = -O2
+the script
+    comment-out CC
+makes
+    #CC = gcc
+    CFLAGS = -O2
+";
+
+const UNCOMMENT: &str = "\
+Makes a comment that has the form of an assignment of NAME the assignment.
+
+Is refused with BadArgument, Reserved, RecipePrefix, NoSuch, Ambiguous, Misread or Leans.
+
+Example: over
+    # SYSTEMD = yes
+    # SYSTEMD is for version 2
+the script
+    uncomment SYSTEMD
+makes
+    SYSTEMD = yes
+    # SYSTEMD is for version 2
+";
+
 const ASSIGN: &str = "\
 Inserts a new assignment at PLACE.
 
-Is refused with BadArgument, Reserved, RecipePrefix, NoSuch, Ambiguous, OpenLine, OpenDefine, Leans
-or TooLong.
+Is refused with BadArgument, Reserved, RecipePrefix, NoSuch, Ambiguous, Straddles, OpenLine,
+OpenDefine, Leans or TooLong.
 
 Example: over
     CC = gcc
@@ -189,8 +234,8 @@ const RULE: &str = "\
 Inserts the line of a new rule at PLACE, even if a target has a rule already. A rule without
 prerequisites has `\"\"` for PREREQS.
 
-Is refused with BadArgument, Reserved, RecipePrefix, NoSuch, Ambiguous, OpenLine, OpenDefine, Leans
-or TooLong.
+Is refused with BadArgument, Reserved, RecipePrefix, NoSuch, Ambiguous, Straddles, OpenLine,
+OpenDefine, Leans or TooLong.
 
 Example: over
     CC = gcc
@@ -254,6 +299,20 @@ the script
     undepend all log.o
 makes
     all: main.o
+";
+
+const DEPEND_REPLACE: &str = "\
+Replaces a word of a rule's prerequisites, in both lists.
+
+Is refused with BadArgument, Reserved, RecipePrefix, NoSuch, Ambiguous, Absent, Already, TooLong or
+Misread.
+
+Example: over
+    prog: main.o libold.a | build
+the script
+    depend-replace prog libold.a libnew.a
+makes
+    prog: main.o libnew.a | build
 ";
 
 const RECIPE: &str = "\
@@ -393,8 +452,8 @@ const INSERT: &str = "\
 Inserts lines of any class: comments, directives, assignments. If BLOCK is `<<WORD`, its lines stand
 below the command, up to the line WORD.
 
-Is refused with BadArgument, Reserved, RecipePrefix, NoSuch, Ambiguous, Already, OpenLine, OpenDefine,
-TooLong, Misread or Leans.
+Is refused with BadArgument, Reserved, RecipePrefix, NoSuch, Ambiguous, Straddles, Already, OpenLine,
+OpenDefine, TooLong, Misread or Leans.
 
 Example: over
     include a.mk
@@ -448,6 +507,49 @@ makes
     CC = gcc
 ";
 
+const RULE_REPLACE: &str = "\
+Replaces a rule and its recipe, with the conditionals in it, by lines of any class. BLOCK may be
+`<<WORD`, with its lines below the command, up to the line WORD.
+
+Is refused with BadArgument, Reserved, RecipePrefix, NoSuch, Ambiguous, SharedRule, Straddles, Already,
+TooLong, Misread or Leans.
+
+Example: over
+    test: prog
+    ifdef SLOW
+    \t./prog --slow
+    endif
+    \t./prog
+    CC = gcc
+the script
+    rule-replace test <<END
+    test: prog
+    \t./prog --fast
+    END
+makes
+    test: prog
+    \t./prog --fast
+    CC = gcc
+";
+
+const RULE_REMOVE: &str = "\
+Removes a rule and its recipe, with the conditionals in it.
+
+Is refused with BadArgument, Reserved, RecipePrefix, NoSuch, Ambiguous, SharedRule, Straddles, Misread or
+Leans.
+
+Example: over
+    test: prog
+    ifdef SLOW
+    \t./prog --slow
+    endif
+    CC = gcc
+the script
+    rule-remove test
+makes
+    CC = gcc
+";
+
 const RENAME: &str = "\
 Renames a target, also where it is a prerequisite. Recipes stay as they are.
 
@@ -481,8 +583,8 @@ makes
 ";
 
 const ALL: &str = "\
-Applies COMMAND to every assignment of the name, as one edit. COMMAND is `set`, `append`, `add`, `drop`,
-`prepend`, `replace`, `subst` or `operator`.
+Applies COMMAND to every assignment of the name, as one edit. COMMAND is `set`, `set-if`, `append`, `add`,
+`drop`, `prepend`, `replace`, `subst` or `operator`.
 
 Is refused with those of COMMAND, but not with Ambiguous.
 
@@ -605,8 +707,9 @@ makes
 ";
 
 /// What is said of each command of a script, and of the words that may stand before one.
-pub(crate) static TEXTS: [(&str, &str); 39] = [
+pub(crate) static TEXTS: [(&str, &str); 45] = [
     ("set", SET),
+    ("set-if", SET_IF),
     ("append", APPEND),
     ("add", ADD),
     ("drop", DROP),
@@ -618,12 +721,15 @@ pub(crate) static TEXTS: [(&str, &str); 39] = [
     ("operator", OPERATOR),
     ("values-subst", VALUES_SUBST),
     ("unset", UNSET),
+    ("comment-out", COMMENT_OUT),
+    ("uncomment", UNCOMMENT),
     ("assign", ASSIGN),
     ("rule", RULE),
     ("unrule", UNRULE),
     ("depend", DEPEND),
     ("depend-order", DEPEND_ORDER),
     ("undepend", UNDEPEND),
+    ("depend-replace", DEPEND_REPLACE),
     ("recipe", RECIPE),
     ("recipe-insert", RECIPE_INSERT),
     ("recipe-set", RECIPE_SET),
@@ -635,6 +741,8 @@ pub(crate) static TEXTS: [(&str, &str); 39] = [
     ("insert", INSERT),
     ("line-replace", LINE_REPLACE),
     ("line-remove", LINE_REMOVE),
+    ("rule-replace", RULE_REPLACE),
+    ("rule-remove", RULE_REMOVE),
     ("rename", RENAME),
     ("nth", NTH),
     ("all", ALL),

@@ -14,8 +14,8 @@ it is not empty either. `from` is not empty.
 `target`, `word`, `old` and `new` are one word each, without a blank outside a reference; `targets`
 and `prereqs` are such words, and `targets` is not empty. Outside a reference no word has a `#`, `:`, `;`,
 `=`, `|`, backslash or lone `$`, and each reference is closed. No target ends in `&`. `place` contains
-such a name or target. In edits of variables `word` and `new` are words of a value: they follow the
-rules for `value`, and are not empty.
+such a name or target. In edits of variables `word`, `new` and `old` follow the rules for `value`; `word`
+and `new` are words of a value, and are not empty.
 `line` and `block`, and an `old` that is lines, do not end in a backslash. No field has a CR or a NUL.
 
 Example: the script
@@ -23,8 +23,8 @@ Example: the script
 is reported as
     1: refused 1 BadArgument value
 
-If a name has a reference, as `obj-$(X)` has, use `line-replace`. In a value write `\\#`, and between
-double quotes `\\\\#`, or put the `#` inside a reference.
+For a name with a reference, as `obj-$(X)`, use `line-replace`. In a value write `\\#`, between double
+quotes `\\\\#`, or put it inside a reference.
 ";
 
 const RESERVED: &str = "\
@@ -61,8 +61,9 @@ Edit by hand.
 ";
 
 const NO_SUCH: &str = "\
-No assignment or rule has this name, or no lines are OLD, or there is no N-th of them. For `rename`, the
-old name is no target of a rule or of a target-specific assignment.
+No assignment or rule has this name, or no lines are OLD, or there is no N-th of them; for `uncomment`, no
+comment has the form of an assignment of it. For `rename`, the old name is no target of a rule or of a
+target-specific assignment.
 
 Example: over
     CC = gcc
@@ -71,18 +72,17 @@ the script
 is reported as
     1: refused 4 NoSuch
 
-List what is there with `mkedit vars` or `mkedit rules`. If both print nothing, the makefile may be
-empty: `> FILE` empties it, and without FILE it is standard input. If mkedit cannot parse the line,
-`mkedit check` lists it. Edits of variables find no `define`, no directive such as `export NAME`, no
-target-specific assignment such as `t: X = 1` and no name with a reference such as `obj-$(X)`:
-`line-replace` does. For a mere prerequisite use `undepend` and `depend`.
+List what is there with `mkedit vars` or `mkedit rules`. If mkedit cannot parse the line, `mkedit check`
+lists it. Edits of variables find no `define`, no directive such as `export NAME`, no target-specific
+assignment and no name with a reference such as `obj-$(X)`: `line-replace` does. For a mere prerequisite
+use `depend-replace`.
 ";
 
 const AMBIGUOUS: &str = "\
-Several assignments or several rules have this name, and neither `nth` nor `all` says which are meant.
+Several assignments, rules or comments have this name, and neither `nth` nor `all` says which are meant.
 Or OLD is there several times, or several recipe lines of the rule have the text OLD. Or, with
 `add-before` and `add-after`, several words of the value are WORD; this is tested directly after 7. The
-report says how many there are.
+report counts them.
 
 Example: over
     ifdef DEBUG
@@ -96,17 +96,15 @@ is reported as
     1: refused 5 Ambiguous 2
 
 Say which one: `nth 2 set CC clang`, or for PLACE `nth 2 assign after-var CC X = 1`. `mkedit vars` and
-`mkedit rules` list them in order; target-specific assignments do not count. Or change all of them:
-`all set CC clang`. `all` works with edits of values, but not with `add-before` and `add-after`. For a
-recipe line use `recipe-set` or `recipe-del`, which take its number. If a value has WORD several times,
-name the word on the other side of the new one, or use `set`.
+`mkedit rules` list them in order; target-specific assignments do not count. `set-if` takes the one of a
+value, and `all set CC clang` changes all of them. A recipe line has a number for `recipe-set`. If a value
+has WORD several times, name the word on the new one's other side.
 ";
 
 const ABSENT: &str = "\
-The word to remove or to replace, or beside which a new one is to go, is no prerequisite of the rule,
-or no word of the value, and with `all` of no value of the name; no value or recipe line that the command
-is about has the text FROM; the rule has no K-th recipe line, or none whose text is OLD. For
-`recipe-insert` K may be one more than the number of recipe lines.
+What the command would remove or replace, or put something beside, is not there: a word of the
+prerequisites or of the value, with `all` of any value of the name; the value OLD; the text FROM; recipe
+line K, or one whose text is OLD. For `recipe-insert` K may be one more than the number of recipe lines.
 
 Example: over
     hello: main.o
@@ -116,13 +114,13 @@ is reported as
     1: refused 6 Absent
 
 List what is there with `mkedit rules`, `mkedit recipes` or `mkedit vars`. A recipe after a semicolon
-has no number: `mkedit rules` counts it, and `line-replace` alone reaches it.
+has no number: `line-replace` alone reaches it.
 ";
 
 const ALREADY: &str = "\
 The new word is already in the prerequisites, or in the value, to which the command adds it,
 and with `all` in each value of the name. Of `insert`, the place is in or beside lines that are BLOCK; of
-`line-replace`, OLD stands in such lines.
+`line-replace` and `rule-replace`, the old lines are in such.
 
 Example: over
     hello: main.o
@@ -150,7 +148,8 @@ Decide by hand.
 ";
 
 const SHARED_RULE: &str = "\
-The rule to remove has several targets. The report counts them; one that is there twice counts twice.
+The rule to remove or to replace has several targets. The report counts them; one that is there twice
+counts twice.
 
 Example: over
     build cache: config
@@ -163,8 +162,9 @@ Edit by hand.
 ";
 
 const STRADDLES: &str = "\
-A conditional directive stands between the rule's line and its last recipe line. `unrule`, `recipe`
-and `recipe-insert` are refused then.
+A conditional directive stands between the rule's line and its last recipe line. `unrule`, `recipe`,
+`recipe-insert` and the place `after-rule` are refused then; `rule-replace` and `rule-remove` only if a
+conditional stands partly in the rule.
 
 Example: over
     hello:
@@ -176,8 +176,7 @@ the script
 is reported as
     1: refused 10 Straddles
 
-Edit by hand, or use `recipe-set`, `recipe-del`, `recipe-replace` and `recipe-remove`, which are not
-refused.
+Use `rule-replace` or `rule-remove`, or an edit of one recipe line.
 ";
 
 const OPEN_VALUE: &str = "\
@@ -247,7 +246,7 @@ The text would have more than 16,777,216 bytes.
 
 Example: a makefile has this many bytes, and a new line is put in.
 
-Move a part of it into a file that it includes.
+Move a part into an included file.
 ";
 
 const NOTHING_TO_UNDO: &str = "\
@@ -258,7 +257,7 @@ Example: the script
 is reported as
     1: refused 16 NothingToUndo
 
-Give a greater depth with `-d`, if that is used up.
+Give a greater depth with `-d`.
 ";
 
 const NOTHING_TO_REDO: &str = "\
@@ -307,8 +306,8 @@ Run it again with more memory.
 const MISREAD: &str = "\
 The new line would not read as the edit says: for instance, the new text has a `#`, an open reference
 or a backslash at its end, or `subst` takes out a `)` before a comment. If an edit changes several lines,
-one such line is enough. Or lines that `insert`, `line-replace` and `line-remove` put in or take out would
-leave another define or conditional open, or another recipe prefix, than is there now.
+one such line is enough. Or whole lines that come or go would leave another define or conditional open,
+or another recipe prefix, than is there now.
 
 Example: over
     CFLAGS = -O2 -g

@@ -22,27 +22,29 @@ A line of the script is a command, a comment that begins with #, or blank:
     set NAME VALUE            append NAME VALUE           prepend NAME VALUE
     add NAME WORD             drop NAME WORD              replace NAME WORD VALUE
     add-before NAME WORD NEW  add-after NAME WORD NEW     subst NAME FROM TO
-    operator NAME OP          unset NAME                  values-subst FROM TO
+    set-if NAME OLD VALUE     operator NAME OP            values-subst FROM TO
+    unset NAME                comment-out NAME            uncomment NAME
     assign PLACE NAME OP VALUE                            rename OLD NEW
     rule PLACE TARGETS SEP PREREQS                        unrule TARGET
     depend TARGET WORD        depend-order TARGET WORD    undepend TARGET WORD
-    recipe TARGET LINE        recipe-set TARGET K LINE    recipe-del TARGET K
-    recipe-insert TARGET K LINE                           recipe-remove TARGET OLD
-    recipe-replace TARGET OLD LINE                        recipes-subst FROM TO
-    recipe-subst TARGET FROM TO
-    insert PLACE BLOCK        line-replace OLD BLOCK      line-remove OLD
+    depend-replace TARGET OLD NEW                         recipe TARGET LINE
+    recipe-insert TARGET K LINE                           recipe-set TARGET K LINE
+    recipe-replace TARGET OLD LINE                        recipe-remove TARGET OLD
+    recipe-subst TARGET FROM TO                           recipe-del TARGET K
+    recipes-subst FROM TO     insert PLACE BLOCK          line-replace OLD BLOCK
+    line-remove OLD           rule-replace TARGET BLOCK   rule-remove TARGET
     nth N COMMAND             all COMMAND                 try COMMAND    or COMMAND
     undo    redo    begin    end    cancel
-PLACE is bottom, before-var NAME, after-var NAME or before-rule TARGET, and for insert also top,
-before-line OLD or after-line OLD. BLOCK is a whole line, and so is OLD there and in line-replace and
-line-remove; or it is <<WORD, and its lines stand below the command, up to the line WORD. OP is one of
-= := ::= :::= ?= += != and SEP one of : and ::. Put double quotes around a field that has blanks in it or
-is empty. Between quotes \\\" is a quote and \\\\ a backslash; elsewhere each of the two is itself.
-`nth N` before a command picks the N-th of several lines that it could mean; `all` means all of them, and
-stands before set, append, prepend, add, drop, replace, subst or operator. With `try` before an edit,
-having nothing to do is not an error. With `or` before an edit, it is made if the edit in the line above
-finds no line to edit. Commands run in order, each on the result of those above it. `mkedit help set`
-explains `set`, and so for each word.
+PLACE is top, bottom, before-var NAME, after-var NAME, after-last-var NAME, before-rule TARGET or
+after-rule TARGET, and for insert also before-line OLD or after-line OLD. BLOCK is a whole line, and so
+is OLD there and in line-replace and line-remove; or it is <<WORD, and its lines stand below the command,
+up to the line WORD. OP is one of = := ::= :::= ?= += != and SEP one of : and ::. Put double quotes around
+a field that has blanks in it or is empty. Between quotes \\\" is a quote and \\\\ a backslash; elsewhere
+each of the two is itself. `nth N` before a command picks the N-th of several lines that it could mean;
+`all` means all of them, and stands before set, set-if, append, prepend, add, drop, replace, subst or
+operator. With `try` before an edit, having nothing to do is not an error. With `or` before an edit, it is
+made if the edit in the line above finds no line to edit. Commands run in order, each on the result of
+those above it. `mkedit help set` explains `set`, and so for each word.
 
 The result goes to standard output, or to OUT. If a command is refused, a line on standard error says
 which one and why, and nothing is written unless -k is given. `mkedit explain 4` or `mkedit explain

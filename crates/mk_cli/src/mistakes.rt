@@ -110,12 +110,11 @@ fn said_of(cause: MistakeCause) -> &'static str {
         MistakeCause::BadEscape => "between quotes `\\` stands before `\"` or `\\` alone",
         MistakeCause::TextAfterQuote => "a blank follows the closing quote",
         MistakeCause::NotANumber => "this is no number of at most ten digits, up to 4294967295",
-        MistakeCause::UnknownPlace => {
-            "PLACE is `bottom`, `before-var NAME`, `after-var NAME` or `before-rule TARGET`"
-        }
-        MistakeCause::UnknownSite => {
-            "PLACE is `top`, `bottom`, `before-line OLD`, `after-line OLD` or a place of `assign`"
-        }
+        MistakeCause::UnknownPlace =>
+            "PLACE is `top`, `bottom`, `before-var NAME`, `after-var NAME`, `after-last-var NAME`, \
+             `before-rule TARGET` or `after-rule TARGET`",
+        MistakeCause::UnknownSite =>
+            "PLACE is `before-line OLD`, `after-line OLD` or a place of `assign`",
         MistakeCause::UnknownOperator => "OP is `=`, `:=`, `::=`, `:::=`, `?=`, `+=` or `!=`",
         MistakeCause::UnknownSeparator => "SEP is `:` or `::`",
         MistakeCause::UnknownCommand => "there is no such command",
@@ -124,8 +123,7 @@ fn said_of(cause: MistakeCause) -> &'static str {
         MistakeCause::NotAfterNth => "`nth` may not stand before this command",
         MistakeCause::NotAfterAll =>
             "`all` stands before edits of values alone, and not before `add-before` or `add-after`",
-        MistakeCause::NthBottom => "`nth` may not stand before a command with the place `bottom`",
-        MistakeCause::NthTop => "`nth` may not stand before a command with the place `top`",
+        MistakeCause::NthPlace => "`nth` may not stand before a command with this place",
         MistakeCause::StrayOr => "`or` stands below an edit without `try`, or below another `or`",
         MistakeCause::OpenBlock => "no line below is WORD, which ends the block of `<<WORD`",
         MistakeCause::EmptyBlock => "the block has no line; `\"\"` is a block of one empty line",

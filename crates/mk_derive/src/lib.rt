@@ -5,13 +5,15 @@
 //!
 //! - `tried`: the run that tries a script.
 //! - `derived`: the search and the run together.
-//! - `put`: a script that goes out.
+//! - `put`: a script that goes out; `script`: into a file or on standard output.
 #![tactic(auto)]
 
 mod derived;
 mod put;
+mod script;
 mod tried;
 
 pub use derived::derive;
 pub use mk_search::{DeriveError, Makefile, Unwritten};
 pub use put::{NotPut, put_derived};
+pub use script::{Names, Stop, put_script};

@@ -3,3 +3,4 @@ pub mod HeaderPlaces
 pub mod WordPlans
 pub mod RemovePrereqPlans
 pub mod AddPrereqPlans
+pub mod ReplacePrereqPlans

@@ -1,6 +1,5 @@
 -- Lemmas. The recipes of rules, and the edits of rules and recipes.
 pub mod OwnCauses
-pub mod RulePlaces
 pub mod RuleEnds
 pub mod RemoveRulePlans
 pub mod RecipePlaces

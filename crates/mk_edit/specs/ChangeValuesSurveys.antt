@@ -7,7 +7,7 @@ use Rattle.mk_class.specs.Contexts.{Context, start, context_after_located}
 use Rattle.mk_tree.specs.LocatedLines.{LocatedLine, size_of}
 use Rattle.mk_tree.specs.Trees.{line_view}
 use Rattle.mk_edit_language.specs.Causes.{where_holds}
-use Rattle.mk_edit_language.specs.Edits.{ValueChange, Set, Append, Add, Remove}
+use Rattle.mk_edit_language.specs.Edits.{ValueChange, Set, SetIf, Append, Add, Remove}
 use Rattle.mk_edit_language.specs.Refusals.{first_cause}
 use Rattle.mk_edit_language.specs.declared.refusal.Refusal.{Refusal}
 use Rattle.mk_edit_language.specs.declared.refusal.Refusal.TheVariants.{Absent, Already, NoSuch, OpenValue, RecipePrefix, TooLong}
@@ -109,10 +109,11 @@ pub record IsSurveyedTo {A : _} {X : Type 0} (name : List ℕ) (c : ValueChange)
 
 -- ---- the first cause
 
--- the refusal of a change of words that changes this many lines: if it changes none, the word is
--- there already, or it is absent
+-- the refusal of a change that changes this many lines: if it changes none, the word is there already,
+-- or the word or the value is absent
 abbrev pub idle : ValueChange → (lines : ℕ) → Option Refusal
 idle (Set v) n = None
+idle (SetIf o v) n = where_holds (n == 0) Absent
 idle (Append v) n = None
 idle (Add w) n = where_holds (n == 0) Already
 idle (Remove w) n = where_holds (n == 0) Absent

@@ -1,6 +1,6 @@
 -- The moves of an edit of several lines that is checked by reading: each line that is changed is
 -- exchanged for the line after the edit, in two turns.
-use Rattle.std.specs.Prelude.{◌≡◌, ◌<◌, ◌≤◌, ◌&&◌, not, ℕ, Bool, true, false, List, [], ◌∷◌, ◌++◌, length}
+use Rattle.std.specs.Prelude.{◌≡◌, ◌<◌, ◌≤◌, ◌&&◌, not, Bool, true, List, [], ◌∷◌, ◌++◌, length}
 use Rattle.std.specs.List.{list_any}
 use Rattle.mk_lines.specs.Limits.{max_text}
 use Rattle.mk_tree.specs.LineTexts.{line_in}

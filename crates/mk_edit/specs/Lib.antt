@@ -16,6 +16,8 @@ pub mod LineChangePlans
 -- A rename
 pub mod RenameTargetEffects
 pub mod RenameTargetPatches
+-- Lines that are switched between an assignment and a comment
+pub mod SwitchPlans
 -- Changes of values
 pub mod ValueChangeLines
 pub mod ChangeValuesSurveys

@@ -7,7 +7,7 @@ use Rattle.mk_tree.specs.Counting.{AreCounted}
 use Rattle.mk_tree.specs.LocatedLines.{LocatedLine, located_text}
 use Rattle.mk_tree.specs.Documents.{IsFaithful, IsFaithfulTo}
 use Rattle.mk_tree.specs.Readings.{reading}
-use Rattle.mk_edit_language.specs.Edits.{Edit, ExchangeLines}
+use Rattle.mk_edit_language.specs.Edits.{Edit, ExchangeLines, Uncomment, SwitchLine}
 use Rattle.mk_edit_language.specs.Stretches.{Stretch, insertion}
 use Rattle.mk_edit_language.specs.LineRuns.{site_found}
 use Rattle.mk_edit_language.specs.Changes.{change}
@@ -47,17 +47,19 @@ pub record IsPlanned (e : Edit) (ls : List LocatedLine) (patch : List Move) : Ty
   pub held : held_by patch ≡ cost (located_text ls) e + ended_lines ls e
   pub taken : taken_by patch ≡ size (located_text ls) e + ended_lines ls e
 
--- an edit puts in whole lines, takes them out or exchanges them
-abbrev pub IsOfWholeLines : Edit → Type 0
-IsOfWholeLines (ExchangeLines s ts) = Unit {0}
-IsOfWholeLines e = ⊥
+-- what an edit's new lines read as decides whether the lines below lean on them: it puts in whole lines,
+-- takes them out or exchanges them, or takes the `#` from a comment
+abbrev pub LeansAsRead : Edit → Type 0
+LeansAsRead (ExchangeLines s ts) = Unit {0}
+LeansAsRead (SwitchLine Uncomment nth n) = Unit {0}
+LeansAsRead e = ⊥
 
 -- No cause of an edit holds, or none but those that its new lines decide: that they are misread, or
--- of an edit of whole lines, that the lines below lean on them.
+-- that the lines below lean on what they read as.
 abbrev pub IsUnrefused : (text : List ℕ) → Edit → Type 0
 IsUnrefused t e =
     ((rs : List Replacement) × (spans t e ≡ Ok rs))
-    ⊎ ((spans t e ≡ Err Misread) ⊎ (IsOfWholeLines e × (spans t e ≡ Err Leans)))
+    ⊎ ((spans t e ≡ Err Misread) ⊎ (LeansAsRead e × (spans t e ≡ Err Leans)))
 
 -- A refusal of an edit of a text: the first refusal whose cause holds; or NoMemory, if a growth was
 -- refused and no cause holds, but perhaps one that needs the new lines.

@@ -1,6 +1,7 @@
 -- What a change of a value does to the line of one assignment, as a document shows the line.
 -- Told in docs/ARCHITECTURE.md, "An edit's way, from Edit to moved lines".
 use Rattle.std.specs.Prelude.{◌≡◌, ℕ, ◌+◌, ◌-◌, ◌==◌, ◌&&◌, ◌||◌, not, nat_lt, if◌then◌else◌, Bool, true, false, List, [], ◌∷◌, ◌++◌, take, drop, length, Option, Some, None}
+use Rattle.std.specs.Str.{bytes_eq}
 use Rattle.mk_lines.specs.Cells.{joined_byte, Cell}
 use Rattle.mk_lines.specs.Pieces.{replaced}
 use Rattle.mk_lines.specs.Ranges.{text_at}
@@ -16,7 +17,7 @@ use Rattle.mk_class.specs.LocatedClasses.{located_class}
 use Rattle.mk_class.specs.declared.class.Class as class
 use Rattle.mk_class.specs.declared.class.Class.TheVariants as variants
 use Rattle.mk_tree.specs.LocatedLines.{LocatedLine, text_of_line}
-use Rattle.mk_edit_language.specs.Edits.{One, ValueChange, Set, Append, Add, Remove, Edit, ChangeValue}
+use Rattle.mk_edit_language.specs.Edits.{One, ValueChange, Set, SetIf, Append, Add, Remove, Edit, ChangeValue}
 use Rattle.mk_edit_language.specs.LineCauses.{bares_end_among, is_open_to}
 use Rattle.mk_edit_language.specs.ValueChanges.{change_spans, assignment_spans}
 use Rattle.mk_edit_parts.specs.LineRanges.{ends_in_fold_located, value_range_located}
@@ -27,6 +28,7 @@ use Rattle.mk_edit.specs.declared.value_change.Change.TheVariants as seen
 -- a change; its text is seen as bytes
 abbrev pub change_view : Change → ValueChange
 change_view (seen.Set value) = Set value.now
+change_view (seen.SetIf old value) = SetIf old.now value.now
 change_view (seen.Append text) = Append text.now
 change_view (seen.Add word) = Add word.now
 change_view (seen.Remove word) = Remove word.now
@@ -56,6 +58,7 @@ space_after v = if is_empty v then [] else 32 ∷ []
 -- whether the change does something to the value of an assignment's line
 abbrev pub has_effect_located : ValueChange → LocatedLine → Bool
 has_effect_located (Set v) l = true
+has_effect_located (SetIf o v) l = bytes_eq (value_text_located l) o
 has_effect_located (Append v) l = true
 has_effect_located (Add w) l = not (is_one_of w (words_in (value_text_located l)))
 has_effect_located (Remove w) l = is_one_of w (words_in (value_text_located l))
@@ -67,6 +70,7 @@ is_changed_located n c l = assigns_located n l && has_effect_located c l
 -- whether the change would be refused for the value of an assignment's line
 abbrev pub is_open_located : ValueChange → LocatedLine → Bool
 is_open_located (Set v) l = false
+is_open_located (SetIf o v) l = false
 is_open_located (Append v) l = not (is_closed (λ b. b) (value_text_located l))
 is_open_located (Add w) l =
     not (is_closed (λ b. b) (value_text_located l)) || ends_in_fold_located l
@@ -78,22 +82,29 @@ is_open_located (Remove w) l =
 -- put after a value
 abbrev pub put_by : ValueChange → ℕ
 put_by (Set v) = length v
+put_by (SetIf o v) = length v
 put_by (Append v) = length v + 1
 put_by (Add w) = length w + 1
 put_by (Remove w) = 0
 
+-- how many bytes of the line a value replaces
+abbrev replaced_by : (value : List ℕ) → LocatedLine → ℕ
+replaced_by v l =
+    (value_range_located (length v == 0) l).end - (value_range_located (length v == 0) l).start
+
 -- how many of these bytes do not make the line longer: the bytes of the value that is replaced, or
 -- the space, if the value is empty. A word that is taken out makes no line longer, and is not counted.
 abbrev pub spared_by : ValueChange → LocatedLine → ℕ
-spared_by (Set v) l =
-    (value_range_located (length v == 0) l).end - (value_range_located (length v == 0) l).start
+spared_by (Set v) l = replaced_by v l
+spared_by (SetIf o v) l = replaced_by v l
 spared_by (Append v) l = if length (value_text_located l) == 0 then 1 else 0
 spared_by (Add w) l = if length (value_text_located l) == 0 then 1 else 0
 spared_by (Remove w) l = 0
 
 -- whether a line that the change changes gets longer; if it does not, it gets no longer
 abbrev pub is_longer : ValueChange → LocatedLine → Bool
-is_longer (Set v) l = nat_lt (spared_by (Set v) l) (length v)
+is_longer (Set v) l = nat_lt (replaced_by v l) (length v)
+is_longer (SetIf o v) l = nat_lt (replaced_by v l) (length v)
 is_longer (Append v) l = true
 is_longer (Add w) l = true
 is_longer (Remove w) l = false

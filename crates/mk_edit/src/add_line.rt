@@ -3,18 +3,20 @@ ghost use Rattle.mk_class.specs.ClassedLines.{classed_lines};
 ghost use Rattle.mk_tree.specs.Documents.{IsFaithful};
 ghost use Rattle.mk_tree.specs.LocatedLines.{located_text};
 ghost use Rattle.mk_edit_language.specs.Stretches.{insertion};
-ghost use Rattle.mk_edit_language.specs.EditViews.{edit_of};
+ghost use Rattle.mk_edit_language.specs.EditViews.{edit_of, place_of};
+ghost use Rattle.mk_edit_parts.specs.NewPlaces.{IsInsertedAt};
 ghost use Rattle.mk_edit_parts.specs.Seeking.{IsLineKnown};
-ghost use Rattle.mk_edit.specs.Insertions.{IsDecidedByPlace, IsInsertedAt, IsOfNewLine, IsOfPlace};
+ghost use Rattle.mk_edit.specs.Insertions.{IsDecidedByPlace, IsOfNewLine, IsOfPlace};
 ghost use Rattle.mk_edit.specs.Planned.{Plans};
 
-use crate::insertion::{insertion_of, place_refusal};
+use crate::insertion::place_refusal;
 use crate::moves::insert_line;
 use mk_class::Meter;
-use mk_edit_language::{Edit, Refusal};
+use mk_edit_language::{Edit, Place, Refusal};
 use mk_edit_parts::find::find;
 use mk_edit_parts::line_end::doc_line_end;
 use mk_edit_parts::new_line::{begins_with_prefix, new_line};
+use mk_edit_parts::place::place_of_new;
 use mk_edit_parts::seek::{Found, Sought};
 use mk_patch::Patch;
 use mk_tree::Doc;
@@ -24,23 +26,27 @@ use std::alloc::Allocator;
 ///
 /// # Errors
 ///
-/// The first cause of the edit that holds: the causes of [`find`]; [`Refusal::RecipePrefix`] if the
-/// new line would begin with the recipe prefix in force at its place; and the causes of
-/// [`place_refusal`]. If no cause holds, [`Refusal::NoMemory`] if a growth was refused.
+/// The first cause of the edit that holds: the causes of [`find`]; [`Refusal::Straddles`] if the new line
+/// goes after a rule whose recipe has a line of a conditional in it; [`Refusal::RecipePrefix`] if the new
+/// line would begin with the recipe prefix in force at its place; and the causes of [`place_refusal`]. If
+/// no cause holds, [`Refusal::NoMemory`] if a growth was refused.
 pub(crate) fn plan_add_line<A: Allocator + Copy>(
     alloc: A,
     doc: &Doc<A>,
     edit: &Edit<A>,
+    place: &Place<A>,
     known: Option<Sought>,
     meter: &mut Meter,
 ) -> Result<Patch<A>, Refusal>
     requires faithful { IsFaithful doc.now }
-    requires kind { IsOfPlace (edit_of edit.now) }
+    requires kind { IsOfPlace (place_of place.now) (edit_of edit.now) }
     requires known { IsLineKnown (edit_of edit.now) doc.now known }
     ensures { Plans (edit_of edit.now) doc.now meter.old meter.new result }
 {
     let found = find(doc, edit, known)?;
-    let place = insertion_of(doc, edit, found);
+    let Some(place) = place_of_new(doc, place, found) else {
+        return Err(Refusal::Straddles);
+    };
     if begins_with_prefix(edit, place.context.prefix()) {
         return Err(Refusal::RecipePrefix);
     }

@@ -143,9 +143,9 @@ fn first_of_words(change: LineRewrite<'_>, count: usize, value: &[u8]) -> Option
     }
 }
 
-// Whether a text of this size is too long after a change that puts texts of this length in so many
-// places, which have so many bytes.
-fn is_too_long(count: usize, bytes: usize, new_length: usize, size: usize) -> bool
+/// Whether a text of this size is too long after a change that puts texts of this length in so many
+/// places, which have so many bytes.
+pub(crate) fn is_too_long(count: usize, bytes: usize, new_length: usize, size: usize) -> bool
     requires within { size ≤ max_text }
     requires few { bytes ≤ max_text }
     ensures { result ≡ nat_lt (max_text + bytes) (size + count * new_length) }

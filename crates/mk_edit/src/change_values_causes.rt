@@ -93,14 +93,14 @@ pub(crate) fn first_of_findings(
     None
 }
 
-// The refusal of a change of words that changes this many lines: if it changes none, the word is
-// there already, or it is absent.
+// The refusal of a change that changes this many lines: if it changes none, the word is there already,
+// or the word or the value is absent.
 fn idle(change: Change<'_>, lines: usize) -> Option<Refusal>
     ensures { result ≡ idle (change_view change.entry) lines }
 {
     match change {
         Change::Add(_) if lines == 0 => Some(Refusal::Already),
-        Change::Remove(_) if lines == 0 => Some(Refusal::Absent),
+        Change::Remove(_) | Change::SetIf(..) if lines == 0 => Some(Refusal::Absent),
         _ => None,
     }
 }

@@ -13,6 +13,7 @@ ghost use Rattle.mk_edit_language.specs.ExchangeCauses.{agree_but_for_flag};
 ghost use Rattle.mk_edit_language.specs.LineExchanges.{with_line_ends};
 ghost use Rattle.mk_edit_parts.specs.LineRunsFound.{block_seen};
 ghost use Rattle.mk_edit_parts.specs.SitesFound.{IsSited};
+ghost use Rattle.mk_edit_parts.specs.Windows.{AreWindows, concerns_site, first_place};
 ghost use Rattle.mk_edit.specs.ExchangePlans.{ending_length, is_bottom_site};
 ghost use Rattle.mk_edit.specs.Planned.{Plans};
 
@@ -33,6 +34,7 @@ use mk_tree::Doc;
 use std::alloc::Allocator;
 
 /// Plans new lines at a site, or in the place of its lines. There is no block if lines are taken out.
+/// No line outside of the windows decides what the site means.
 ///
 /// # Errors
 ///
@@ -44,15 +46,18 @@ use std::alloc::Allocator;
 pub(crate) fn plan_exchange_lines<A: Allocator + Copy>(
     alloc: A,
     doc: &Doc<A>,
+    windows: &[Window],
     site: &Site<A>,
     block: Option<&[u8]>,
     meter: &mut Meter,
 ) -> Result<Patch<A>, Refusal>
-    requires { IsFaithful doc.now }
+    requires faithful { IsFaithful doc.now }
+    requires windows { AreWindows (concerns_site (site_of site.now)) first_place doc.now
+        windows.now }
     ensures { Plans (ExchangeLines (site_of site.now) (block_seen block.entry)) doc.now meter.old
         meter.new result }
 {
-    let window = find_site(doc, site, block)?;
+    let window = find_site(doc, windows, site, block)?;
     exchange(alloc, doc, site, block, window, meter)
 }
 

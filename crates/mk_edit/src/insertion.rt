@@ -1,21 +1,19 @@
-//! Where new lines go, and the causes of refusal that their places decide.
+//! The causes of refusal that the place of a new line decides.
 ghost use Rattle.std.specs.Prelude.{◌≡◌, ◌+◌, ◌<◌, ◌≤◌, ◌==◌, ◌&&◌, nat_lt, not, ℕ, drop, length, take, min};
 ghost use Rattle.mk_lines.specs.Limits.{max_text};
 ghost use Rattle.mk_class.specs.ClassedLines.{classed_lines};
 ghost use Rattle.mk_lines.specs.PhysicalLines.{line_end_bytes};
 ghost use Rattle.mk_edit_parts.specs.LineRanges.{is_led_first_located};
+ghost use Rattle.mk_edit_parts.specs.NewPlaces.{IsInsertedAt};
 ghost use Rattle.mk_tree.specs.Documents.{IsFaithful, context_of};
 ghost use Rattle.mk_tree.specs.Leaning.{is_same_flag};
 ghost use Rattle.mk_tree.specs.LocatedLines.{last_line, located_text, size_of};
-ghost use Rattle.mk_edit_language.specs.Addresses as addresses;
 ghost use Rattle.mk_edit_language.specs.LineCauses.{flag_below_new};
 ghost use Rattle.mk_edit_language.specs.Refusals.{first_cause};
 ghost use Rattle.mk_edit_language.specs.NewLines.{new_text};
-ghost use Rattle.mk_edit_language.specs.Stretches.{insertion, place_found};
-ghost use Rattle.mk_edit_language.specs.EditViews as views;
+ghost use Rattle.mk_edit_language.specs.Stretches.{insertion};
 ghost use Rattle.mk_edit_language.specs.EditViews.{edit_of};
-ghost use Rattle.mk_edit_parts.specs.Found.{IsMeant};
-ghost use Rattle.mk_edit.specs.Insertions.{IsInsertedAt, IsOfNewLine, IsOfPlace, ends_length, is_at_bottom, is_open_line, place_causes};
+ghost use Rattle.mk_edit.specs.Insertions.{IsOfNewLine, ends_length, is_at_bottom, is_open_line, place_causes};
 
 use crate::moves::follows_unended;
 use mk_class::RuleFlag;
@@ -23,42 +21,11 @@ use mk_edit_language::{Edit, Place, Refusal};
 use mk_edit_parts::lean::leans;
 use mk_edit_parts::line_end::doc_line_end;
 use mk_edit_parts::new_line::new_len;
-use mk_edit_parts::place::after_lines;
 use mk_edit_parts::seek::Found;
 use mk_lines::ends::{End, is_open};
 use mk_lines::source::MAX_TEXT;
 use mk_tree::Doc;
 use std::alloc::Allocator;
-
-/// Where the new line of an edit goes. `found` is the line that the edit's place names, or the end
-/// of the document if it names no line. The call reads no line anew and takes no memory.
-pub(crate) fn insertion_of<A: Allocator>(doc: &Doc<A>, edit: &Edit<A>, found: Found) -> Found
-    requires faithful { IsFaithful doc.now }
-    requires of_place { IsOfPlace (edit_of edit.now) }
-    requires meant { IsMeant (classed_lines (located_text doc.now))
-        (addresses.address (edit_of edit.now)) found }
-    ensures { IsInsertedAt doc.now
-        (insertion (classed_lines (located_text doc.now)) (edit_of edit.now)) result }
-{
-    match edit {
-        Edit::AddAssign { place, .. } | Edit::AddRule { place, .. } => place_of(doc, place, found),
-        _ => found,
-    }
-}
-
-// Where a new line of this place goes.
-fn place_of<A: Allocator>(doc: &Doc<A>, place: &Place<A>, found: Found) -> Found
-    requires faithful { IsFaithful doc.now }
-    requires meant { IsMeant (classed_lines (located_text doc.now))
-        (addresses.place_address (views.place_of place.now)) found }
-    ensures { IsInsertedAt doc.now
-        (place_found (classed_lines (located_text doc.now)) (views.place_of place.now)) result }
-{
-    match place {
-        Place::AfterVar { .. } => after_lines(doc, found, 1),
-        _ => found,
-    }
-}
 
 /// The first cause of refusal that holds, of those that the place of an edit's new line decides:
 /// the line would follow an open line, or would stand in an open define, or lines below would lean

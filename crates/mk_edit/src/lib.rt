@@ -23,6 +23,7 @@
 //! - `header`: the header in the line of a rule.
 //! - `add_prereq`: a new prerequisite, planned.
 //! - `remove_prereq`: a prerequisite taken out, planned.
+//! - `replace_prereq`: a prerequisite put in the place of another, planned.
 //! - `remove_assign`: the removal of an assignment.
 //! - `assignment`: the assignment in its line.
 //! - `value_change`: a change of a value, and what it does to the line of one assignment.
@@ -31,6 +32,7 @@
 //! - `change_values_causes`: the causes of refusal of a change of values.
 //! - `change_value`: a change of the value of one assignment, planned.
 //! - `change_line`: a change of an assignment's line that is checked by reading, planned.
+//! - `switch_line`: an assignment that becomes a comment, and a comment that becomes one again, planned.
 //! - `change_values_patch`: the patch of a change of values whose causes are decided.
 //! - `change_values`: a change of all values of a name, planned.
 //! - `each_line_count`: the places of a line that an edit of several lines replaces, counted.
@@ -80,7 +82,9 @@ mod rename_target_causes;
 mod rename_target_effect;
 mod rename_target_patch;
 mod rename_target_places;
+mod replace_prereq;
 mod set_recipe;
+mod switch_line;
 mod value_change;
 
 pub use mk_edit_language::{Detail, Edit, Field, Place, Refusal, RuleSeparator, Site, ValueChange};

@@ -24,6 +24,7 @@ use crate::lines_end::{LinesEnd, is_of_prefix};
 use mk_class::{Context, Meter};
 use mk_edit_language::Refusal;
 use mk_edit_parts::line_end::{doc_line_end, line_end_bytes};
+use mk_edit_parts::line_feeds;
 use mk_edit_parts::seek::Found;
 use mk_lines::Fault;
 use mk_lines::ends::{End, line_end};
@@ -134,13 +135,6 @@ fn more_len(end: End, text: &[u8]) -> usize
         End::CrLf => line_feeds(text),
         End::Lf | End::None => 0,
     }
-}
-
-// How many line feeds a text has.
-fn line_feeds(text: &[u8]) -> usize
-    ensures { result ≡ count_by (λ b. b == 10) text.now }
-{
-    text.iter().filter(|byte| **byte == b'\n').count()
 }
 
 /// The text of new lines with these line ends.

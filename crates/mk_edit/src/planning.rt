@@ -1,8 +1,9 @@
 //! What an edit would do to a document, or why it is refused.
 ghost use Rattle.std.specs.Prelude.{◌≡◌};
 ghost use Rattle.mk_tree.specs.Documents.{IsFaithful};
-ghost use Rattle.mk_edit_language.specs.Edits.{ChangeValue, Every, RenameTarget};
-ghost use Rattle.mk_edit_language.specs.EditViews.{edit_of};
+ghost use Rattle.mk_edit_language.specs.Edits.{ChangeValue, Every, ExchangeLines, RenameTarget};
+ghost use Rattle.mk_edit_language.specs.EditViews.{edit_of, site_of};
+ghost use Rattle.mk_edit_parts.specs.LineRunsFound.{block_seen};
 ghost use Rattle.mk_edit_parts.specs.Windows.{IsKnown};
 ghost use Rattle.mk_edit.specs.Planned.{Plans};
 ghost use Rattle.mk_edit.specs.ValueChangeLines.{change_view};
@@ -20,10 +21,12 @@ use crate::remove_prereq::plan_remove_prereq;
 use crate::remove_recipe::plan_remove_recipe;
 use crate::remove_rule::plan_remove_rule;
 use crate::rename_target::plan_rename_target;
+use crate::replace_prereq::plan_replace_prereq;
 use crate::set_recipe::plan_set_recipe;
+use crate::switch_line::{plan_comment_out, plan_uncomment};
 use crate::value_change::{Change, change_of};
 use mk_class::Meter;
-use mk_edit_language::{Edit, Refusal};
+use mk_edit_language::{Edit, Refusal, Site};
 use mk_edit_parts::block_of;
 use mk_edit_parts::line_change::rewrite_of;
 use mk_edit_parts::window::{Known, Window};
@@ -57,9 +60,9 @@ pub fn plan<A: Allocator + Copy>(
 }
 
 /// Plans an edit as [`plan`] does, with what is known of the document. If nothing is known, the call
-/// walks over the document for the line that the edit means, or for the lines that concern a rename or
-/// a change of all values of a name. If windows are known for one of these, it walks over their lines
-/// alone.
+/// walks over the document for the line that the edit means, or for the lines that concern a rename, a
+/// change of all values of a name, or an exchange of whole lines. If windows are known for one of these,
+/// it walks over their lines alone.
 ///
 /// # Errors
 ///
@@ -80,6 +83,9 @@ pub fn plan_with<A: Allocator + Copy>(
         Edit::SetValue { value, .. } => {
             plan_change_value(alloc, doc, edit, sought, Change::Set(value), meter)
         }
+        Edit::SetValueIf { old, value, .. } => {
+            plan_change_value(alloc, doc, edit, sought, Change::SetIf(old, value), meter)
+        }
         Edit::AppendValue { value, .. } => {
             plan_change_value(alloc, doc, edit, sought, Change::Append(value), meter)
         }
@@ -92,8 +98,8 @@ pub fn plan_with<A: Allocator + Copy>(
         Edit::ChangeLine { change, .. } => {
             plan_change_line(alloc, doc, edit, sought, rewrite_of(change), meter)
         }
-        Edit::AddAssign { .. } | Edit::AddRule { .. } => plan_add_line(
-            alloc, doc, edit, sought, meter,
+        Edit::AddAssign { place, .. } | Edit::AddRule { place, .. } => plan_add_line(
+            alloc, doc, edit, place, sought, meter,
         ),
         Edit::RemoveAssign { .. } => plan_remove_assign(alloc, doc, edit, sought),
         Edit::RemoveRule { .. } => plan_remove_rule(alloc, doc, edit, sought),
@@ -103,6 +109,11 @@ pub fn plan_with<A: Allocator + Copy>(
         Edit::RemovePrereq { word, .. } => plan_remove_prereq(
             alloc, doc, edit, sought, word, meter,
         ),
+        Edit::ReplacePrereq { old, new, .. } => {
+            plan_replace_prereq(alloc, doc, edit, sought, old, new, meter)
+        }
+        Edit::CommentOut { name, .. } => plan_comment_out(alloc, doc, edit, sought, name, meter),
+        Edit::Uncomment { name, .. } => plan_uncomment(alloc, doc, edit, sought, name, meter),
         Edit::AddRecipe { .. } => plan_add_recipe(alloc, doc, edit, sought, None, meter),
         Edit::SetRecipe { line, .. } | Edit::SetRecipeByText { line, .. } => {
             plan_set_recipe(alloc, doc, edit, sought, line, meter)
@@ -118,7 +129,7 @@ pub fn plan_with<A: Allocator + Copy>(
         }
         Edit::RenameTarget { from, to } => plan_rename(alloc, doc, edit, known, from, to, meter),
         Edit::ExchangeLines { site, block } => {
-            plan_exchange_lines(alloc, doc, site, block_of(block), meter)
+            plan_lines(alloc, doc, known, site, block_of(block), meter)
         }
         Edit::EachLine(each) => plan_each_line(alloc, doc, edit, each, meter),
     }
@@ -168,6 +179,29 @@ fn plan_values<A: Allocator + Copy>(
         Known::Nothing | Known::Line(_) => {
             let all = [Window::whole(doc)];
             plan_change_values(alloc, doc, edit, &all, name, change, meter)
+        }
+    }
+}
+
+// Plans an exchange of whole lines with what is known of the document, as a rename is planned.
+fn plan_lines<A: Allocator + Copy>(
+    alloc: A,
+    doc: &Doc<A>,
+    known: &Known<A>,
+    site: &Site<A>,
+    block: Option<&[u8]>,
+    meter: &mut Meter,
+) -> Result<Patch<A>, Refusal>
+    requires faithful { IsFaithful doc.now }
+    requires known { IsKnown (ExchangeLines (site_of site.now) (block_seen block)) doc.now known.now }
+    ensures { Plans (ExchangeLines (site_of site.now) (block_seen block.entry)) doc.now meter.old
+        meter.new result }
+{
+    match known {
+        Known::Windows(known) => plan_exchange_lines(alloc, doc, known, site, block, meter),
+        Known::Nothing | Known::Line(_) => {
+            let all = [Window::whole(doc)];
+            plan_exchange_lines(alloc, doc, &all, site, block, meter)
         }
     }
 }

@@ -1,26 +1,21 @@
 //! A prerequisite taken out of a rule, planned.
 ghost use Rattle.std.specs.Prelude.{◌≡◌};
-ghost use Rattle.mk_lines.specs.Cells.{Cell};
-ghost use Rattle.mk_class.specs.Headers;
 ghost use Rattle.mk_tree.specs.Documents.{IsFaithful};
-ghost use Rattle.mk_tree.specs.Trees.{line_view};
 ghost use Rattle.mk_edit_language.specs.Edits.{RemovePrereq};
 ghost use Rattle.mk_edit_language.specs.EditViews.{edit_of};
-ghost use Rattle.mk_edit_language.specs.RuleCauses.{has_prereq};
 ghost use Rattle.mk_edit_parts.specs.Seeking.{IsLineKnown};
-ghost use Rattle.mk_edit_parts.specs.SeenHeaders.{HasHeader, IsHeaderSeen};
 ghost use Rattle.mk_edit.specs.Planned.{Plans};
 ghost use Rattle.mk_edit.specs.PrerequisiteEdits.{IsChangeOfPrereqs};
 
 use crate::header::header_of;
 use crate::moves::replace_line;
-use mk_class::{Header, Meter};
+use mk_class::Meter;
 use mk_edit_language::{Edit, Refusal};
 use mk_edit_parts::find::find;
-use mk_edit_parts::prerequisite::{has_normal, has_order_only, without_prerequisite};
+use mk_edit_parts::prerequisite::{is_prerequisite, without_prerequisite};
 use mk_edit_parts::seek::Sought;
 use mk_patch::Patch;
-use mk_tree::{Doc, Line};
+use mk_tree::Doc;
 use std::alloc::Allocator;
 
 /// Plans the line of a rule without a prerequisite: the word goes wherever it stands in the two
@@ -56,13 +51,4 @@ pub(crate) fn plan_remove_prereq<A: Allocator + Copy>(
         return Err(Refusal::NoMemory);
     };
     replace_line(alloc, doc, place, bytes, meter)
-}
-
-// Whether a word is in either list of prerequisites.
-fn is_prerequisite<A: Allocator>(line: &Line<A>, header: Header, word: &[u8]) -> bool
-    requires { HasHeader (line_view line.now) header }
-    ensures { (h : Headers.Header Cell) → IsHeaderSeen (line_view line.now) header h
-        → result ≡ has_prereq (RemovePrereq word.now) h }
-{
-    has_normal(line, header, word) || has_order_only(line, header, word)
 }

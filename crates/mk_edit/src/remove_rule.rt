@@ -1,26 +1,19 @@
 //! The removal of a rule: its header, its recipe, and the lines between them.
-ghost use Rattle.std.specs.Prelude.{◌≡◌, ℕ, length};
+ghost use Rattle.std.specs.Prelude.{ℕ};
 ghost use Rattle.mk_tree.specs.Documents.{IsFaithful};
-ghost use Rattle.mk_tree.specs.Trees.{line_view};
-ghost use Rattle.mk_lines.specs.Words.{words_in};
 ghost use Rattle.mk_edit_language.specs.EditViews.{edit_of};
 ghost use Rattle.mk_edit_parts.specs.Seeking.{IsLineKnown};
-ghost use Rattle.mk_edit_parts.specs.LocatedParts.{IsClassed};
 ghost use Rattle.mk_edit.specs.Planned.{Plans};
 ghost use Rattle.mk_edit.specs.RecipeEdits.{IsRemoveRule};
-ghost use Rattle.mk_edit_parts.specs.RecipeWalks.{header_targets_located};
 
 use crate::moves::take_out;
-use mk_class::Class;
 use mk_edit_language::{Edit, Refusal};
 use mk_edit_parts::find::find;
 use mk_edit_parts::recipe::recipe_below;
+use mk_edit_parts::rule::target_count;
 use mk_edit_parts::seek::Sought;
-use mk_lines::split::Span;
-use mk_lines::split_first_word;
 use mk_patch::Patch;
-use mk_tree::part::{part, text_of_line};
-use mk_tree::{Doc, Line};
+use mk_tree::Doc;
 use std::alloc::Allocator;
 
 /// Plans the removal of a rule. It reads no line anew.
@@ -56,34 +49,4 @@ pub(crate) fn plan_remove_rule<A: Allocator + Copy>(
         return Err(Refusal::Straddles);
     }
     take_out(alloc, header.at, recipe.end - header.at)
-}
-
-// How many targets a header has; 0 for any other line.
-fn target_count<A: Allocator>(line: &Line<A>) -> usize
-    requires { IsClassed (line_view line.now) }
-    ensures { result ≡ length (header_targets_located (line_view line.now)) }
-{
-    match line.class() {
-        Class::Header(header) => {
-            let targets = Span {
-                start: 0,
-                end: header.targets_end,
-            };
-            word_count(part(text_of_line(line), targets))
-        }
-        _ => 0,
-    }
-}
-
-// How many words a text has.
-fn word_count(text: &[u8]) -> usize
-    ensures { result ≡ length (words_in text.now) }
-{
-    let mut count = 0;
-    let mut rest = text;
-    'words: while let Some((_, after)) = split_first_word(rest) {
-        count += 1;
-        rest = after;
-    }
-    count
 }

@@ -1,6 +1,7 @@
 //! A change of a value, as an edit says it, and what it does to the line of one assignment.
 ghost use Rattle.std.specs.Prelude.{◌≡◌, ◌≤◌, ◌++◌, IfOk, false, take, drop, length};
 ghost use Rattle.mk_tree.specs.Trees.{line_view};
+ghost use Rattle.mk_edit_language.specs.Edits.{Set};
 ghost use Rattle.mk_edit_language.specs.EditViews.{value_change_of};
 ghost use Rattle.mk_edit_parts.specs.LineRanges.{value_range_located};
 ghost use Rattle.mk_edit_parts.specs.LocatedParts.{IsClassed};
@@ -10,7 +11,7 @@ use crate::assignment::{assignment_of, value_text};
 use mk_edit_language::ValueChange;
 use mk_edit_parts::range::{ends_in_fold, value_range, with_replaced};
 use mk_edit_parts::seek::Found;
-use mk_edit_parts::text::has_word;
+use mk_edit_parts::text::{has_word, is_same_text};
 use mk_edit_parts::value_words::{bares_end, without_word};
 use mk_lines::is_closed;
 use mk_tree::Line;
@@ -21,6 +22,8 @@ use std::alloc::{AllocError, Allocator};
 pub(crate) enum Change<'a> {
     /// Puts this value in its place, which may be empty.
     Set(&'a [u8]),
+    /// Puts the second value in its place, if it is the first.
+    SetIf(&'a [u8], &'a [u8]),
     /// Puts this text after it.
     Append(&'a [u8]),
     /// Puts this word after it, if it does not have the word.
@@ -35,20 +38,23 @@ pub(crate) fn change_of<A: Allocator>(change: &ValueChange<A>) -> Change<'_>
 {
     match change {
         ValueChange::Set(value) => Change::Set(value),
+        ValueChange::SetIf { old, value } => Change::SetIf(old, value),
         ValueChange::Append(text) => Change::Append(text),
         ValueChange::Add(word) => Change::Add(word),
         ValueChange::Remove(word) => Change::Remove(word),
     }
 }
 
-/// Whether a change does something to the value of an assignment's line: a word is added if the
-/// value does not have it, and taken out if the value has it.
+/// Whether a change does something to the value of an assignment's line: a value goes in the place of
+/// another if it is that one, a word is added if the value does not have it, and taken out if the value
+/// has it.
 pub(crate) fn has_effect<A: Allocator>(change: Change<'_>, line: &Line<A>) -> bool
     requires { IsClassed (line_view line.now) }
     ensures { result ≡ has_effect_located (change_view change.entry) (line_view line.now) }
 {
     match change {
         Change::Set(_) | Change::Append(_) => true,
+        Change::SetIf(old, _) => is_same_text(value_text(line), old),
         Change::Add(word) => !has_word(value_text(line), word),
         Change::Remove(word) => has_word(value_text(line), word),
     }
@@ -64,7 +70,7 @@ pub(crate) fn is_open<A: Allocator>(change: Change<'_>, line: &Line<A>) -> bool
 {
     let value = value_text(line);
     match change {
-        Change::Set(_) => false,
+        Change::Set(_) | Change::SetIf(..) => false,
         Change::Append(_) => !is_closed(value),
         Change::Add(_) => !is_closed(value) || ends_in_fold(line),
         Change::Remove(word) => !is_closed(value) || bares_end(value, word),
@@ -77,7 +83,7 @@ pub(crate) fn put_by(change: Change<'_>) -> usize
     ensures { result ≡ put_by (change_view change.entry) }
 {
     match change {
-        Change::Set(value) => value.len(),
+        Change::Set(value) | Change::SetIf(_, value) => value.len(),
         Change::Append(text) | Change::Add(text) => text.len() + 1,
         Change::Remove(_) => 0,
     }
@@ -91,7 +97,7 @@ pub(crate) fn spared_by<A: Allocator>(change: Change<'_>, line: &Line<A>) -> usi
     ensures { result ≡ spared_by (change_view change.entry) (line_view line.now) }
 {
     match change {
-        Change::Set(value) => {
+        Change::Set(value) | Change::SetIf(_, value) => {
             let range = value_range(line, value.is_empty());
             range.end.saturating_sub(range.start)
         }
@@ -106,7 +112,7 @@ pub(crate) fn is_longer<A: Allocator>(change: Change<'_>, line: &Line<A>) -> boo
     ensures { result ≡ is_longer (change_view change.entry) (line_view line.now) }
 {
     match change {
-        Change::Set(value) => spared_by(change, line) < value.len(),
+        Change::Set(value) | Change::SetIf(_, value) => spared_by(change, line) < value.len(),
         Change::Append(_) | Change::Add(_) => true,
         Change::Remove(_) => false,
     }
@@ -128,14 +134,27 @@ pub(crate) fn bytes_changed<A: Allocator + Copy>(
         ≡ bytes_changed (change_view change.entry) place.now.context (line_view line.now)) }
 {
     match change {
-        Change::Set(value) => {
-            let range = value_range(line, value.is_empty());
-            with_replaced(alloc, line.bytes(), range, value)
-        }
+        Change::Set(value) => with_value(alloc, place, line, value),
+        Change::SetIf(_, value) => with_value(alloc, place, line, value),
         Change::Append(text) => with_text_after(alloc, line, text),
         Change::Add(word) => with_text_after(alloc, line, word),
         Change::Remove(word) => without_word(alloc, line, assignment_of(line), word),
     }
+}
+
+// The bytes of an assignment's line with another value, which may be empty.
+fn with_value<A: Allocator + Copy>(
+    alloc: A,
+    place: &Found,
+    line: &Line<A>,
+    value: &[u8],
+) -> Result<Vec<u8, A>, AllocError>
+    requires { IsOwnLine (Set value.now) place.now.context (line_view line.now) }
+    ensures { IfOk result (λ bytes. bytes.items
+        ≡ bytes_changed (Set value.now) place.now.context (line_view line.now)) }
+{
+    let range = value_range(line, value.is_empty());
+    with_replaced(alloc, line.bytes(), range, value)
 }
 
 // The bytes of an assignment's line with a text after its value.

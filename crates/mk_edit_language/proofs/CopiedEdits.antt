@@ -53,6 +53,7 @@ block-cloned m n h = ap block_lines (text-cloned m n h)
 -- for an allocator of any type `R`, with what it gives
 pub places-cloned : (R : RattleType) (G : alloc.Ghosts R.Denot) (d : Dict) (C : clone.Ghosts R.Denot) (e f : Dict)
     (a b : Place R.Denot) → (places.ghosts R G d C e f).is_clone a b → place_of b ≡ place_of a
+places-cloned R G d C e f place.Top place.Top h = refl
 places-cloned R G d C e f place.Bottom place.Bottom h = refl
 places-cloned R G d C e f (place.BeforeVar k n) (place.BeforeVar l m) h =
     cc (number-cloned e e k l h.0, text-cloned n.items m.items h.1.0)
@@ -60,11 +61,14 @@ places-cloned R G d C e f (place.AfterVar k n) (place.AfterVar l m) h =
     cc (number-cloned e e k l h.0, text-cloned n.items m.items h.1.0)
 places-cloned R G d C e f (place.BeforeRule k n) (place.BeforeRule l m) h =
     cc (number-cloned e e k l h.0, text-cloned n.items m.items h.1.0)
+places-cloned R G d C e f (place.AfterRule k n) (place.AfterRule l m) h =
+    cc (number-cloned e e k l h.0, text-cloned n.items m.items h.1.0)
+places-cloned R G d C e f (place.AfterLastVar n) (place.AfterLastVar m) h =
+    cc (text-cloned n.items m.items h.0)
 places-cloned R G d C e f a b h = absurd h
 
 sites-cloned : (R : RattleType) (G : alloc.Ghosts R.Denot) (d : Dict) (C : clone.Ghosts R.Denot) (e f : Dict)
     (a b : Site R.Denot) → (sites.ghosts R G d C e f).is_clone a b → site_of b ≡ site_of a
-sites-cloned R G d C e f site.Top site.Top h = refl
 sites-cloned R G d C e f (site.AtPlace p) (site.AtPlace q) h = cc (places-cloned R G d C e f p q h)
 sites-cloned R G d C e f (site.BeforeLines k n) (site.BeforeLines l m) h =
     cc (number-cloned e e k l h.0, block-cloned n.items m.items h.1.0)
@@ -72,12 +76,16 @@ sites-cloned R G d C e f (site.AfterLines k n) (site.AfterLines l m) h =
     cc (number-cloned e e k l h.0, block-cloned n.items m.items h.1.0)
 sites-cloned R G d C e f (site.OfLines k n) (site.OfLines l m) h =
     cc (number-cloned e e k l h.0, block-cloned n.items m.items h.1.0)
+sites-cloned R G d C e f (site.OfRule k n) (site.OfRule l m) h =
+    cc (number-cloned e e k l h.0, text-cloned n.items m.items h.1.0)
 sites-cloned R G d C e f a b h = absurd h
 
 changes-cloned : (R : RattleType) (G : alloc.Ghosts R.Denot) (d : Dict) (C : clone.Ghosts R.Denot) (e f : Dict)
     (a b : ValueChange R.Denot) → (changes.ghosts R G d C e f).is_clone a b → value_change_of b ≡ value_change_of a
 changes-cloned R G d C e f (change.Set v) (change.Set w) h =
     cc (text-cloned v.items w.items h.0)
+changes-cloned R G d C e f (change.SetIf o v) (change.SetIf u w) h =
+    cc (text-cloned o.items u.items h.0.0, text-cloned v.items w.items h.1.0)
 changes-cloned R G d C e f (change.Append v) (change.Append w) h =
     cc (text-cloned v.items w.items h.0)
 changes-cloned R G d C e f (change.Add v) (change.Add w) h =
@@ -115,6 +123,8 @@ pub edits-cloned : (R : RattleType) (G : alloc.Ghosts R.Denot) (d : Dict) (C : c
     (a b : Edit R.Denot) → (edits.ghosts R G d C e f).is_clone a b → edit_of b ≡ edit_of a
 edits-cloned R G d C e f (edit.SetValue k n v) (edit.SetValue l m w) h =
     cc (number-cloned e e k l h.0, text-cloned n.items m.items h.1.0.0, text-cloned v.items w.items h.1.1.0)
+edits-cloned R G d C e f (edit.SetValueIf k n o v) (edit.SetValueIf l m u w) h =
+    cc (number-cloned e e k l h.0, text-cloned n.items m.items h.1.0.0, text-cloned o.items u.items h.1.1.0.0, text-cloned v.items w.items h.1.1.1.0)
 edits-cloned R G d C e f (edit.AppendValue k n v) (edit.AppendValue l m w) h =
     cc (number-cloned e e k l h.0, text-cloned n.items m.items h.1.0.0, text-cloned v.items w.items h.1.1.0)
 edits-cloned R G d C e f (edit.AddWord k n v) (edit.AddWord l m w) h =
@@ -129,6 +139,10 @@ edits-cloned R G d C e f (edit.AddAssign p n i v) (edit.AddAssign q m j w) h =
     cc (places-cloned R G d C e f p q h.0, text-cloned n.items m.items h.1.0.0, h.1.1.0, text-cloned v.items w.items h.1.1.1.0)
 edits-cloned R G d C e f (edit.RemoveAssign k n) (edit.RemoveAssign l m) h =
     cc (number-cloned e e k l h.0, text-cloned n.items m.items h.1.0)
+edits-cloned R G d C e f (edit.CommentOut k n) (edit.CommentOut l m) h =
+    cc (number-cloned e e k l h.0, text-cloned n.items m.items h.1.0)
+edits-cloned R G d C e f (edit.Uncomment k n) (edit.Uncomment l m) h =
+    cc (number-cloned e e k l h.0, text-cloned n.items m.items h.1.0)
 edits-cloned R G d C e f (edit.AddRule p n i v) (edit.AddRule q m j w) h =
     cc (places-cloned R G d C e f p q h.0, text-cloned n.items m.items h.1.0.0, h.1.1.0, text-cloned v.items w.items h.1.1.1.0)
 edits-cloned R G d C e f (edit.RemoveRule k n) (edit.RemoveRule l m) h =
@@ -137,6 +151,8 @@ edits-cloned R G d C e f (edit.AddPrereq i k n v) (edit.AddPrereq j l m w) h =
     cc (h.0, number-cloned e e k l h.1.0, text-cloned n.items m.items h.1.1.0.0, text-cloned v.items w.items h.1.1.1.0)
 edits-cloned R G d C e f (edit.RemovePrereq k n v) (edit.RemovePrereq l m w) h =
     cc (number-cloned e e k l h.0, text-cloned n.items m.items h.1.0.0, text-cloned v.items w.items h.1.1.0)
+edits-cloned R G d C e f (edit.ReplacePrereq k n o v) (edit.ReplacePrereq l m u w) h =
+    cc (number-cloned e e k l h.0, text-cloned n.items m.items h.1.0.0, text-cloned o.items u.items h.1.1.0.0, text-cloned v.items w.items h.1.1.1.0)
 edits-cloned R G d C e f (edit.AddRecipe k n v) (edit.AddRecipe l m w) h =
     cc (number-cloned e e k l h.0, text-cloned n.items m.items h.1.0.0, text-cloned v.items w.items h.1.1.0)
 edits-cloned R G d C e f (edit.SetRecipe k n i v) (edit.SetRecipe l m j w) h =

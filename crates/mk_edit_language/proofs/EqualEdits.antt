@@ -98,6 +98,7 @@ lines-decide (Some x) (Some y) = block-decides x.items y.items
 -- for an allocator of any type `R`, with what it gives
 pub places-decide : (R : RattleType) (G : alloc.Ghosts R.Denot) (d e : Dict) (a b : Place R.Denot)
     → Decides ((places.ghosts R G d e).eq a b) (place_of a ≡ place_of b)
+places-decide R G d e place.Top place.Top = yes refl
 places-decide R G d e place.Bottom place.Bottom = yes refl
 places-decide R G d e (place.BeforeVar k n) (place.BeforeVar l m) =
     Decides-like _ (λ h. cc) (λ h. (cc, cc))
@@ -108,11 +109,16 @@ places-decide R G d e (place.AfterVar k n) (place.AfterVar l m) =
 places-decide R G d e (place.BeforeRule k n) (place.BeforeRule l m) =
     Decides-like _ (λ h. cc) (λ h. (cc, cc))
     (also (number-decides k l) (bytes_eq-Decides n.items m.items))
+places-decide R G d e (place.AfterRule k n) (place.AfterRule l m) =
+    Decides-like _ (λ h. cc) (λ h. (cc, cc))
+    (also (number-decides k l) (bytes_eq-Decides n.items m.items))
+places-decide R G d e (place.AfterLastVar n) (place.AfterLastVar m) =
+    Decides-like _ (λ h. cc) (λ h. cc)
+    (bytes_eq-Decides n.items m.items)
 places-decide R G d e a b = no (λ h. cc)
 
 sites-decide : (R : RattleType) (G : alloc.Ghosts R.Denot) (d e : Dict) (a b : Site R.Denot)
     → Decides ((site_eq.ghosts R G d e).eq a b) (site_of a ≡ site_of b)
-sites-decide R G d e site.Top site.Top = yes refl
 sites-decide R G d e (site.AtPlace p) (site.AtPlace q) = Decides-like _ (λ h. cc) (λ h. cc) (places-decide R G d e p q)
 sites-decide R G d e (site.BeforeLines k n) (site.BeforeLines l m) =
     Decides-like _ (λ h. cc) (λ h. (cc, cc))
@@ -123,6 +129,9 @@ sites-decide R G d e (site.AfterLines k n) (site.AfterLines l m) =
 sites-decide R G d e (site.OfLines k n) (site.OfLines l m) =
     Decides-like _ (λ h. cc) (λ h. (cc, cc))
     (also (number-decides k l) (block-decides n.items m.items))
+sites-decide R G d e (site.OfRule k n) (site.OfRule l m) =
+    Decides-like _ (λ h. cc) (λ h. (cc, cc))
+    (also (number-decides k l) (bytes_eq-Decides n.items m.items))
 sites-decide R G d e a b = no (λ h. cc)
 
 changes-decide : (R : RattleType) (G : alloc.Ghosts R.Denot) (d e : Dict) (a b : ValueChange R.Denot)
@@ -130,6 +139,9 @@ changes-decide : (R : RattleType) (G : alloc.Ghosts R.Denot) (d e : Dict) (a b :
 changes-decide R G d e (change.Set v) (change.Set w) =
     Decides-like _ (λ h. cc) (λ h. cc)
     (bytes_eq-Decides v.items w.items)
+changes-decide R G d e (change.SetIf o v) (change.SetIf u w) =
+    Decides-like _ (λ h. cc) (λ h. (cc, cc))
+    (also (bytes_eq-Decides o.items u.items) (bytes_eq-Decides v.items w.items))
 changes-decide R G d e (change.Append v) (change.Append w) =
     Decides-like _ (λ h. cc) (λ h. cc)
     (bytes_eq-Decides v.items w.items)
@@ -181,6 +193,9 @@ pub edits-decide : (R : RattleType) (G : alloc.Ghosts R.Denot) (d e : Dict) (a b
 edits-decide R G d e (edit.SetValue k n v) (edit.SetValue l m w) =
     Decides-like _ (λ h. cc) (λ h. (cc, (cc, cc)))
     (also (number-decides k l) (also (bytes_eq-Decides n.items m.items) (bytes_eq-Decides v.items w.items)))
+edits-decide R G d e (edit.SetValueIf k n o v) (edit.SetValueIf l m u w) =
+    Decides-like _ (λ h. cc) (λ h. (cc, (cc, (cc, cc))))
+    (also (number-decides k l) (also (bytes_eq-Decides n.items m.items) (also (bytes_eq-Decides o.items u.items) (bytes_eq-Decides v.items w.items))))
 edits-decide R G d e (edit.AppendValue k n v) (edit.AppendValue l m w) =
     Decides-like _ (λ h. cc) (λ h. (cc, (cc, cc)))
     (also (number-decides k l) (also (bytes_eq-Decides n.items m.items) (bytes_eq-Decides v.items w.items)))
@@ -202,6 +217,12 @@ edits-decide R G d e (edit.AddAssign p n f v) (edit.AddAssign q m g w) =
 edits-decide R G d e (edit.RemoveAssign k n) (edit.RemoveAssign l m) =
     Decides-like _ (λ h. cc) (λ h. (cc, cc))
     (also (number-decides k l) (bytes_eq-Decides n.items m.items))
+edits-decide R G d e (edit.CommentOut k n) (edit.CommentOut l m) =
+    Decides-like _ (λ h. cc) (λ h. (cc, cc))
+    (also (number-decides k l) (bytes_eq-Decides n.items m.items))
+edits-decide R G d e (edit.Uncomment k n) (edit.Uncomment l m) =
+    Decides-like _ (λ h. cc) (λ h. (cc, cc))
+    (also (number-decides k l) (bytes_eq-Decides n.items m.items))
 edits-decide R G d e (edit.AddRule p n s v) (edit.AddRule q m t w) =
     Decides-like _ (λ h. cc) (λ h. (cc, (cc, (cc, cc))))
     (also (places-decide R G d e p q) (also (bytes_eq-Decides n.items m.items) (also (separator-decides s t) (bytes_eq-Decides v.items w.items))))
@@ -214,6 +235,9 @@ edits-decide R G d e (edit.AddPrereq i k n v) (edit.AddPrereq j l m w) =
 edits-decide R G d e (edit.RemovePrereq k n v) (edit.RemovePrereq l m w) =
     Decides-like _ (λ h. cc) (λ h. (cc, (cc, cc)))
     (also (number-decides k l) (also (bytes_eq-Decides n.items m.items) (bytes_eq-Decides v.items w.items)))
+edits-decide R G d e (edit.ReplacePrereq k n o v) (edit.ReplacePrereq l m u w) =
+    Decides-like _ (λ h. cc) (λ h. (cc, (cc, (cc, cc))))
+    (also (number-decides k l) (also (bytes_eq-Decides n.items m.items) (also (bytes_eq-Decides o.items u.items) (bytes_eq-Decides v.items w.items))))
 edits-decide R G d e (edit.AddRecipe k n v) (edit.AddRecipe l m w) =
     Decides-like _ (λ h. cc) (λ h. (cc, (cc, cc)))
     (also (number-decides k l) (also (bytes_eq-Decides n.items m.items) (bytes_eq-Decides v.items w.items)))

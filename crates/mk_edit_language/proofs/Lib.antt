@@ -8,6 +8,7 @@ pub mod on_prerequisites
 pub mod on_renames
 pub mod on_changes
 pub mod on_edits
+pub mod on_comments
 pub mod on_line_runs
 pub mod on_each_line
 -- Lemmas on copies of edits

@@ -6,3 +6,4 @@ pub mod BlockEnds
 pub mod BlockNumbers
 pub mod LinesAbove
 pub mod LinesExchanged
+pub mod RulesGone

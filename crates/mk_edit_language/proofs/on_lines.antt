@@ -9,5 +9,6 @@ pub mod HeaderParts
 pub mod HeaderChanges
 pub mod LineReplaced
 pub mod SpotLemmas
+pub mod HashLemmas
 pub mod PrefixLemmas
 pub mod NameLemmas

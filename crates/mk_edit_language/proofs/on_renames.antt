@@ -1,6 +1,7 @@
 -- Lemmas. Targets renamed.
 pub mod WordsRenamed
 pub mod RenamedHeaders
+pub mod ReplacePrereqLemmas
 pub mod RenamedTexts
 pub mod TargetFronts
 pub mod TargetUnits

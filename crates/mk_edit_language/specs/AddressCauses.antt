@@ -11,15 +11,16 @@ use Rattle.mk_class.specs.Classes.{Class}
 use Rattle.mk_class.specs.Classes.Class.{Assign, DefineHead}
 use Rattle.mk_class.specs.Contexts.{Context, start, context_after}
 use Rattle.mk_class.specs.ClassedLines.{ClassedLine}
-use Rattle.mk_edit_language.specs.Edits.{Every, Edit, ChangeValue, AddLine, RenameTarget, EachLine}
+use Rattle.mk_edit_language.specs.Edits.{Which, One, Every, ValueChange, SetIf, Edit, ChangeValue, AddLine, RenameTarget, EachLine}
 use Rattle.mk_edit_language.specs.Spots.{nth_of}
-use Rattle.mk_edit_language.specs.Addresses.{Address, assigns, candidates, nth_meant, address, each_address, is_a_target}
+use Rattle.mk_edit_language.specs.Addresses.{Address, Variable, Valued, assigns, candidates, nth_meant, address, each_address, is_a_target}
 use Rattle.mk_edit_language.specs.Stretches.{Stretch, insertion}
 use Rattle.mk_tree.specs.Documents.{context_of}
 use Rattle.mk_tree.specs.LineTexts.{StandingLine}
 use Rattle.mk_edit_language.specs.NewLines.{new_text}
 use Rattle.mk_edit_language.specs.WordPieces.{renamed_pieces, is_replaced}
-use Rattle.mk_edit_language.specs.Causes.{where_holds}
+use Rattle.mk_edit_language.specs.Causes.{where_holds, or_else}
+use Rattle.mk_edit_language.specs.RuleCauses.{straddles_at}
 use Rattle.mk_edit_language.specs.declared.refusal.Refusal.{Refusal}
 use Rattle.mk_edit_language.specs.declared.refusal.Refusal.TheVariants.{RecipePrefix, NoSuch, Ambiguous}
 
@@ -35,7 +36,7 @@ abbrev pub unread_prefix : List ClassedLine → Option Refusal
 unread_prefix ls = where_holds (list_any (λ l. is_unread_prefix l.class) ls) RecipePrefix
 
 -- ---- NoSuch: there is no such line, or no nth such line; the old name of a rename is no target; no
--- ---- line assigns the name whose values change
+-- ---- line assigns the name whose values change, or the value that is set in the place of another
 
 -- whether there is no line, or no nth line
 abbrev pub is_missing : Option ℕ → List StandingLine → Bool
@@ -46,8 +47,24 @@ abbrev pub no_such_line : List ClassedLine → Option Address → Option Refusal
 no_such_line ls None = None
 no_such_line ls (Some a) = where_holds (is_missing (nth_meant a) (candidates ls a)) NoSuch
 
+-- whether no line assigns a name
+abbrev pub assigns_none : (name : List ℕ) → List ClassedLine → Bool
+assigns_none n ls = not (list_any (λ l. assigns n l.class) ls)
+
+-- whether there are lines, but no nth line
+abbrev pub is_past : Option ℕ → List StandingLine → Bool
+is_past nth ss = not (is_empty ss) && is_missing nth ss
+
+-- of a value that is set in the place of another: that no line assigns the name; or that lines with the
+-- other value do, but no nth line
+abbrev pub no_such_value : List ClassedLine → Which → (name : List ℕ) → ValueChange → Option Refusal
+no_such_value ls Every n c = where_holds (assigns_none n ls) NoSuch
+no_such_value ls (One nth) n (SetIf o v) =
+    where_holds (assigns_none n ls || is_past nth (candidates ls (Valued nth n o))) NoSuch
+no_such_value ls (One nth) n c = no_such_line ls (Some (Variable nth n))
+
 abbrev pub no_such : List ClassedLine → Edit → Option Refusal
-no_such ls (ChangeValue Every n c) = where_holds (not (list_any (λ l. assigns n l.class) ls)) NoSuch
+no_such ls (ChangeValue w n c) = no_such_value ls w n c
 no_such ls (RenameTarget o n) = where_holds (not (is_a_target ls o)) NoSuch
 no_such ls (EachLine e) = no_such_line ls (each_address e)
 no_such ls e = no_such_line ls (address e)
@@ -67,7 +84,8 @@ ambiguous_line ls (Some a) =
 abbrev pub ambiguous : List ClassedLine → Edit → Option Refusal
 ambiguous ls e = ambiguous_line ls (address e)
 
--- ---- RecipePrefix: a line that is written, no recipe line, would begin with the prefix in force
+-- ---- Straddles, of a place after a rule; and RecipePrefix: a line that is written, no recipe line, would
+-- ---- begin with the prefix in force
 
 -- whether a new line would begin with the prefix
 abbrev pub begins_new_line : Edit → Option Stretch → Bool
@@ -86,8 +104,9 @@ begins_some_renamed_line o n c (l ∷ ls) =
     begins_renamed_line c.prefix (renamed_pieces o n l.class)
     || begins_some_renamed_line o n (context_after c l.class) ls
 
-abbrev pub prefix_led : List ClassedLine → Edit → Option Refusal
-prefix_led ls (AddLine p l) =
-    where_holds (begins_new_line (AddLine p l) (insertion ls (AddLine p l))) RecipePrefix
-prefix_led ls (RenameTarget o n) = where_holds (begins_some_renamed_line o n start ls) RecipePrefix
-prefix_led ls e = None
+abbrev pub misplaced : List ClassedLine → Edit → Option Refusal
+misplaced ls (AddLine p l) =
+    or_else (straddles_at ls p)
+    (where_holds (begins_new_line (AddLine p l) (insertion ls (AddLine p l))) RecipePrefix)
+misplaced ls (RenameTarget o n) = where_holds (begins_some_renamed_line o n start ls) RecipePrefix
+misplaced ls e = None

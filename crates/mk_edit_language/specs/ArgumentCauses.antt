@@ -8,8 +8,8 @@ use Rattle.mk_class.specs.ListTests.{is_empty}
 use Rattle.mk_class.specs.Keywords.{is_reserved_word}
 use Rattle.mk_class.specs.RecipePrefix.{is_prefix_name}
 use Rattle.mk_class.specs.Arguments.{is_clean, is_value, is_word, is_target, is_name, is_command}
-use Rattle.mk_edit_language.specs.Edits.{Place, Bottom, BeforeVar, AfterVar, BeforeRule, Site, Top, AtPlace, BeforeRun, AfterRun, OfRun, NewLine, NewAssign, NewRule, Every, ValueChange, Set, Append, Add, Remove, LineChange, Prepend, ReplaceWord, InsertWord, Substitute, SetOperator, EachEdit, ChangeEach, SubstValues, SubstRecipe, SubstRecipes, PrereqChange, AddPrereq, RemovePrereq, RecipeLine, ByNumber, ByText, Removal, OfAssign, OfRule, OfRecipe, Edit, ChangeValue, ChangeLine, ChangePrereqs, AddLine, AddRecipe, SetRecipe, RemoveLines, RenameTarget, ExchangeLines, EachLine}
-use Rattle.mk_edit_language.specs.Addresses.{Address, Variable, Rule, address, each_address}
+use Rattle.mk_edit_language.specs.Edits.{Place, Top, Bottom, BeforeVar, AfterVar, AfterLastVar, BeforeRule, AfterRule, Site, AtPlace, BeforeRun, AfterRun, OfRun, OfRuleRun, NewLine, NewAssign, NewRule, ValueChange, Set, Append, Add, Remove, LineChange, Prepend, ReplaceWord, InsertWord, Substitute, SetOperator, EachEdit, ChangeEach, SubstValues, SubstRecipe, SubstRecipes, PrereqChange, AddPrereq, RemovePrereq, RecipeLine, ByNumber, ByText, Removal, OfAssign, OfRule, OfRecipe, Edit, ChangeValue, ChangeLine, ChangePrereqs, AddLine, AddRecipe, SetRecipe, RemoveLines, RenameTarget, ExchangeLines, EachLine, SetIf, ReplacePrereq, SwitchLine}
+use Rattle.mk_edit_language.specs.Addresses.{Address, Variable, LastVariable, Rule, address, each_address}
 use Rattle.mk_edit_language.specs.LineRuns.{is_block, site_address}
 use Rattle.mk_edit_language.specs.Causes.{where_holds}
 use Rattle.mk_edit_language.specs.declared.refusal.Field.{Field}
@@ -30,10 +30,13 @@ first_failed (Tested f false ∷ ts) = Some (BadArgument f)
 
 -- whether the name or the target of a place passes its test
 abbrev pub is_place : Place → Bool
+is_place Top = true
 is_place Bottom = true
 is_place (BeforeVar nth n) = is_name n
 is_place (AfterVar nth n) = is_name n
+is_place (AfterLastVar n) = is_name n
 is_place (BeforeRule nth t) = is_target t
+is_place (AfterRule nth t) = is_target t
 
 -- whether an argument is one or more targets
 abbrev pub are_targets : List ℕ → Bool
@@ -49,12 +52,13 @@ abbrev pub is_value_word : List ℕ → Bool
 is_value_word w =
     is_value w && (not (is_empty w) && not (list_any (is_gap (λ b. b)) (units (λ b. b) w)))
 
--- the test of the text of a change of values
-abbrev pub change_test : ValueChange → FieldTest
-change_test (Set v) = Tested field.Value (is_value v)
-change_test (Append v) = Tested field.Value (is_value v && not (is_empty v))
-change_test (Add w) = Tested field.Word (is_value_word w)
-change_test (Remove w) = Tested field.Word (is_value_word w)
+-- the tests of the texts of a change of values
+abbrev pub change_tests : ValueChange → List FieldTest
+change_tests (Set v) = Tested field.Value (is_value v) ∷ []
+change_tests (SetIf o v) = Tested field.Old (is_value o) ∷ Tested field.Value (is_value v) ∷ []
+change_tests (Append v) = Tested field.Value (is_value v && not (is_empty v)) ∷ []
+change_tests (Add w) = Tested field.Word (is_value_word w) ∷ []
+change_tests (Remove w) = Tested field.Word (is_value_word w) ∷ []
 
 -- the tests of the texts of a change of a line
 abbrev pub line_change_tests : LineChange → List FieldTest
@@ -84,10 +88,12 @@ each_tests (SubstValues f t) = subst_tests f t
 each_tests (SubstRecipe nth g f t) = Tested field.Target (is_target g) ∷ subst_tests f t
 each_tests (SubstRecipes f t) = subst_tests f t
 
--- the test of the word of a change of prerequisites
-abbrev prereq_test : PrereqChange → FieldTest
-prereq_test (AddPrereq order w) = Tested field.Word (is_word w)
-prereq_test (RemovePrereq w) = Tested field.Word (is_word w)
+-- the tests of the words of a change of prerequisites
+abbrev pub prereq_tests : PrereqChange → List FieldTest
+prereq_tests (AddPrereq order w) = Tested field.Word (is_word w) ∷ []
+prereq_tests (RemovePrereq w) = Tested field.Word (is_word w) ∷ []
+prereq_tests (ReplacePrereq o n) =
+    Tested field.Old (is_word o) ∷ Tested field.New (is_word n) ∷ []
 
 -- the tests of a new line that goes to a place
 abbrev pub line_tests : NewLine → List FieldTest
@@ -109,7 +115,6 @@ removal_tests (OfRecipe nth t w) = Tested field.Target (is_target t) ∷ recipe_
 
 -- the tests of a site and of the new lines that go there; in the place of lines there may be none
 abbrev pub exchange_tests : Site → (new : List (List ℕ)) → List FieldTest
-exchange_tests Top ts = Tested field.Block (is_block ts) ∷ []
 exchange_tests (AtPlace p) ts =
     Tested field.Place (is_place p) ∷ Tested field.Block (is_block ts) ∷ []
 exchange_tests (BeforeRun nth o) ts =
@@ -118,18 +123,21 @@ exchange_tests (AfterRun nth o) ts =
     Tested field.Place (is_block o) ∷ Tested field.Block (is_block ts) ∷ []
 exchange_tests (OfRun nth o) ts =
     Tested field.Old (is_block o) ∷ Tested field.Block (is_empty ts || is_block ts) ∷ []
+exchange_tests (OfRuleRun nth t) ts =
+    Tested field.Target (is_target t) ∷ Tested field.Block (is_empty ts || is_block ts) ∷ []
 
 -- the fields of an edit in their order
 abbrev pub field_tests : Edit → List FieldTest
-field_tests (ChangeValue w n c) = Tested field.Name (is_name n) ∷ change_test c ∷ []
+field_tests (ChangeValue w n c) = Tested field.Name (is_name n) ∷ change_tests c
 field_tests (ChangeLine nth n c) = Tested field.Name (is_name n) ∷ line_change_tests c
-field_tests (ChangePrereqs nth t c) = Tested field.Target (is_target t) ∷ prereq_test c ∷ []
+field_tests (ChangePrereqs nth t c) = Tested field.Target (is_target t) ∷ prereq_tests c
 field_tests (AddLine p l) = Tested field.Place (is_place p) ∷ line_tests l
 field_tests (AddRecipe nth t p c) =
     Tested field.Target (is_target t) ∷ Tested field.Line (is_command c) ∷ []
 field_tests (SetRecipe nth t w c) =
     Tested field.Target (is_target t) ∷ recipe_tests w (Tested field.Line (is_command c) ∷ [])
 field_tests (RemoveLines r) = removal_tests r
+field_tests (SwitchLine w nth n) = Tested field.Name (is_name n) ∷ []
 field_tests (RenameTarget o n) =
     Tested field.Old (is_target o) ∷ Tested field.New (is_target n) ∷ []
 field_tests (ExchangeLines s ts) = exchange_tests s ts
@@ -143,11 +151,13 @@ bad_argument e = first_failed (field_tests e)
 -- the variable that an address names
 abbrev pub address_names : Option Address → List (List ℕ)
 address_names (Some (Variable nth n)) = n ∷ []
+address_names (Some (LastVariable n)) = n ∷ []
 address_names a = []
 
 -- the variables that an edit names, including that of its place or site
 abbrev pub names : Edit → List (List ℕ)
-names (ChangeValue Every n c) = n ∷ []
+names (ChangeValue w n c) = n ∷ []
+names (SwitchLine w nth n) = n ∷ []
 names (AddLine p (NewAssign n f v)) = n ∷ address_names (address (AddLine p (NewAssign n f v)))
 names (ExchangeLines s ts) = address_names (site_address s)
 names (EachLine e) = address_names (each_address e)
@@ -162,6 +172,8 @@ address_targets a = []
 abbrev pub targets : Edit → List (List ℕ)
 targets (AddLine p (NewRule ts c ws)) =
     words_in ts ++ address_targets (address (AddLine p (NewRule ts c ws)))
+targets (ChangeValue w n c) = []
+targets (SwitchLine w nth n) = []
 targets (RenameTarget o n) = o ∷ n ∷ []
 targets (ExchangeLines s ts) = address_targets (site_address s)
 targets (EachLine e) = address_targets (each_address e)

@@ -18,11 +18,12 @@ use Rattle.mk_class.specs.declared.rule.Separator.TheVariants.{SingleColon, Doub
 use Rattle.mk_tree.specs.Documents.{text_of}
 use Rattle.mk_tree.specs.Items.{Item, Assign, TargetAssign, Header, Recipe, Sets, items, items_of_line, header_item}
 use Rattle.mk_tree.specs.LineTexts.{StandingLine}
-use Rattle.mk_edit_language.specs.Edits.{NewLine, NewAssign, NewRule, One, Every, ValueChange, Set, Append, Add, Remove, LineChange, PrereqChange, AddPrereq, RemovePrereq, Edit, ChangeValue, ChangeLine, ChangePrereqs, AddLine, AddRecipe, SetRecipe, RemoveLines, RenameTarget, ExchangeLines, EachLine}
-use Rattle.mk_edit_language.specs.Addresses.{Variable, Rule, found}
+use Rattle.mk_edit_language.specs.Edits.{NewLine, NewAssign, NewRule, One, Every, ValueChange, Set, SetIf, Append, Add, Remove, LineChange, PrereqChange, AddPrereq, RemovePrereq, ReplacePrereq, Switch, Edit, ChangeValue, ChangeLine, ChangePrereqs, AddLine, AddRecipe, SetRecipe, RemoveLines, SwitchLine, RenameTarget, ExchangeLines, EachLine}
+use Rattle.mk_edit_language.specs.Addresses.{Variable, Rule, value_address, switch_address, found}
 use Rattle.mk_edit_language.specs.Stretches.{Stretch, this_line, place_found, recipe_place, removed, recipe_found}
 use Rattle.mk_edit_language.specs.ValueChanges.{set_value_span, led_words, staying, from_first_word, is_changed}
 use Rattle.mk_edit_language.specs.LineChanges.{assigned_after}
+use Rattle.mk_edit_language.specs.SwitchedLines.{switched_items}
 use Rattle.mk_edit_language.specs.LineRuns.{site_found}
 use Rattle.mk_edit_language.specs.LineExchanges.{new_lines}
 use Rattle.mk_edit_language.specs.EachLine.{EachChange, InAssignment, InRecipe, MarkedLine, marked, each_change, recipe_text_pieces, is_each_changed}
@@ -79,6 +80,7 @@ value_without t w at a =
 abbrev pub value_changed : (text : List ℕ) → ValueChange → (line_start : ℕ) → Assignment Cell
     → List ℕ
 value_changed t (Set v) at a = value_set t v at a
+value_changed t (SetIf o v) at a = value_set t v at a
 value_changed t (Append v) at a = value_appended v a
 value_changed t (Add w) at a = value_appended w a
 value_changed t (Remove w) at a = value_without t w at a
@@ -103,6 +105,10 @@ line_item c k = []
 
 abbrev pub with_line_changed : LineChange → StandingLine → List Item
 with_line_changed c s = with_items (line_item c s.line.class) (this_line s)
+
+-- the item of a line goes, or comes in, if the line becomes a comment, or was one
+abbrev pub with_switched : Switch → StandingLine → List Item
+with_switched w s = with_items (switched_items w s) (this_line s)
 
 -- ---- several lines, checked by reading
 
@@ -143,14 +149,21 @@ abbrev pub without_prerequisite : (word : List ℕ) → Item → Item
 without_prerequisite w (Header ts s p n o i) = Header ts s p (without_word w n) (without_word w o) i
 without_prerequisite w i = i
 
+-- words with the new word in the place of each old one
+abbrev pub rename_words : (old new : List ℕ) → List (List ℕ) → List (List ℕ)
+rename_words o n ws = map (λ w. if bytes_eq w o then n else w) ws
+
+-- a header with the new word in the place of each prerequisite that is the old one
+abbrev pub with_prerequisite_replaced : (old new : List ℕ) → Item → Item
+with_prerequisite_replaced o n (Header ts s p ns os i) =
+    Header ts s p (rename_words o n ns) (rename_words o n os) i
+with_prerequisite_replaced o n i = i
+
 -- a header after a change of its prerequisites
 abbrev pub with_prereqs : PrereqChange → Item → Item
 with_prereqs (AddPrereq order w) i = with_prerequisite order w i
 with_prereqs (RemovePrereq w) i = without_prerequisite w i
-
--- words with the new word in the place of each old one
-abbrev pub rename_words : (old new : List ℕ) → List (List ℕ) → List (List ℕ)
-rename_words o n ws = map (λ w. if bytes_eq w o then n else w) ws
+with_prereqs (ReplacePrereq o n) i = with_prerequisite_replaced o n i
 
 -- an item with the new word in the place of each target and each prerequisite that is the old word
 abbrev pub renamed_item : (old new : List ℕ) → Item → Item
@@ -180,7 +193,7 @@ with_new_lines t ts s = with_items (items (new_lines t ts s)) s
 -- the reading after an edit that no cause refuses
 abbrev change_of : (text : List ℕ) → List ClassedLine → Edit → List Item
 change_of t ls (ChangeValue (One nth) n c) =
-    where_found (with_value (value_changed t c)) (found ls (Variable nth n))
+    where_found (with_value (value_changed t c)) (found ls (value_address nth n c))
 change_of t ls (ChangeValue Every n c) = with_values t n c 0 ls
 change_of t ls (ChangeLine nth n c) =
     where_found (with_line_changed c) (found ls (Variable nth n))
@@ -193,6 +206,8 @@ change_of t ls (AddRecipe nth g p c) =
 change_of t ls (SetRecipe nth g w c) =
     where_found (with_items (Recipe c ∷ [])) (option_map this_line (recipe_found ls nth g w))
 change_of t ls (RemoveLines r) = where_found (with_items []) (removed ls r)
+change_of t ls (SwitchLine w nth n) =
+    where_found (with_switched w) (found ls (switch_address w nth n))
 change_of t ls (RenameTarget o n) = map (renamed_item o n) (items ls)
 change_of t ls (ExchangeLines s ts) = where_found (with_new_lines t ts) (site_found ls s)
 change_of t ls (EachLine e) = concat (map (each_items (each_change e)) (marked e ls))

@@ -10,16 +10,17 @@ use Rattle.mk_class.specs.Classes.Class.{Header}
 use Rattle.mk_class.specs.ClassedLines.{ClassedLine}
 use Rattle.mk_tree.specs.Documents.{text_of}
 use Rattle.mk_tree.specs.LineTexts.{StandingLine}
-use Rattle.mk_edit_language.specs.Edits.{One, Every, PrereqChange, AddPrereq, RemovePrereq, Edit, ChangeValue, ChangeLine, ChangePrereqs, SetRecipe, RemoveLines, RenameTarget, ExchangeLines, EachLine}
-use Rattle.mk_edit_language.specs.Addresses.{Variable, Rule, found}
+use Rattle.mk_edit_language.specs.Edits.{One, Every, PrereqChange, AddPrereq, RemovePrereq, ReplacePrereq, Edit, ChangeValue, ChangeLine, ChangePrereqs, SetRecipe, RemoveLines, SwitchLine, RenameTarget, ExchangeLines, EachLine}
+use Rattle.mk_edit_language.specs.Addresses.{Variable, Rule, value_address, switch_address, found}
 use Rattle.mk_edit_language.specs.Stretches.{Stretch, insertion, removed, recipe_found}
 use Rattle.mk_edit_language.specs.NewLines.{new_line_span}
 use Rattle.mk_edit_language.specs.LineRuns.{site_found}
 use Rattle.mk_edit_language.specs.LineExchanges.{exchange_span}
 use Rattle.mk_edit_language.specs.ValueChanges.{value_spans, change_spans, changed_line_spans}
 use Rattle.mk_edit_language.specs.LineChanges.{line_change_spans}
+use Rattle.mk_edit_language.specs.SwitchedLines.{switch_spans}
 use Rattle.mk_edit_language.specs.EachLine.{marked, each_change, marked_spans}
-use Rattle.mk_edit_language.specs.WordPieces.{add_pieces, remove_pieces, renamed_pieces}
+use Rattle.mk_edit_language.specs.WordPieces.{add_pieces, remove_pieces, replace_pieces, renamed_pieces}
 
 -- the span of whole lines with their line ends
 abbrev pub removed_span : Stretch → List Replacement
@@ -37,6 +38,7 @@ header_spans f at k = []
 abbrev pub prereq_pieces : PrereqChange → Headers.Header Cell → List Piece
 prereq_pieces (AddPrereq order w) h = add_pieces order w h
 prereq_pieces (RemovePrereq w) h = remove_pieces w h
+prereq_pieces (ReplacePrereq o n) h = replace_pieces o n h
 
 abbrev pub word_spans : (Headers.Header Cell → List Piece) → StandingLine → List Replacement
 word_spans f s = header_spans f (length (text_of s.above)) s.line.class
@@ -70,7 +72,7 @@ where_found f (Some x) = f x
 -- the spans of an edit that no cause refuses
 abbrev pub spans_of : (text : List ℕ) → List ClassedLine → Edit → List Replacement
 spans_of t ls (ChangeValue (One nth) n c) =
-    where_found (value_spans (change_spans c)) (found ls (Variable nth n))
+    where_found (value_spans (change_spans c)) (found ls (value_address nth n c))
 spans_of t ls (ChangeValue Every n c) = spans_in_lines (changed_line_spans n c) 0 ls
 spans_of t ls (ChangeLine nth n c) =
     where_found (value_spans (line_change_spans c)) (found ls (Variable nth n))
@@ -78,6 +80,8 @@ spans_of t ls (ChangePrereqs nth g c) =
     where_found (word_spans (prereq_pieces c)) (found ls (Rule nth g))
 spans_of t ls (SetRecipe nth g w c) = where_found (recipe_span c) (recipe_found ls nth g w)
 spans_of t ls (RemoveLines r) = where_found removed_span (removed ls r)
+spans_of t ls (SwitchLine w nth n) =
+    where_found (switch_spans w) (found ls (switch_address w nth n))
 spans_of t ls (RenameTarget o n) = renamed_spans o n 0 ls
 spans_of t ls (ExchangeLines s ts) = where_found (exchange_span t ts) (site_found ls s)
 spans_of t ls (EachLine e) = marked_spans (each_change e) 0 (marked e ls)

@@ -18,18 +18,21 @@ use Rattle.mk_edit_language.specs.declared.edit.Edit.TheVariants as edit
 
 -- a place; its text is seen as bytes
 abbrev pub place_of : {A : _} → Place A → edits.Place
+place_of place.Top = edits.Top
 place_of place.Bottom = edits.Bottom
 place_of (place.BeforeVar nth name) = edits.BeforeVar nth name.items
 place_of (place.AfterVar nth name) = edits.AfterVar nth name.items
+place_of (place.AfterLastVar name) = edits.AfterLastVar name.items
 place_of (place.BeforeRule nth target) = edits.BeforeRule nth target.items
+place_of (place.AfterRule nth target) = edits.AfterRule nth target.items
 
 -- a site; a block in it is seen as its lines
 abbrev pub site_of : {A : _} → Site A → edits.Site
-site_of site.Top = edits.Top
 site_of (site.AtPlace p) = edits.AtPlace (place_of p)
 site_of (site.BeforeLines nth old) = edits.BeforeRun nth (block_lines old.items)
 site_of (site.AfterLines nth old) = edits.AfterRun nth (block_lines old.items)
 site_of (site.OfLines nth old) = edits.OfRun nth (block_lines old.items)
+site_of (site.OfRule nth target) = edits.OfRuleRun nth target.items
 
 -- the lines of a block, if there is one
 abbrev pub lines_of : {A : _} → Option (Vec ℕ A) → List (List ℕ)
@@ -39,6 +42,7 @@ lines_of (Some block) = block_lines block.items
 -- a change of values; its text is seen as bytes
 abbrev pub value_change_of : {A : _} → ValueChange A → edits.ValueChange
 value_change_of (change.Set value) = edits.Set value.items
+value_change_of (change.SetIf old value) = edits.SetIf old.items value.items
 value_change_of (change.Append value) = edits.Append value.items
 value_change_of (change.Add word) = edits.Add word.items
 value_change_of (change.Remove word) = edits.Remove word.items
@@ -63,6 +67,8 @@ each_edit_of (each.SubstRecipes from to) = edits.SubstRecipes from.items to.item
 abbrev pub edit_of : {A : _} → Edit A → edits.Edit
 edit_of (edit.SetValue nth name value) =
     edits.ChangeValue (edits.One nth) name.items (edits.Set value.items)
+edit_of (edit.SetValueIf nth name old value) =
+    edits.ChangeValue (edits.One nth) name.items (edits.SetIf old.items value.items)
 edit_of (edit.AppendValue nth name value) =
     edits.ChangeValue (edits.One nth) name.items (edits.Append value.items)
 edit_of (edit.AddWord nth name word) =
@@ -75,6 +81,8 @@ edit_of (edit.ChangeLine nth name c) = edits.ChangeLine nth name.items (line_cha
 edit_of (edit.AddAssign p name flavor value) =
     edits.AddLine (place_of p) (edits.NewAssign name.items flavor value.items)
 edit_of (edit.RemoveAssign nth name) = edits.RemoveLines (edits.OfAssign nth name.items)
+edit_of (edit.CommentOut nth name) = edits.SwitchLine edits.CommentOut nth name.items
+edit_of (edit.Uncomment nth name) = edits.SwitchLine edits.Uncomment nth name.items
 edit_of (edit.AddRule p targets separator prereqs) =
     edits.AddLine (place_of p) (edits.NewRule targets.items separator prereqs.items)
 edit_of (edit.RemoveRule nth target) = edits.RemoveLines (edits.OfRule nth target.items)
@@ -82,6 +90,8 @@ edit_of (edit.AddPrereq order nth target word) =
     edits.ChangePrereqs nth target.items (edits.AddPrereq order word.items)
 edit_of (edit.RemovePrereq nth target word) =
     edits.ChangePrereqs nth target.items (edits.RemovePrereq word.items)
+edit_of (edit.ReplacePrereq nth target old new) =
+    edits.ChangePrereqs nth target.items (edits.ReplacePrereq old.items new.items)
 edit_of (edit.AddRecipe nth target line) =
     edits.AddRecipe nth target.items edits.Last line.items
 edit_of (edit.SetRecipe nth target number line) =

@@ -5,24 +5,28 @@ use Rattle.mk_class.specs.declared.assignment.Flavor.{Flavor}
 use Rattle.mk_edit_language.specs.declared.edit.RuleSeparator.{RuleSeparator}
 use Rattle.mk_edit_language.specs.declared.edit.Side.{Side}
 
--- Where a new line goes: to the end of the text, to the start or the end of an assignment's line,
--- or to the start of a rule's line. A place with an address has the number of the line, from 1,
--- among the lines of the same name or target.
+-- Where a new line goes: to the start or the end of the text, to the start or the end of an
+-- assignment's line, to the end of the last assignment of a name, to the start of a rule's line, or to
+-- the end of a rule's recipe. `nth` is the number of the line, from 1, among the lines of the same name
+-- or target.
 pub data Place : Type 0 where
+  Top : Place
   Bottom : Place
   BeforeVar : (nth : Option ℕ) → (name : List ℕ) → Place
   AfterVar : (nth : Option ℕ) → (name : List ℕ) → Place
+  AfterLastVar : (name : List ℕ) → Place
   BeforeRule : (nth : Option ℕ) → (target : List ℕ) → Place
+  AfterRule : (nth : Option ℕ) → (target : List ℕ) → Place
 
--- Where new lines go: to the start of the text, to a place of a new line, to the start or the end of
--- a run, which is lines that say what a block says; or in the place of a run. A block is here the
--- list of its lines, and `nth` is the number of the run, from 1.
+-- Where new lines go: to a place of a new line, to the start or the end of a run, which is lines that
+-- say what a block says; or in the place of a run, or of the run of a rule. A block is here the list of
+-- its lines, and `nth` is the number of the run, from 1, or that of the rule.
 pub data Site : Type 0 where
-  Top : Site
   AtPlace : Place → Site
   BeforeRun : (nth : Option ℕ) → (old : List (List ℕ)) → Site
   AfterRun : (nth : Option ℕ) → (old : List (List ℕ)) → Site
   OfRun : (nth : Option ℕ) → (old : List (List ℕ)) → Site
+  OfRuleRun : (nth : Option ℕ) → (target : List ℕ) → Site
 
 -- A new line that goes to a place. The targets of a rule are one text, which is cut into words, and
 -- so are its prerequisites.
@@ -35,10 +39,12 @@ pub data Which : Type 0 where
   One : (nth : Option ℕ) → Which
   Every : Which
 
--- What an edit does to a value: it puts another in its place, puts a text after it, puts a word
--- after it that is none of its words, or takes one of its words out.
+-- What an edit does to a value: it puts another in its place, or in the place of a value that is this
+-- one, puts a text after it, puts a word after it that is none of its words, or takes one of its words
+-- out.
 pub data ValueChange : Type 0 where
   Set : (value : List ℕ) → ValueChange
+  SetIf : (old value : List ℕ) → ValueChange
   Append : (value : List ℕ) → ValueChange
   Add : (word : List ℕ) → ValueChange
   Remove : (word : List ℕ) → ValueChange
@@ -65,10 +71,17 @@ pub data EachEdit : Type 0 where
   SubstRecipes : (from to : List ℕ) → EachEdit
 
 -- What an edit does to the prerequisites of a rule: it puts a word after the order-only or the normal
--- ones, or takes a word out of both.
+-- ones, takes a word out of both, or puts a new one in its place in both.
 pub data PrereqChange : Type 0 where
   AddPrereq : (order : Bool) → (word : List ℕ) → PrereqChange
   RemovePrereq : (word : List ℕ) → PrereqChange
+  ReplacePrereq : (old new : List ℕ) → PrereqChange
+
+-- what an edit does with the `#` of a comment: it puts one before the line of an assignment, or takes
+-- it from a comment that says an assignment
+pub data Switch : Type 0 where
+  CommentOut : Switch
+  Uncomment : Switch
 
 -- which recipe line of a rule: the one of this number, from 1, or the only one of this text
 pub data RecipeLine : Type 0 where
@@ -97,6 +110,7 @@ pub data Edit : Type 0 where
   AddRecipe : (nth : Option ℕ) → (target : List ℕ) → (place : RecipePlace) → (line : List ℕ) → Edit
   SetRecipe : (nth : Option ℕ) → (target : List ℕ) → (which : RecipeLine) → (line : List ℕ) → Edit
   RemoveLines : (lines : Removal) → Edit
+  SwitchLine : (switch : Switch) → (nth : Option ℕ) → (name : List ℕ) → Edit
   RenameTarget : (old new : List ℕ) → Edit
   ExchangeLines : (site : Site) → (new : List (List ℕ)) → Edit
   EachLine : (edit : EachEdit) → Edit

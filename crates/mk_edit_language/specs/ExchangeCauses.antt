@@ -12,16 +12,19 @@ use Rattle.mk_class.specs.Contexts.{Context, max_conditionals}
 use Rattle.mk_class.specs.ClassedLines.{ClassedLine, context_after_lines}
 use Rattle.mk_tree.specs.Documents.{context_of, most_conditionals}
 use Rattle.mk_tree.specs.Leaning.{leans}
-use Rattle.mk_edit_language.specs.Edits.{Site, AtPlace, OfRun, ExchangeLines}
+use Rattle.mk_edit_language.specs.Edits.{Site, AtPlace, OfRun, OfRuleRun, ExchangeLines}
 use Rattle.mk_edit_language.specs.Spots.{nth_of}
+use Rattle.mk_edit_language.specs.Addresses.{Rule, found}
 use Rattle.mk_edit_language.specs.Stretches.{Stretch}
 use Rattle.mk_edit_language.specs.LineRuns.{runs, is_in_run, site_number, site_stretches, before_runs}
 use Rattle.mk_edit_language.specs.LineExchanges.{new_lines}
+use Rattle.mk_edit_language.specs.RuleRuns.{has_no_run}
+use Rattle.mk_edit_language.specs.RuleCauses.{class_meant, targets_found, shared_by, straddles_at}
 use Rattle.mk_edit_language.specs.EditSpans.{spans_of}
 use Rattle.mk_edit_language.specs.Causes.{where_holds}
 use Rattle.mk_edit_language.specs.LineCauses.{follows_open_line, open_define_at, too_long}
 use Rattle.mk_edit_language.specs.declared.refusal.Refusal.{Refusal}
-use Rattle.mk_edit_language.specs.declared.refusal.Refusal.TheVariants.{NoSuch, Ambiguous, Already, OpenLine, Leans, Misread}
+use Rattle.mk_edit_language.specs.declared.refusal.Refusal.TheVariants.{NoSuch, Ambiguous, Already, Straddles, OpenLine, Leans, Misread}
 
 -- ---- causes, each by itself
 
@@ -46,11 +49,22 @@ is_exchanged ls (OfRun nth o) ts =
     not (list_any (λ r. not (is_in_run ts ls r)) (left_by_number nth (runs o ls)))
 is_exchanged ls s ts = false
 
--- whether the site of new lines, which is no run, lies in a run for them or at its end
+-- whether the site of new lines, which is no run for a block, lies in a run for them or at its end
 abbrev is_inserted : List ClassedLine → Site → (new : List (List ℕ)) → Option Stretch → Bool
 is_inserted ls (OfRun nth o) ts found = false
 is_inserted ls s ts None = false
 is_inserted ls s ts (Some r) = is_in_run ts ls r
+
+-- the rule whose run is meant has several targets
+abbrev pub shared_at_site : List ClassedLine → Site → Option Refusal
+shared_at_site ls (OfRuleRun nth t) = shared_by (targets_found (class_meant ls (Rule nth t)))
+shared_at_site ls s = None
+
+-- the rule whose run is meant has none, or a rule is split after which new lines go
+abbrev pub straddles_at_site : List ClassedLine → Site → Option Refusal
+straddles_at_site ls (OfRuleRun nth t) = where_holds (has_no_run (found ls (Rule nth t))) Straddles
+straddles_at_site ls (AtPlace p) = straddles_at ls p
+straddles_at_site ls s = None
 
 abbrev open_define_at_site : List ClassedLine → Site → Option Refusal
 open_define_at_site ls (AtPlace p) = open_define_at ls p
@@ -101,6 +115,8 @@ exchange_causes t ls s ts found =
     ∷ where_holds (is_exchanged ls s ts) Already
     ∷ where_holds (has_several_stretches (site_number s) (site_stretches ls s))
     (Ambiguous (length (site_stretches ls s)))
+    ∷ shared_at_site ls s
+    ∷ straddles_at_site ls s
     ∷ where_holds (is_inserted ls s ts found) Already
     ∷ where_holds (follows_open_line found) OpenLine
     ∷ open_define_at_site ls s

@@ -5,8 +5,10 @@ pub mod EditViews
 pub mod CommandViews
 pub mod Numbered
 pub mod Spots
+pub mod Comments
 pub mod Addresses
 pub mod Stretches
+pub mod RuleRuns
 pub mod LineRuns
 -- Spans
 pub mod NewLines
@@ -15,6 +17,7 @@ pub mod Lengths
 pub mod WordPieces
 pub mod ValueChanges
 pub mod LineChanges
+pub mod SwitchedLines
 pub mod EachLine
 pub mod EditSpans
 pub mod RisingSpans
@@ -35,6 +38,7 @@ pub mod KeptLines
 pub mod LinesInPlace
 pub mod LinesExchanged
 pub mod RuleTaken
+pub mod RuleRunTaken
 -- Statements of laws
 pub mod EditLaws
 pub mod LineLaws

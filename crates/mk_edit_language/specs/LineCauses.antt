@@ -20,14 +20,15 @@ use Rattle.mk_class.specs.Contexts.{Context, start, context_after}
 use Rattle.mk_class.specs.ClassedLines.{ClassedLine}
 use Rattle.mk_class.specs.declared.context.RuleFlag.{RuleFlag}
 use Rattle.mk_class.specs.declared.context.RuleFlag.TheVariants.{Off, Rule}
-use Rattle.mk_edit_language.specs.Edits.{Place, Bottom, NewAssign, Which, One, Every, ValueChange, Set, Append, Add, Remove, LineChange, Edit, ChangeValue, ChangeLine, AddLine, EachLine}
-use Rattle.mk_edit_language.specs.Addresses.{Variable, found}
+use Rattle.mk_edit_language.specs.Edits.{Place, Bottom, NewAssign, Which, One, Every, ValueChange, Set, SetIf, Append, Add, Remove, LineChange, Switch, Edit, ChangeValue, ChangeLine, AddLine, SwitchLine, EachLine}
+use Rattle.mk_edit_language.specs.Addresses.{Variable, value_address, switch_address, found}
 use Rattle.mk_edit_language.specs.Stretches.{Stretch, insertion, removal}
 use Rattle.mk_tree.specs.Documents.{context_of}
 use Rattle.mk_tree.specs.Leaning.{leans}
 use Rattle.mk_tree.specs.LineTexts.{StandingLine}
 use Rattle.mk_edit_language.specs.ValueChanges.{assignment_passes, is_changed}
 use Rattle.mk_edit_language.specs.LineChanges.{is_misread}
+use Rattle.mk_edit_language.specs.SwitchedLines.{is_switch_misread, leans_on_assignment}
 use Rattle.mk_edit_language.specs.EachLine.{EachChange, MarkedLine, marked, each_change, is_each_changed, is_change_misread}
 use Rattle.mk_edit_language.specs.RuleCauses.{class_meant}
 use Rattle.mk_edit_language.specs.Causes.{where_holds}
@@ -59,13 +60,14 @@ bares_end w a = bares_end_among w (word_texts joined_byte a.value)
 -- whether a change would be refused for the value of an assignment that is found
 abbrev pub is_open_to : ValueChange → Option (Class Cell) → Bool
 is_open_to (Set v) k = false
+is_open_to (SetIf o v) k = false
 is_open_to (Append v) k = has_open_value k
 is_open_to (Add w) k = has_open_value k || assignment_passes ends_in_fold k
 is_open_to (Remove w) k = has_open_value k || assignment_passes (bares_end w) k
 
 -- whether a change would be refused for a value of the name that is meant, and that it changes
 abbrev is_any_open : List ClassedLine → Which → (name : List ℕ) → ValueChange → Bool
-is_any_open ls (One nth) n c = is_open_to c (class_meant ls (Variable nth n))
+is_any_open ls (One nth) n c = is_open_to c (class_meant ls (value_address nth n c))
 is_any_open ls Every n c = list_any (λ l. is_changed n c l && is_open_to c (Some l.class)) ls
 
 abbrev pub open_value : List ClassedLine → Edit → Option Refusal
@@ -114,8 +116,20 @@ removal_leans (Some s) =
     leans (context_of s.above).prefix (context_of s.above).flag
     (context_of (s.above ++ s.lines)).flag s.below
 
+-- whether the lines below a line that becomes a comment, or that was one, lean on two flags: the flag
+-- with an assignment there, and the flag without; a comment that would be misread is refused for that
+abbrev pub switch_leans : Switch → (name : List ℕ) → Option StandingLine → Bool
+switch_leans w n None = false
+switch_leans w n (Some s) = not (is_switch_misread w n s) && leans_on_assignment s
+
+abbrev pub switched_leans : List ClassedLine → Edit → Bool
+switched_leans ls (SwitchLine w nth n) = switch_leans w n (found ls (switch_address w nth n))
+switched_leans ls e = false
+
 abbrev pub leaning : List ClassedLine → Edit → Option Refusal
-leaning ls e = where_holds (new_line_leans e (insertion ls e) || removal_leans (removal ls e)) Leans
+leaning ls e =
+    where_holds
+    (switched_leans ls e || (new_line_leans e (insertion ls e) || removal_leans (removal ls e))) Leans
 
 -- ---- TooLong: the result has more than 16,777,216 bytes
 
@@ -136,9 +150,16 @@ is_any_misread c context (m ∷ ms) =
     (is_each_changed c m && is_change_misread c context m.line)
     || is_any_misread c (context_after context m.line.class) ms
 
+-- whether the line that was a comment would be misread
+abbrev pub is_found_switch_misread : Switch → (name : List ℕ) → Option StandingLine → Bool
+is_found_switch_misread w n None = false
+is_found_switch_misread w n (Some s) = is_switch_misread w n s
+
 abbrev pub misread : List ClassedLine → Edit → Option Refusal
 misread ls (ChangeLine nth n c) =
     where_holds (is_found_misread c (found ls (Variable nth n))) Misread
+misread ls (SwitchLine w nth n) =
+    where_holds (is_found_switch_misread w n (found ls (switch_address w nth n))) Misread
 misread ls (EachLine e) =
     where_holds (is_any_misread (each_change e) start (marked e ls)) Misread
 misread ls e = None

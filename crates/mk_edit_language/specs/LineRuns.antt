@@ -10,10 +10,12 @@ use Rattle.mk_lines.specs.LogicalLines.{ends_with_odd_run}
 use Rattle.mk_class.specs.ListTests.{is_empty, last_passes}
 use Rattle.mk_class.specs.Arguments.{is_clean}
 use Rattle.mk_class.specs.ClassedLines.{ClassedLine}
-use Rattle.mk_edit_language.specs.Edits.{Place, Bottom, BeforeVar, AfterVar, BeforeRule, Site, Top, AtPlace, BeforeRun, AfterRun, OfRun}
+use Rattle.mk_edit_language.specs.Edits.{Place, Top, Bottom, BeforeVar, AfterVar, AfterLastVar, BeforeRule, AfterRule, Site, AtPlace, BeforeRun, AfterRun, OfRun, OfRuleRun}
 use Rattle.mk_edit_language.specs.Spots.{picked}
-use Rattle.mk_edit_language.specs.Addresses.{Address, Variable, Rule, candidates, nth_meant, place_address}
-use Rattle.mk_edit_language.specs.Stretches.{Stretch, before_line, after_line, bottom}
+use Rattle.mk_edit_language.specs.Addresses.{Address, Variable, LastVariable, Rule, candidates, nth_meant, place_address}
+use Rattle.mk_edit_language.specs.Stretches.{Stretch, before_line, after_line, after_rule, top, bottom}
+pub use Rattle.mk_edit_language.specs.Stretches.{led_by, lower}
+use Rattle.mk_edit_language.specs.RuleRuns.{run_or_header}
 
 -- ---- blocks
 
@@ -47,13 +49,6 @@ after_texts [] b = Some b
 after_texts (t ∷ ts) [] = None
 after_texts (t ∷ ts) (x ∷ b) = if bytes_eq t x then after_texts ts b else None
 
--- a stretch with one more line at its front, and with one more line above it
-abbrev pub led_by : ClassedLine → Stretch → Stretch
-led_by l s = record s { lines = l ∷ s.lines }
-
-abbrev pub lower : ClassedLine → Stretch → Stretch
-lower l s = record s { above = l ∷ s.above }
-
 -- the run for a block that begins with the first of these lines, if they begin with one: lines that
 -- say together what the block says
 abbrev pub run_in_front : (block : List (List ℕ)) → List ClassedLine → Option Stretch
@@ -85,10 +80,6 @@ is_in_run b ls s = list_any (λ r. is_within r s) (runs b ls)
 
 -- ---- sites
 
--- the empty stretch at the start of the text
-abbrev top : List ClassedLine → Stretch
-top ls = record { above = []; lines = []; below = ls }
-
 -- the empty stretches at the start and at the end of a run
 abbrev pub before_run : Stretch → Stretch
 before_run r = record { above = r.above; lines = []; below = r.lines ++ r.below }
@@ -99,30 +90,34 @@ after_run r = record { above = r.above ++ r.lines; lines = []; below = r.below }
 -- the address in a site
 abbrev pub site_address : Site → Option Address
 site_address (AtPlace p) = place_address p
+site_address (OfRuleRun nth t) = Some (Rule nth t)
 site_address s = None
 
 -- the number in a site
 abbrev pub site_number : Site → Option ℕ
-site_number Top = None
 site_number (AtPlace p) = option_and_then nth_meant (place_address p)
 site_number (BeforeRun nth o) = nth
 site_number (AfterRun nth o) = nth
 site_number (OfRun nth o) = nth
+site_number (OfRuleRun nth t) = nth
 
 -- the stretches that a place may mean
 abbrev pub place_stretches : List ClassedLine → Place → List Stretch
+place_stretches ls Top = top ls ∷ []
 place_stretches ls Bottom = bottom ls ∷ []
 place_stretches ls (BeforeVar nth n) = map before_line (candidates ls (Variable nth n))
 place_stretches ls (AfterVar nth n) = map after_line (candidates ls (Variable nth n))
+place_stretches ls (AfterLastVar n) = map after_line (candidates ls (LastVariable n))
 place_stretches ls (BeforeRule nth t) = map before_line (candidates ls (Rule nth t))
+place_stretches ls (AfterRule nth t) = map after_rule (candidates ls (Rule nth t))
 
 -- the stretches that a site may mean
 abbrev pub site_stretches : List ClassedLine → Site → List Stretch
-site_stretches ls Top = top ls ∷ []
 site_stretches ls (AtPlace p) = place_stretches ls p
 site_stretches ls (BeforeRun nth o) = map before_run (runs o ls)
 site_stretches ls (AfterRun nth o) = map after_run (runs o ls)
 site_stretches ls (OfRun nth o) = runs o ls
+site_stretches ls (OfRuleRun nth t) = map run_or_header (candidates ls (Rule nth t))
 
 -- the stretch that a site means: the lines that go, between those that stay
 abbrev pub site_found : List ClassedLine → Site → Option Stretch

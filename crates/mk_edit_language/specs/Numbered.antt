@@ -1,22 +1,26 @@
 -- An edit of the line that has a number, in place of the only one.
 -- Told in docs/LIBRARY.md, "Making edits".
 use Rattle.std.specs.Prelude.{ℕ, Some}
-use Rattle.mk_edit_language.specs.Edits.{Place, Bottom, BeforeVar, AfterVar, BeforeRule, Site, Top, AtPlace, BeforeRun, AfterRun, OfRun, One, Every, Removal, OfAssign, OfRule, OfRecipe, Edit, ChangeValue, ChangeLine, ChangePrereqs, AddLine, AddRecipe, SetRecipe, RemoveLines, RenameTarget, ExchangeLines, EachEdit, ChangeEach, SubstValues, SubstRecipe, SubstRecipes, EachLine}
+use Rattle.mk_edit_language.specs.Edits.{Place, Top, Bottom, BeforeVar, AfterVar, AfterLastVar, BeforeRule, AfterRule, Site, AtPlace, BeforeRun, AfterRun, OfRun, OfRuleRun, One, Every, Removal, OfAssign, OfRule, OfRecipe, Edit, ChangeValue, ChangeLine, ChangePrereqs, AddLine, AddRecipe, SetRecipe, RemoveLines, RenameTarget, ExchangeLines, EachEdit, ChangeEach, SubstValues, SubstRecipe, SubstRecipes, EachLine, SwitchLine}
 
--- a place with this number; the end of the text has none
+-- a place with this number; the start and the end of the text have none, and the last assignment of
+-- a name has none
 abbrev pub numbered_place : (number : ℕ) → Place → Place
+numbered_place k Top = Top
 numbered_place k Bottom = Bottom
 numbered_place k (BeforeVar nth name) = BeforeVar (Some k) name
 numbered_place k (AfterVar nth name) = AfterVar (Some k) name
+numbered_place k (AfterLastVar name) = AfterLastVar name
 numbered_place k (BeforeRule nth target) = BeforeRule (Some k) target
+numbered_place k (AfterRule nth target) = AfterRule (Some k) target
 
--- a site with this number, which is that of its run or of its place; the start of the text has none
+-- a site with this number, which is that of its run, of its rule or of its place
 abbrev pub numbered_site : (number : ℕ) → Site → Site
-numbered_site k Top = Top
 numbered_site k (AtPlace p) = AtPlace (numbered_place k p)
 numbered_site k (BeforeRun nth old) = BeforeRun (Some k) old
 numbered_site k (AfterRun nth old) = AfterRun (Some k) old
 numbered_site k (OfRun nth old) = OfRun (Some k) old
+numbered_site k (OfRuleRun nth target) = OfRuleRun (Some k) target
 
 -- a removal with this number
 abbrev numbered_removal : (number : ℕ) → Removal → Removal
@@ -42,6 +46,7 @@ numbered k (AddLine p l) = AddLine (numbered_place k p) l
 numbered k (AddRecipe nth g p l) = AddRecipe (Some k) g p l
 numbered k (SetRecipe nth g w l) = SetRecipe (Some k) g w l
 numbered k (RemoveLines r) = RemoveLines (numbered_removal k r)
+numbered k (SwitchLine w nth n) = SwitchLine w (Some k) n
 numbered k (RenameTarget o n) = RenameTarget o n
 numbered k (ExchangeLines s ts) = ExchangeLines (numbered_site k s) ts
 numbered k (EachLine e) = EachLine (numbered_each k e)

@@ -7,7 +7,7 @@ use Rattle.mk_edit_language.specs.Edits.{Edit, ExchangeLines}
 use Rattle.mk_edit_language.specs.LineRuns.{site_found}
 use Rattle.mk_edit_language.specs.EditSpans.{spans_of}
 use Rattle.mk_edit_language.specs.ArgumentCauses.{bad_argument, reserved}
-use Rattle.mk_edit_language.specs.AddressCauses.{unread_prefix, no_such, ambiguous, prefix_led}
+use Rattle.mk_edit_language.specs.AddressCauses.{unread_prefix, no_such, ambiguous, misplaced}
 use Rattle.mk_edit_language.specs.RuleCauses.{absent, already, taken, shared_rule, straddles}
 use Rattle.mk_edit_language.specs.LineCauses.{open_value, open_line, open_define, leaning, too_long, misread}
 use Rattle.mk_edit_language.specs.ExchangeCauses.{exchange_causes}
@@ -34,7 +34,7 @@ causes t ls e =
     ∷ unread_prefix ls
     ∷ no_such ls e
     ∷ ambiguous ls e
-    ∷ prefix_led ls e
+    ∷ misplaced ls e
     ∷ absent ls e
     ∷ already ls e
     ∷ taken ls e

@@ -13,8 +13,8 @@ use Rattle.mk_class.specs.Classes.Class.{Assign, Header}
 use Rattle.mk_class.specs.ClassedLines.{ClassedLine}
 use Rattle.mk_tree.specs.RecipeLines.{recipe_run}
 use Rattle.mk_tree.specs.LineTexts.{StandingLine}
-use Rattle.mk_edit_language.specs.Edits.{Which, One, Every, ValueChange, Add, Remove, LineChange, InsertWord, PrereqChange, AddPrereq, RemovePrereq, RecipeLine, ByNumber, ByText, At, OfRule, OfRecipe, Edit, ChangeValue, ChangeLine, ChangePrereqs, AddRecipe, SetRecipe, RemoveLines, RenameTarget, EachLine}
-use Rattle.mk_edit_language.specs.Addresses.{Address, Variable, Rule, found, targets_of, is_a_target}
+use Rattle.mk_edit_language.specs.Edits.{Place, AfterRule, Which, One, Every, ValueChange, Add, Remove, LineChange, InsertWord, PrereqChange, AddPrereq, RemovePrereq, RecipeLine, ByNumber, ByText, At, OfRule, OfRecipe, Edit, ChangeValue, ChangeLine, ChangePrereqs, AddRecipe, SetRecipe, RemoveLines, RenameTarget, EachLine, SetIf, ReplacePrereq}
+use Rattle.mk_edit_language.specs.Addresses.{Address, Variable, Rule, found, targets_of, is_a_target, value_address}
 use Rattle.mk_edit_language.specs.Stretches.{has_text, recipe_found, recipes_found, recipe_place}
 use Rattle.mk_edit_language.specs.ValueChanges.{assignment_passes, has_effect, has_value_word, is_changed}
 use Rattle.mk_edit_language.specs.LineChanges.{is_line_changed}
@@ -43,7 +43,7 @@ header_passes p k = false
 
 -- whether the change does something to a value of the name that is meant
 abbrev is_any_changed : List ClassedLine → Which → (name : List ℕ) → ValueChange → Bool
-is_any_changed ls (One nth) n c = has_effect c (class_meant ls (Variable nth n))
+is_any_changed ls (One nth) n c = has_effect c (class_meant ls (value_address nth n c))
 is_any_changed ls Every n c = list_any (is_changed n c) ls
 
 -- whether a word is among the normal prerequisites of a header, and among the order-only ones
@@ -53,12 +53,17 @@ is_normal w h = is_one_of w (word_texts joined_byte h.normal)
 abbrev pub is_order_only : List ℕ → Headers.Header Cell → Bool
 is_order_only w h = is_one_of w (word_texts joined_byte h.order_only)
 
+-- whether a word is a prerequisite of either kind
+abbrev pub is_prereq : List ℕ → Headers.Header Cell → Bool
+is_prereq w h = is_normal w h || is_order_only w h
+
 -- whether the word of a change is among the prerequisites of a header to which it is added, or among
--- those from which it is taken
+-- those from which it goes
 abbrev pub has_prereq : PrereqChange → Headers.Header Cell → Bool
 has_prereq (AddPrereq true w) h = is_order_only w h
 has_prereq (AddPrereq false w) h = is_normal w h
-has_prereq (RemovePrereq w) h = is_normal w h || is_order_only w h
+has_prereq (RemovePrereq w) h = is_prereq w h
+has_prereq (ReplacePrereq o n) h = is_prereq o h
 
 -- the recipe lines of a rule that have this text
 abbrev pub recipes_of_text : List ClassedLine → (nth : Option ℕ) → (target old : List ℕ)
@@ -79,12 +84,17 @@ no_recipe ls nth t (ByNumber k) =
 no_recipe ls nth t (ByText o) = not_one (recipes_of_text ls nth t o)
 
 abbrev pub absent : List ClassedLine → Edit → Option Refusal
+absent ls (ChangeValue w n (SetIf o v)) =
+    where_holds (not (is_any_changed ls w n (SetIf o v))) Absent
 absent ls (ChangeValue w n (Remove x)) =
     where_holds (not (is_any_changed ls w n (Remove x))) Absent
 absent ls (ChangeLine nth n c) =
     where_holds (not (assignment_passes (is_line_changed c) (class_meant ls (Variable nth n)))) Absent
 absent ls (ChangePrereqs nth t (RemovePrereq w)) =
     where_holds (not (header_passes (has_prereq (RemovePrereq w)) (class_meant ls (Rule nth t))))
+    Absent
+absent ls (ChangePrereqs nth t (ReplacePrereq o n)) =
+    where_holds (not (header_passes (has_prereq (ReplacePrereq o n)) (class_meant ls (Rule nth t))))
     Absent
 absent ls (AddRecipe nth t (At k) c) =
     where_holds (not (is_some (recipe_place ls nth t (At k)))) Absent
@@ -118,6 +128,8 @@ already ls (ChangeLine nth n c) = not_inserted c (class_meant ls (Variable nth n
 already ls (ChangePrereqs nth t (AddPrereq order w)) =
     where_holds (header_passes (has_prereq (AddPrereq order w)) (class_meant ls (Rule nth t)))
     Already
+already ls (ChangePrereqs nth t (ReplacePrereq o n)) =
+    where_holds (header_passes (is_prereq n) (class_meant ls (Rule nth t))) Already
 already ls e = None
 
 -- ---- Taken: the new name is a target
@@ -142,12 +154,18 @@ shared_rule ls (RemoveLines (OfRule nth t)) =
     shared_by (targets_found (class_meant ls (Rule nth t)))
 shared_rule ls e = None
 
--- ---- Straddles: the line of a conditional stands between a header and its last recipe line
+-- ---- Straddles: the line of a conditional stands between a header and its last recipe line; or a rule
+-- ---- that is exchanged has no run
 
 -- whether a line of a conditional stands there
 abbrev pub has_conditional : Option StandingLine → Bool
 has_conditional None = false
 has_conditional (Some h) = list_any (λ l. is_conditional l.class) (recipe_run h.below)
+
+-- of a place after a rule
+abbrev pub straddles_at : List ClassedLine → Place → Option Refusal
+straddles_at ls (AfterRule nth t) = where_holds (has_conditional (found ls (Rule nth t))) Straddles
+straddles_at ls p = None
 
 abbrev pub straddles : List ClassedLine → Edit → Option Refusal
 straddles ls (RemoveLines (OfRule nth t)) =

@@ -19,6 +19,12 @@ spots test [] = []
 spots test (l ∷ ls) =
     spot_if (test l) (record { above = []; line = l; below = ls }) (map (under l) (spots test ls))
 
+-- the last of a list, alone; nothing of an empty one
+abbrev pub only_last : {A : Type 0} → List A → List A
+only_last [] = []
+only_last (x ∷ []) = x ∷ []
+only_last (x ∷ y ∷ ys) = only_last (y ∷ ys)
+
 -- the nth of a list, from 1
 abbrev pub nth_of : {A : Type 0} → ℕ → List A → Option A
 nth_of n [] = None

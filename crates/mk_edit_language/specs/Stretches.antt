@@ -7,15 +7,22 @@ use Rattle.mk_class.specs.Classes.{is_recipe}
 use Rattle.mk_class.specs.ClassedLines.{ClassedLine}
 use Rattle.mk_tree.specs.RecipeLines.{recipe_run, after_recipe, recipe_lines}
 use Rattle.mk_tree.specs.LineTexts.{StandingLine}
-use Rattle.mk_edit_language.specs.Edits.{Place, Bottom, BeforeVar, AfterVar, BeforeRule, One, Every, RecipeLine, ByNumber, ByText, RecipePlace, Last, At, Removal, OfAssign, OfRule, OfRecipe, Edit, ChangeValue, ChangeLine, ChangePrereqs, AddLine, AddRecipe, SetRecipe, RemoveLines, RenameTarget, ExchangeLines, EachLine}
+use Rattle.mk_edit_language.specs.Edits.{Place, Top, Bottom, BeforeVar, AfterVar, AfterLastVar, BeforeRule, AfterRule, One, Every, RecipeLine, ByNumber, ByText, RecipePlace, Last, At, Removal, OfAssign, OfRule, OfRecipe, Edit, ChangeValue, ChangeLine, ChangePrereqs, AddLine, AddRecipe, SetRecipe, RemoveLines, RenameTarget, ExchangeLines, EachLine, SwitchLine}
 use Rattle.mk_edit_language.specs.Spots.{spots, nth_of}
-use Rattle.mk_edit_language.specs.Addresses.{Variable, Rule, found}
+use Rattle.mk_edit_language.specs.Addresses.{Variable, LastVariable, Rule, found, value_address, switch_address}
 
 -- A stretch: some lines, or none, with the lines above and below them.
 pub record Stretch : Type 0 where
   pub above : List ClassedLine
   pub lines : List ClassedLine
   pub below : List ClassedLine
+
+-- a stretch with one more line at its front, and with one more line above it
+abbrev pub led_by : ClassedLine → Stretch → Stretch
+led_by l s = record s { lines = l ∷ s.lines }
+
+abbrev pub lower : ClassedLine → Stretch → Stretch
+lower l s = record s { above = l ∷ s.above }
 
 -- the stretch of one line
 abbrev pub this_line : StandingLine → Stretch
@@ -28,6 +35,10 @@ before_line s = record { above = s.above; lines = []; below = s.line ∷ s.below
 -- the empty stretch directly after a line
 abbrev pub after_line : StandingLine → Stretch
 after_line s = record { above = s.above ++ s.line ∷ []; lines = []; below = s.below }
+
+-- the empty stretch at the start of the text
+abbrev pub top : List ClassedLine → Stretch
+top ls = record { above = []; lines = []; below = ls }
 
 -- the empty stretch at the end of the text
 abbrev pub bottom : List ClassedLine → Stretch
@@ -92,10 +103,13 @@ recipe_place ls nth t p = option_and_then (recipe_gap p) (found ls (Rule nth t))
 
 -- the empty stretch where the new line of this place goes
 abbrev pub place_found : List ClassedLine → Place → Option Stretch
+place_found ls Top = Some (top ls)
 place_found ls Bottom = Some (bottom ls)
 place_found ls (BeforeVar nth n) = option_map before_line (found ls (Variable nth n))
 place_found ls (AfterVar nth n) = option_map after_line (found ls (Variable nth n))
+place_found ls (AfterLastVar n) = option_map after_line (found ls (LastVariable n))
 place_found ls (BeforeRule nth t) = option_map before_line (found ls (Rule nth t))
+place_found ls (AfterRule nth t) = option_map after_rule (found ls (Rule nth t))
 
 -- the empty stretch where the new line of an edit goes
 abbrev pub insertion : List ClassedLine → Edit → Option Stretch
@@ -127,12 +141,14 @@ between s = record { above = s.above; lines = []; below = s.below }
 -- The lines that an edit of one place touches: the line that it changes, or the lines that it takes
 -- out; if it puts a line in, the empty stretch at its place.
 abbrev pub touched_by : List ClassedLine → Edit → Option Stretch
-touched_by ls (ChangeValue (One nth) n c) = option_map this_line (found ls (Variable nth n))
+touched_by ls (ChangeValue (One nth) n c) = option_map this_line (found ls (value_address nth n c))
 touched_by ls (ChangeValue Every n c) = None
 touched_by ls (ChangeLine nth n c) = option_map this_line (found ls (Variable nth n))
 touched_by ls (ChangePrereqs nth t c) = option_map this_line (found ls (Rule nth t))
 touched_by ls (SetRecipe nth t w c) = option_map this_line (recipe_found ls nth t w)
 touched_by ls (RemoveLines r) = removed ls r
+touched_by ls (SwitchLine w nth n) =
+    option_map this_line (found ls (switch_address w nth n))
 touched_by ls (RenameTarget o n) = None
 touched_by ls (ExchangeLines s ts) = None
 touched_by ls (EachLine e) = None

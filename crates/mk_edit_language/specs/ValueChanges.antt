@@ -1,7 +1,7 @@
 -- What a change of a value does: the spans of the value, the words in it, and the lines that are
 -- changed.
 -- Told in docs/EDITS.md, "Variables".
-use Rattle.std.specs.Prelude.{ℕ, ◌+◌, if◌then◌else◌, List, [], ◌∷◌, length, Bool, false, not, ◌++◌, filter, Option, Some, ◌&&◌, true}
+use Rattle.std.specs.Prelude.{ℕ, ◌+◌, if◌then◌else◌, List, [], ◌∷◌, length, Bool, false, not, ◌++◌, filter, Option, Some, None, ◌&&◌, true}
 use Rattle.mk_lines.specs.Cells.{Cell, joined_byte}
 use Rattle.mk_lines.specs.Pieces.{Replacement, Piece, Keep, Replace, replacements}
 use Rattle.mk_class.specs.ListTests.{is_empty}
@@ -16,8 +16,8 @@ use Rattle.mk_lines.specs.Words.{Token, Gap, Word, tokens}
 use Rattle.mk_class.specs.Texts.{is_one_of, word_texts}
 use Rattle.mk_edit_language.specs.WordPieces.{is_word_of}
 use Rattle.mk_class.specs.ClassedLines.{ClassedLine}
-use Rattle.mk_edit_language.specs.Edits.{ValueChange, Set, Append, Add, Remove}
-use Rattle.mk_edit_language.specs.Addresses.{assigns}
+use Rattle.mk_edit_language.specs.Edits.{ValueChange, Set, SetIf, Append, Add, Remove}
+use Rattle.mk_edit_language.specs.Addresses.{assigns, has_value}
 
 -- ---- where a value stands, and the spans that change it
 
@@ -135,9 +135,12 @@ remove_word_spans t at a =
 
 -- ---- a change of a value
 
--- whether the change does something to the value of an assignment's line: a word is added where it
--- is no word of the value, and removed where it is one
+-- whether the change does something to the value of an assignment's line: a value is set in the place
+-- of one where it is that one, a word is added where it is no word of the value, and removed where it
+-- is one
 abbrev pub has_effect : ValueChange → Option (Class Cell) → Bool
+has_effect (SetIf o v) None = false
+has_effect (SetIf o v) (Some k) = has_value o k
 has_effect (Add w) k = not (assignment_passes (has_value_word w) k)
 has_effect (Remove w) k = assignment_passes (has_value_word w) k
 has_effect c k = true
@@ -153,6 +156,7 @@ is_changed n c l = is_class_changed n c l.class
 -- the spans of a value that is changed
 abbrev pub change_spans : ValueChange → (line_start : ℕ) → Assignment Cell → List Replacement
 change_spans (Set v) at a = set_value_span v at a ∷ []
+change_spans (SetIf o v) at a = set_value_span v at a ∷ []
 change_spans (Append v) at a = append_value_span v at a ∷ []
 change_spans (Add w) at a = append_value_span w at a ∷ []
 change_spans (Remove w) at a = remove_word_spans w at a

@@ -66,6 +66,11 @@ rename_pieces o n h =
     header_pieces h (renamed_words o n h.targets) (renamed_words o n h.normal)
     (renamed_words o n h.order_only)
 
+-- the pieces in which each old prerequisite becomes the new word
+abbrev pub replace_pieces : (old new : List ℕ) → Header Cell → List Piece
+replace_pieces o n h =
+    header_pieces h (kept h.targets) (renamed_words o n h.normal) (renamed_words o n h.order_only)
+
 -- the pieces in which each prerequisite that is this word goes
 abbrev pub remove_pieces : (word : List ℕ) → Header Cell → List Piece
 remove_pieces w h =

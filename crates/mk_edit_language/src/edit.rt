@@ -31,6 +31,8 @@ pub enum RuleSeparator {
 #[derive_where(Clone; A)]
 #[derive_where(Debug, PartialEq, Eq)]
 pub enum Place<A: Allocator = Global> {
+    /// The start of the file.
+    Top,
     /// The end of the file.
     Bottom,
     /// Before the line of an assignment.
@@ -47,8 +49,20 @@ pub enum Place<A: Allocator = Global> {
         /// The name of the variable.
         name: Vec<u8, A>,
     },
+    /// After the last line that assigns a variable.
+    AfterLastVar {
+        /// The name of the variable.
+        name: Vec<u8, A>,
+    },
     /// Before the line of a rule.
     BeforeRule {
+        /// Which of the rules for this target, from 1.
+        nth: Option<u32>,
+        /// One of the rule's targets.
+        target: Vec<u8, A>,
+    },
+    /// After the last recipe line of a rule, or after the line of the rule if it has no recipe line.
+    AfterRule {
         /// Which of the rules for this target, from 1.
         nth: Option<u32>,
         /// One of the rule's targets.
@@ -59,13 +73,12 @@ pub enum Place<A: Allocator = Global> {
 /// Where whole lines go, or which lines go for them.
 ///
 /// Lines are found by what they say: a run of lines says a block where its physical lines, without
-/// their line ends, are those of the block. `nth` is the number of such a run, from 1.
+/// their line ends, are those of the block. `nth` is the number of such a run, from 1. A rule is found
+/// by its target.
 #[derive(Drop)]
 #[derive_where(Clone; A)]
 #[derive_where(Debug, PartialEq, Eq)]
 pub enum Site<A: Allocator = Global> {
-    /// The start of the file.
-    Top,
     /// A place of a new line.
     AtPlace(Place<A>),
     /// Before lines.
@@ -89,6 +102,13 @@ pub enum Site<A: Allocator = Global> {
         /// What the lines say: a block.
         old: Vec<u8, A>,
     },
+    /// In the place of a rule and its recipe, which go with the conditionals in the recipe.
+    OfRule {
+        /// Which of the rules for this target, from 1.
+        nth: Option<u32>,
+        /// The rule's target.
+        target: Vec<u8, A>,
+    },
 }
 
 /// What an edit does to each value of a name.
@@ -98,6 +118,13 @@ pub enum Site<A: Allocator = Global> {
 pub enum ValueChange<A: Allocator = Global> {
     /// Gives each assignment this value, which may be empty, as [`Edit::SetValue`] does with one.
     Set(Vec<u8, A>),
+    /// Gives each assignment that has one value another, as [`Edit::SetValueIf`] does with one.
+    SetIf {
+        /// The value that an assignment has to have, which may be empty.
+        old: Vec<u8, A>,
+        /// The new value, which may be empty.
+        value: Vec<u8, A>,
+    },
     /// Puts this text, which is not empty, after each value, as [`Edit::AppendValue`] does with one.
     Append(Vec<u8, A>),
     /// Puts this word after each value that does not have it, as [`Edit::AddWord`] does with one.
@@ -217,6 +244,17 @@ pub enum Edit<A: Allocator = Global> {
         /// The new value, which may be empty.
         value: Vec<u8, A>,
     },
+    /// Gives a variable another value in the place of the one that the edit expects.
+    SetValueIf {
+        /// Which of the assignments of this name that have the old value, from 1.
+        nth: Option<u32>,
+        /// The name of the variable.
+        name: Vec<u8, A>,
+        /// The old value, which may be empty.
+        old: Vec<u8, A>,
+        /// The new value, which may be empty.
+        value: Vec<u8, A>,
+    },
     /// Puts a text after a variable's value, with a space between them if the value is not empty.
     AppendValue {
         /// Which of the assignments of this name, from 1.
@@ -282,6 +320,21 @@ pub enum Edit<A: Allocator = Global> {
         /// The name of the variable.
         name: Vec<u8, A>,
     },
+    /// Makes the line of an assignment a comment: a `#` goes before it.
+    CommentOut {
+        /// Which of the assignments of this name, from 1.
+        nth: Option<u32>,
+        /// The name of the variable.
+        name: Vec<u8, A>,
+    },
+    /// Makes a comment that says an assignment, as `# NAME = VALUE`, the line of an assignment: its first
+    /// `#` goes, with the blanks directly after it. The new line is read to check it.
+    Uncomment {
+        /// Which of the comments that say this name, from 1.
+        nth: Option<u32>,
+        /// The name of the variable.
+        name: Vec<u8, A>,
+    },
     /// Puts in the line of a rule.
     AddRule {
         /// Where the line goes.
@@ -319,6 +372,18 @@ pub enum Edit<A: Allocator = Global> {
         target: Vec<u8, A>,
         /// The prerequisite.
         word: Vec<u8, A>,
+    },
+    /// Puts a word in the place of another of the prerequisites of a rule, wherever it stands among them.
+    /// The new word is no prerequisite of the rule yet.
+    ReplacePrereq {
+        /// Which of the rules for this target, from 1.
+        nth: Option<u32>,
+        /// One of the rule's targets.
+        target: Vec<u8, A>,
+        /// The old prerequisite.
+        old: Vec<u8, A>,
+        /// The new prerequisite.
+        new: Vec<u8, A>,
     },
     /// Puts a line after the recipe of a rule.
     AddRecipe {

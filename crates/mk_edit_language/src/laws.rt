@@ -10,7 +10,7 @@ pub mod outside;
 ///
 /// | Edit | What becomes of the reading |
 /// |---|---|
-/// | a value set | the assignment has this value; where the new one is empty and a fold is left without its next line, one lone backslash |
+/// | a value set, whatever the old one or in the place of an expected one | the assignment has this value; where the new one is empty and a fold is left without its next line, one lone backslash |
 /// | a text appended | the assignment has the old value, a space and the text; no space where the old value is empty or its last byte is a fold |
 /// | a word taken out | the assignment has the old value without each such word and the blanks before it, or after it where no word stays before; where no word stays at all, what a value set to nothing gives |
 /// | every value of a name changed | each assignment of the name has what the edit of its value alone gives; where a word is added, those that have it stay as they are, and where one is taken out, those that do not |
@@ -18,12 +18,14 @@ pub mod outside;
 /// | an operator changed | the assignment has this operator |
 /// | every assignment of a name changed in one of these ways, or a text replaced in all values | each assignment in whose line a part is replaced has what the edit of its line alone gives |
 /// | a new assignment, a new rule, a new recipe line | its item comes in at its place |
-/// | an assignment or a recipe line removed | its item goes |
+/// | an assignment or a recipe line removed, or the line of an assignment made a comment | its item goes |
+/// | a comment made the line of an assignment | the item that the line has without its mark comes in at its place |
 /// | a rule removed | the items of its header and of its recipe lines go |
 /// | a recipe line changed | the item has this text |
 /// | a text replaced in recipe lines | the item of each line that has it has the text so made |
 /// | a new prerequisite | it stands last in its list of the header |
 /// | a prerequisite removed | each word that is it goes from both lists of the header |
+/// | a prerequisite replaced | the new word stands for each word that is the old one, in both lists of the header |
 /// | whole lines put in, taken out or exchanged | the items of the new lines stand in the place of those of the lines that go; each new line is read below the lines above it |
 /// | a target renamed | the new word stands for each target and each prerequisite that was the old one, in headers and target assignments |
 ///

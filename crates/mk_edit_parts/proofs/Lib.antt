@@ -1,5 +1,6 @@
 -- Lemmas by subject, which the functions of single edits and the crates above cite too
 pub mod CauseLemmas
+mod CommentLemmas
 pub mod on_finding
 pub mod on_new_lines
 pub mod on_recipes

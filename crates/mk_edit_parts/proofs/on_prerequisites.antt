@@ -2,3 +2,4 @@
 pub mod WordRangeLemmas
 pub mod RawPartLemmas
 pub mod HeaderBytes
+pub mod ReplacedPrerequisites

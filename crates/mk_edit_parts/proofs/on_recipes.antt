@@ -5,3 +5,5 @@ pub mod RunWalks
 pub mod GapLemmas
 pub mod TextWalks
 pub mod RecipesChanged
+pub mod RulePlaces
+pub mod RuleRunsWalked

@@ -9,9 +9,12 @@ use Rattle.mk_edit_language.specs.declared.refusal.Refusal.TheVariants.{BadArgum
 use Rattle.mk_edit_parts.specs.declared.address.Address.{Address}
 use Rattle.mk_edit_parts.specs.declared.address.Address.TheVariants as address
 
--- an address; its text is seen as bytes
+-- an address; its texts are seen as bytes
 abbrev pub address_view : Address → addresses.Address
 address_view (address.Variable nth name) = addresses.Variable nth name.now
+address_view (address.LastVariable name) = addresses.LastVariable name.now
+address_view (address.Valued nth name value) = addresses.Valued nth name.now value.now
+address_view (address.Commented nth name) = addresses.Commented nth name.now
 address_view (address.Rule nth target) = addresses.Rule nth target.now
 
 -- the address of an edit, if it has one

@@ -1,15 +1,15 @@
 -- Where an edit applies: the place of the line that it means, where no cause of refusal holds that
 -- comes before the edit's own causes.
 -- Told in docs/ARCHITECTURE.md, "An edit's way, from Edit to moved lines".
-use Rattle.std.specs.Prelude.{◌≡◌, List, [], ◌∷◌, length, take, Option, Some, None}
+use Rattle.std.specs.Prelude.{◌≡◌, ◌==◌, Bool, false, not, ◌&&◌, List, [], ◌∷◌, length, take, Option, Some, None}
 use Rattle.mk_class.specs.ClassedLines.{ClassedLine, classed_lines}
 use Rattle.mk_tree.specs.Documents.{context_of}
 use Rattle.mk_tree.specs.LocatedLines.{LocatedLine, located_text}
 use Rattle.mk_tree.specs.LineTexts.{StandingLine}
 use Rattle.mk_edit_language.specs.Edits.{Edit}
-use Rattle.mk_edit_language.specs.Addresses.{Address, address, found}
+use Rattle.mk_edit_language.specs.Addresses.{Address, Valued, address, candidates, found}
 use Rattle.mk_edit_language.specs.ArgumentCauses.{bad_argument, reserved}
-use Rattle.mk_edit_language.specs.AddressCauses.{unread_prefix, no_such, no_such_line, ambiguous, ambiguous_line}
+use Rattle.mk_edit_language.specs.AddressCauses.{assigns_none, unread_prefix, no_such, no_such_line, ambiguous, ambiguous_line}
 use Rattle.mk_edit_language.specs.Refusals.{first_cause}
 use Rattle.mk_edit_language.specs.KeptLines.{IsOfOnePlace}
 use Rattle.mk_edit_language.specs.declared.refusal.Refusal.{Refusal}
@@ -42,6 +42,13 @@ pub record IsPicked (ls : List ClassedLine) (a : Option Address) (f : Found) : T
 -- an address means no one line; this is the refusal
 abbrev pub IsNotPicked : List ClassedLine → Option Address → Refusal → Type 0
 IsNotPicked ls a r = first_cause (no_such_line ls a ∷ ambiguous_line ls a ∷ []) ≡ Some r
+
+-- whether the value of an address is absent: some line assigns the name, and none of these lines has
+-- the value
+abbrev pub is_absent_at : List ClassedLine → Option Address → Bool
+is_absent_at ls (Some (Valued nth n v)) =
+    (length (candidates ls (Valued nth n v)) == 0) && not (assigns_none n ls)
+is_absent_at ls a = false
 
 -- An edit of one place of which no cause holds that comes before its own causes; and the place where
 -- it applies is found.

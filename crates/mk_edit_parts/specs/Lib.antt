@@ -7,10 +7,12 @@ pub mod SeekWalks
 pub mod Candidates
 pub mod Windows
 pub mod Found
+pub mod NewPlaces
 pub mod LineRanges
 -- The recipe of a rule, and its edits
 pub mod RecipeWalks
 -- The runs for a block, and the lines that a site means
+pub mod LineRunWalks
 pub mod LineRunsFound
 pub mod SitesFound
 -- The words of a value
@@ -28,8 +30,10 @@ pub mod NewPrerequisites
 pub mod RenamedRanges
 pub mod RenamedTexts
 pub mod Glances
+-- A prerequisite replaced
+pub mod ReplacedPrerequisites
 -- # Vocabulary of private contracts
 -- The recipe lines of a text
 pub mod TextMatches
--- Walks for the runs of a block
-pub mod LineRunWalks
+-- A walk for the run of a rule
+pub mod RuleRunWalks

@@ -1,5 +1,5 @@
 -- What is sought for the line that an address means.
-use Rattle.std.specs.Prelude.{◌≡◌, ℕ, Bool, false, List, [], length, Option, Some, None, option_map, ⊤}
+use Rattle.std.specs.Prelude.{◌≡◌, ℕ, Bool, false, ◌&&◌, List, [], length, Option, Some, None, option_map, ⊤}
 use Rattle.std.specs.List.{list_any}
 use Rattle.mk_class.specs.ClassedLines.{ClassedLine, classed_lines}
 use Rattle.mk_tree.specs.Documents.{context_of}
@@ -7,9 +7,9 @@ use Rattle.mk_tree.specs.LocatedLines.{LocatedLine, located_text}
 use Rattle.mk_tree.specs.LineTexts.{StandingLine}
 use Rattle.mk_edit_language.specs.Spots.{nth_of}
 use Rattle.mk_edit_language.specs.Edits.{Edit}
-use Rattle.mk_edit_language.specs.Addresses.{Address, Variable, Rule, address, candidates, nth_meant}
+use Rattle.mk_edit_language.specs.Addresses.{Address, Variable, LastVariable, Rule, address, candidates, nth_meant, Valued, Commented}
 use Rattle.mk_edit_language.specs.AddressCauses.{is_unread_prefix}
-use Rattle.mk_edit_parts.specs.LocatedParts.{assigns_located, is_rule_for_located}
+use Rattle.mk_edit_parts.specs.LocatedParts.{assigns_located, has_value_located, says_name_located, is_rule_for_located}
 use Rattle.mk_edit_parts.specs.declared.seek.Found.{Found}
 use Rattle.mk_edit_parts.specs.declared.seek.Sought.{Sought}
 
@@ -17,6 +17,9 @@ use Rattle.mk_edit_parts.specs.declared.seek.Sought.{Sought}
 abbrev pub may_mean : Option Address → LocatedLine → Bool
 may_mean None l = false
 may_mean (Some (Variable nth n)) l = assigns_located n l
+may_mean (Some (LastVariable n)) l = assigns_located n l
+may_mean (Some (Valued nth n v)) l = assigns_located n l && has_value_located v l
+may_mean (Some (Commented nth n)) l = says_name_located n l
 may_mean (Some (Rule nth t)) l = is_rule_for_located t l
 
 -- the number that is sought, from 1; if no number is given, 1
@@ -44,6 +47,11 @@ pub record IsSought (ls : List ClassedLine) (a : Option Address) (s : Sought) : 
   pub found_is : s.found ≡ option_map standing_found (nth_of (wanted a) (candidates_of ls a))
   pub unread_is : s.has_unread_prefix ≡ list_any (λ l. is_unread_prefix l.class) ls
   pub end_is : s.end ≡ record { at = length ls; context = context_of ls }
+
+-- whether an address means a line by its number among those that it may mean, and not the last one
+abbrev pub IsNumbered : Option Address → Type 0
+IsNumbered (Some (LastVariable n)) = ⊥
+IsNumbered a = Unit {0}
 
 -- What is known of an address before a walk: nothing, or what the walk would find.
 abbrev pub IsKnownOf : Option Address → List LocatedLine → Option Sought → Type 0

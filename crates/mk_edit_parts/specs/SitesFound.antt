@@ -5,14 +5,14 @@ use Rattle.std.specs.Prelude.{◌≡◌, ◌≤◌, ◌+◌, ℕ, false, List, [
 use Rattle.mk_class.specs.ClassedLines.{ClassedLine, classed_lines}
 use Rattle.mk_tree.specs.Documents.{context_of}
 use Rattle.mk_tree.specs.LocatedLines.{LocatedLine, located_text}
-use Rattle.mk_edit_language.specs.Edits.{Site, OfRun, ExchangeLines}
+use Rattle.mk_edit_language.specs.Edits.{Site, OfRun, OfRuleRun, ExchangeLines}
 use Rattle.mk_edit_language.specs.Spots.{picked}
 use Rattle.mk_edit_language.specs.Stretches.{Stretch, IsStretchOf}
-use Rattle.mk_edit_language.specs.LineRuns.{site_found}
+use Rattle.mk_edit_language.specs.LineRuns.{site_number, site_stretches, site_found}
 use Rattle.mk_edit_language.specs.Causes.{where_holds}
 use Rattle.mk_edit_language.specs.ArgumentCauses.{bad_argument, reserved}
 use Rattle.mk_edit_language.specs.AddressCauses.{unread_prefix}
-use Rattle.mk_edit_language.specs.ExchangeCauses.{exchange_causes, has_no_stretch, has_several_stretches}
+use Rattle.mk_edit_language.specs.ExchangeCauses.{exchange_causes, has_no_stretch, has_several_stretches, straddles_at_site}
 use Rattle.mk_edit_language.specs.Refusals.{first_cause}
 use Rattle.mk_edit_language.specs.declared.refusal.Refusal.{Refusal}
 use Rattle.mk_edit_language.specs.declared.refusal.Refusal.TheVariants.{NoSuch, Ambiguous}
@@ -32,12 +32,12 @@ all_causes t s ts =
 -- the first of them, up to the one before `OpenLine`: those of the fields and of the recipe prefix,
 -- and then those of what the site means
 abbrev pub causes_of_site : (text : List ℕ) → Site → (new : List (List ℕ)) → List (Option Refusal)
-causes_of_site t s ts = take 7 (all_causes t s ts)
+causes_of_site t s ts = take 9 (all_causes t s ts)
 
 -- the others, from `OpenLine` on, which the lines around the site and the new lines decide
 abbrev pub causes_of_lines : (text : List ℕ) → Site → (new : List (List ℕ))
     → List (Option Refusal)
-causes_of_lines t s ts = drop 7 (all_causes t s ts)
+causes_of_lines t s ts = drop 9 (all_causes t s ts)
 
 -- the causes of the fields and of the recipe prefix alone
 abbrev pub causes_of_fields : (text : List ℕ) → Site → (new : List (List ℕ)) → List (Option Refusal)
@@ -66,6 +66,7 @@ pub record IsSited (s : Site) (new : List (List ℕ)) (ls : List LocatedLine) (w
 -- a site of new lines that go for no others
 abbrev pub IsOfNew : Site → Type 0
 IsOfNew (OfRun nth o) = ⊥
+IsOfNew (OfRuleRun nth g) = ⊥
 IsOfNew s = Unit {0}
 
 -- ---- one of some stretches
@@ -84,6 +85,15 @@ abbrev pub IsNotOne : (nth : Option ℕ) → List Stretch → Refusal → Type 0
 IsNotOne nth ss r =
     first_cause (where_holds (has_no_stretch nth ss) NoSuch
     ∷ where_holds (has_several_stretches nth ss) (Ambiguous (length ss)) ∷ []) ≡ Some r
+
+-- new lines go to no one place of a site: none or several are meant, or the place is after a rule that
+-- is split; this is the refusal
+abbrev pub IsNotNew : List ClassedLine → Site → Refusal → Type 0
+IsNotNew ls s r =
+    let ss = site_stretches ls s in
+    first_cause (where_holds (has_no_stretch (site_number s) ss) NoSuch
+    ∷ where_holds (has_several_stretches (site_number s) ss) (Ambiguous (length ss))
+    ∷ straddles_at_site ls s ∷ []) ≡ Some r
 
 -- the window at a place of new lines, which has no line
 abbrev pub no_lines : Found → Window

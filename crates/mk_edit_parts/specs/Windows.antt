@@ -1,11 +1,13 @@
 -- Windows of a document: some of its lines, outside of which no line passes a test; and what is known
 -- of a document before an edit is planned.
 -- Told in docs/ARCHITECTURE.md, "The index of a session".
-use Rattle.std.specs.Prelude.{◌≡◌, ◌||◌, ◌+◌, ℕ, nat_lt, Bool, false, List, [], ◌∷◌, ◌++◌, length, Option, Some, None, ⊤}
+use Rattle.std.specs.Prelude.{◌≡◌, ◌||◌, ◌+◌, ℕ, nat_lt, Bool, false, List, [], ◌∷◌, ◌++◌, length, get_or, Option, Some, None, ⊤}
+use Rattle.std.specs.Str.{bytes_eq}
 use Rattle.mk_class.specs.Contexts.{start, context_after_located}
 use Rattle.mk_tree.specs.LocatedLines.{LocatedLine}
 use Rattle.mk_edit_language.specs.Addresses.{Address, Variable}
-use Rattle.mk_edit_language.specs.Edits.{Every, Edit, ChangeValue, RenameTarget}
+use Rattle.mk_edit_language.specs.Edits.{Every, Edit, ChangeValue, RenameTarget, ExchangeLines, Site, BeforeRun, AfterRun, OfRun}
+use Rattle.mk_edit_language.specs.LineRuns.{site_address, texts_of}
 use Rattle.mk_edit_parts.specs.LocatedParts.{is_target_located, is_unread_located}
 use Rattle.mk_edit_parts.specs.RenamedRanges.{renamed_ranges}
 use Rattle.mk_edit_parts.specs.Seeking.{IsLineKnown, may_mean}
@@ -70,6 +72,26 @@ abbrev pub concerns_rename : (old new : List ℕ) → LocatedLine → Bool
 concerns_rename o n l =
     is_unread_located l || (nat_lt 0 (length (renamed_ranges o l)) || is_target_located n l)
 
+-- what the first physical line of a line says; nothing, if the line has no byte
+abbrev pub first_text : List ℕ → List ℕ
+first_text bytes = get_or (texts_of bytes) 0 []
+
+-- whether a line may be the first of a run for a block: it begins with what the block begins with
+abbrev pub says_first : (block : List (List ℕ)) → LocatedLine → Bool
+says_first b l = bytes_eq (first_text l.bytes) (get_or b 0 [])
+
+-- whether a line may be the first of a run that a site names
+abbrev pub may_begin_run : Site → LocatedLine → Bool
+may_begin_run (BeforeRun nth o) l = says_first o l
+may_begin_run (AfterRun nth o) l = says_first o l
+may_begin_run (OfRun nth o) l = says_first o l
+may_begin_run s l = false
+
+-- whether a line decides what a site means: its address may mean the line, the line may be the first
+-- of a run that it names, or the line sets the recipe prefix in a way that is not read
+abbrev pub concerns_site : Site → LocatedLine → Bool
+concerns_site s l = concerns (site_address s) l || may_begin_run s l
+
 -- ---- what is known before an edit is planned
 
 -- what is known of the line that an edit means
@@ -83,11 +105,12 @@ line_known (known.Windows ws) = None
 abbrev pub concerns_name : (name : List ℕ) → LocatedLine → Bool
 concerns_name n l = concerns (Some (Variable None n)) l
 
--- windows of some lines that serve an edit: a rename, a change of all values of a name, or any other
--- edit, which looks at none
+-- windows of some lines that serve an edit: a rename, a change of all values of a name, an exchange of
+-- whole lines, or any other edit, which looks at none
 abbrev AreKnown : Edit → List LocatedLine → List Window → Type 0
 AreKnown (ChangeValue Every n c) ls ws = AreWindows (concerns_name n) first_place ls ws
 AreKnown (RenameTarget o n) ls ws = AreWindows (concerns_rename o n) first_place ls ws
+AreKnown (ExchangeLines s b) ls ws = AreWindows (concerns_site s) first_place ls ws
 AreKnown e ls ws = ⊤
 
 -- What is known of some lines for an edit: nothing, what a walk over them would find for the edit's

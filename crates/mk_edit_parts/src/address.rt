@@ -1,9 +1,9 @@
 //! The line that an edit means, as the edit says it.
 ghost use Rattle.std.specs.Prelude.{◌≡◌};
-ghost use Rattle.mk_edit_language.specs.Addresses.{address, each_address, place_address};
+ghost use Rattle.mk_edit_language.specs.Addresses.{address, each_address, nth_meant, place_address};
 ghost use Rattle.mk_edit_language.specs.EditViews.{each_edit_of, edit_of, place_of, site_of};
 ghost use Rattle.mk_edit_language.specs.LineRuns.{site_address};
-ghost use Rattle.mk_edit_parts.specs.AddressViews.{address_seen};
+ghost use Rattle.mk_edit_parts.specs.AddressViews.{address_seen, address_view};
 
 use mk_edit_language::{EachEdit, Edit, Place, Site};
 use std::alloc::Allocator;
@@ -14,8 +14,27 @@ use std::alloc::Allocator;
 pub enum Address<'a> {
     /// An assignment, by the variable's name.
     Variable(Option<u32>, &'a [u8]),
+    /// The last assignment of a variable, by its name.
+    LastVariable(&'a [u8]),
+    /// An assignment, by the variable's name and its value.
+    Valued(Option<u32>, &'a [u8], &'a [u8]),
+    /// A comment that says an assignment, by the variable's name.
+    Commented(Option<u32>, &'a [u8]),
     /// The line of a rule, by one of its targets.
     Rule(Option<u32>, &'a [u8]),
+}
+
+/// The number that an address gives, from 1, if it gives one.
+pub fn nth_of(address: Address) -> Option<u32>
+    ensures { result ≡ nth_meant (address_view address.entry) }
+{
+    match address {
+        Address::Variable(nth, _)
+        | Address::Valued(nth, _, _)
+        | Address::Commented(nth, _)
+        | Address::Rule(nth, _) => nth,
+        Address::LastVariable(_) => None,
+    }
 }
 
 /// The address of an edit, or of its place. A new line at the end has no address, and neither has a
@@ -29,11 +48,15 @@ pub fn address_of<A: Allocator>(edit: &Edit<A>) -> Option<Address<'_>>
         | Edit::AddWord { nth, name, .. }
         | Edit::RemoveWord { nth, name, .. }
         | Edit::ChangeLine { nth, name, .. }
-        | Edit::RemoveAssign { nth, name } => Some(Address::Variable(*nth, name)),
+        | Edit::RemoveAssign { nth, name }
+        | Edit::CommentOut { nth, name } => Some(Address::Variable(*nth, name)),
+        Edit::SetValueIf { nth, name, old, .. } => Some(Address::Valued(*nth, name, old)),
+        Edit::Uncomment { nth, name } => Some(Address::Commented(*nth, name)),
         Edit::AddAssign { place, .. } | Edit::AddRule { place, .. } => place_address(place),
         Edit::RemoveRule { nth, target }
         | Edit::AddPrereq { nth, target, .. }
         | Edit::RemovePrereq { nth, target, .. }
+        | Edit::ReplacePrereq { nth, target, .. }
         | Edit::AddRecipe { nth, target, .. }
         | Edit::SetRecipe { nth, target, .. }
         | Edit::RemoveRecipe { nth, target, .. }
@@ -59,26 +82,29 @@ pub fn each_address_of<A: Allocator>(edit: &EachEdit<A>) -> Option<Address<'_>>
     }
 }
 
-/// The address in a site. Only a place of a new line may have one.
-pub(crate) fn site_address<A: Allocator>(site: &Site<A>) -> Option<Address<'_>>
+/// The address in a site. Only a place of a new line and a rule may have one.
+pub fn site_address<A: Allocator>(site: &Site<A>) -> Option<Address<'_>>
     ensures { address_seen result ≡ site_address (site_of site.now) }
 {
     match site {
         Site::AtPlace(place) => place_address(place),
-        Site::Top | Site::BeforeLines { .. } | Site::AfterLines { .. } | Site::OfLines { .. } =>
-            None,
+        Site::OfRule { nth, target } => Some(Address::Rule(*nth, target)),
+        Site::BeforeLines { .. } | Site::AfterLines { .. } | Site::OfLines { .. } => None,
     }
 }
 
 /// The address of a place.
-pub(crate) fn place_address<A: Allocator>(place: &Place<A>) -> Option<Address<'_>>
+pub fn place_address<A: Allocator>(place: &Place<A>) -> Option<Address<'_>>
     ensures { address_seen result ≡ place_address (place_of place.now) }
 {
     match place {
-        Place::Bottom => None,
+        Place::Top | Place::Bottom => None,
         Place::BeforeVar { nth, name } | Place::AfterVar { nth, name } => {
             Some(Address::Variable(*nth, name))
         }
-        Place::BeforeRule { nth, target } => Some(Address::Rule(*nth, target)),
+        Place::AfterLastVar { name } => Some(Address::LastVariable(name)),
+        Place::BeforeRule { nth, target } | Place::AfterRule { nth, target } => {
+            Some(Address::Rule(*nth, target))
+        }
     }
 }

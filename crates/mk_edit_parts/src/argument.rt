@@ -5,7 +5,8 @@ ghost use Rattle.mk_class.specs.Arguments.{is_barred_byte, is_clean, is_command,
 ghost use Rattle.mk_class.specs.Keywords.{is_reserved_word};
 ghost use Rattle.mk_class.specs.ListTests.{is_empty};
 ghost use Rattle.mk_class.specs.RecipePrefix.{is_prefix_name};
-ghost use Rattle.mk_edit_language.specs.ArgumentCauses.{Tested, address_names, address_targets, are_targets, are_words, bad_argument, change_test, each_tests, exchange_tests, first_failed, is_place, is_value_word, line_change_tests, names, targets};
+ghost use Rattle.mk_edit_language.specs.ArgumentCauses.{Tested, address_names, address_targets, are_targets, are_words, bad_argument, change_tests, each_tests, exchange_tests, first_failed, is_place, is_value_word, line_change_tests, names, prereq_tests, targets};
+ghost use Rattle.mk_edit_language.specs.Edits.{ReplacePrereq};
 ghost use Rattle.mk_edit_language.specs.declared.refusal.Field.TheVariants.{Line, Old, Prereqs, Target, Targets};
 ghost use Rattle.mk_lines.specs.Units.{units};
 ghost use Rattle.mk_lines.specs.Words.{is_gap, words_in};
@@ -35,6 +36,12 @@ pub fn bad_field<A: Allocator>(edit: &Edit<A>) -> Option<Field>
         Edit::SetValue { name, value, .. } | Edit::AddAssign { name, value, .. } => {
             bad_name_or(name, Field::Value, is_value(value))
         }
+        Edit::SetValueIf {
+            name,
+            old,
+            value,
+            ..
+        } => bad_values(name, old, value),
         Edit::AppendValue { name, value, .. } => bad_name_or(name, Field::Value, is_tail(value)),
         Edit::AddWord { name, word, .. } | Edit::RemoveWord { name, word, .. } => {
             bad_name_or(name, Field::Word, is_value_word(word))
@@ -42,7 +49,9 @@ pub fn bad_field<A: Allocator>(edit: &Edit<A>) -> Option<Field>
         Edit::ChangeValues { name, change } => bad_change(name, change),
         Edit::ChangeLine { name, change, .. } => bad_line_change(name, change),
         Edit::EachLine(each) => bad_each_field(each),
-        Edit::RemoveAssign { name, .. } => failed(Field::Name, is_name(name)),
+        Edit::RemoveAssign { name, .. }
+        | Edit::CommentOut { name, .. }
+        | Edit::Uncomment { name, .. } => failed(Field::Name, is_name(name)),
         Edit::AddRule {
             targets,
             prereqs,
@@ -54,6 +63,12 @@ pub fn bad_field<A: Allocator>(edit: &Edit<A>) -> Option<Field>
         Edit::AddPrereq { target, word, .. } | Edit::RemovePrereq { target, word, .. } => {
             first_failed(Field::Target, is_target(target), Field::Word, is_word(word))
         }
+        Edit::ReplacePrereq {
+            target,
+            old,
+            new,
+            ..
+        } => bad_words(target, old, new),
         Edit::AddRecipe { target, line, .. }
         | Edit::SetRecipe { target, line, .. }
         | Edit::InsertRecipe { target, line, .. } => bad_command(target, Field::Line, line),
@@ -78,7 +93,6 @@ pub(crate) fn bad_site_field<A: Allocator>(site: &Site<A>, block: Option<&[u8]>)
 {
     let is_new = is_new_block(block);
     match site {
-        Site::Top => failed(Field::Block, is_new),
         Site::AtPlace(place) => {
             first_failed(Field::Place, is_place(place), Field::Block, is_new)
         }
@@ -87,6 +101,14 @@ pub(crate) fn bad_site_field<A: Allocator>(site: &Site<A>, block: Option<&[u8]>)
         }
         Site::OfLines { old, .. } => {
             first_failed(Field::Old, is_block(old), Field::Block, may_be_block(block))
+        }
+        Site::OfRule { target, .. } => {
+            first_failed(
+                Field::Target,
+                is_target(target),
+                Field::Block,
+                may_be_block(block),
+            )
         }
     }
 }
@@ -226,6 +248,34 @@ fn bad_exchange(target: &[u8], old: &[u8], line: &[u8]) -> Option<Field>
     }
 }
 
+// The first field that fails its test, of a target, a prerequisite and the word in its place.
+fn bad_words(target: &[u8], old: &[u8], new: &[u8]) -> Option<Field>
+    ensures { field_refusal result
+        ≡ first_failed (Tested Target (is_target target.now)
+        ∷ prereq_tests (ReplacePrereq old.now new.now)) }
+{
+    if is_target(target) {
+        first_failed(Field::Old, is_word(old), Field::New, is_word(new))
+    } else {
+        Some(Field::Target)
+    }
+}
+
+// The first field that fails its test, of the name of a variable, a value and the value in its place.
+fn bad_values(name: &[u8], old: &[u8], value: &[u8]) -> Option<Field>
+    ensures { field_refusal result
+        ≡ first_failed (Tested field.Name (is_name name.now) ∷ Tested Old (is_value old.now)
+        ∷ Tested field.Value (is_value value.now) ∷ []) }
+{
+    bad_name_or_two(
+        name,
+        Field::Old,
+        is_value(old),
+        Field::Value,
+        is_value(value),
+    )
+}
+
 // The name of a variable if it fails its test, or else another field if that does.
 fn bad_name_or(name: &[u8], other: Field, passes: bool) -> Option<Field>
     ensures { field_refusal result
@@ -279,10 +329,11 @@ fn is_barred_byte(byte: u8) -> bool
 fn bad_change<A: Allocator>(name: &[u8], change: &ValueChange<A>) -> Option<Field>
     ensures { field_refusal result
         ≡ first_failed (Tested field.Name (is_name name.now)
-        ∷ change_test (value_change_of change.now) ∷ []) }
+        ∷ change_tests (value_change_of change.now)) }
 {
     match change {
         ValueChange::Set(value) => bad_name_or(name, Field::Value, is_value(value)),
+        ValueChange::SetIf { old, value } => bad_values(name, old, value),
         ValueChange::Append(text) => bad_name_or(name, Field::Value, is_tail(text)),
         ValueChange::Add(word) | ValueChange::Remove(word) => {
             bad_name_or(name, Field::Word, is_value_word(word))
@@ -339,9 +390,11 @@ fn is_place<A: Allocator>(place: &Place<A>) -> bool
     ensures { result ≡ is_place (place_of place.now) }
 {
     match place {
-        Place::Bottom => true,
-        Place::BeforeVar { name, .. } | Place::AfterVar { name, .. } => is_name(name),
-        Place::BeforeRule { target, .. } => is_target(target),
+        Place::Top | Place::Bottom => true,
+        Place::BeforeVar { name, .. }
+        | Place::AfterVar { name, .. }
+        | Place::AfterLastVar { name } => is_name(name),
+        Place::BeforeRule { target, .. } | Place::AfterRule { target, .. } => is_target(target),
     }
 }
 
@@ -388,7 +441,10 @@ pub fn is_reserved<A: Allocator>(edit: &Edit<A>) -> bool
         || list_any is_reserved_word (targets (edit_of edit.now))) }
 {
     match edit {
-        Edit::ChangeValues { name, .. } => is_prefix_name(name),
+        Edit::ChangeValues { name, .. }
+        | Edit::SetValueIf { name, .. }
+        | Edit::CommentOut { name, .. }
+        | Edit::Uncomment { name, .. } => is_prefix_name(name),
         Edit::AddAssign { name, .. } => {
             is_prefix_name(name) || is_reserved_address(address_of(edit))
         }
@@ -402,7 +458,8 @@ pub fn is_reserved<A: Allocator>(edit: &Edit<A>) -> bool
     }
 }
 
-/// Whether an address names the recipe prefix, or a word of directives.
+/// Whether an address names the recipe prefix, or a word of directives. The address of a value or of a
+/// comment names nothing here: `is_reserved` asks for the name of an edit that has one.
 pub(crate) fn is_reserved_address(address: Option<Address>) -> bool
     ensures { result
         ≡ (list_any is_prefix_name (address_names (address_seen address.entry))
@@ -411,6 +468,9 @@ pub(crate) fn is_reserved_address(address: Option<Address>) -> bool
     match address {
         None => false,
         Some(Address::Variable(_, name)) => is_prefix_name(name),
+        Some(Address::LastVariable(name)) => is_prefix_name(name),
+        Some(Address::Valued(..)) => false,
+        Some(Address::Commented(..)) => false,
         Some(Address::Rule(_, target)) => is_reserved_word(target),
     }
 }

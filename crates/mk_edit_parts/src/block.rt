@@ -1,14 +1,15 @@
 //! Blocks: lines that are written as one text, with a line feed between two of them. Which texts may be
 //! blocks, and what a line of a document says of one, is told without cutting either into a list: the
 //! line's physical lines are compared one by one with the block's lines.
-ghost use Rattle.std.specs.Prelude.{◌≡◌, ◌-◌, ◌<◌, ◌≤◌, [], ◌∷◌, drop, false, length, take};
+ghost use Rattle.std.specs.Prelude.{◌≡◌, ◌==◌, count_by, IsTrue, MatchOption, ◌-◌, ◌<◌, ◌≤◌, [], ◌∷◌, drop, false, get_or, length, take};
 ghost use Rattle.std.specs.List.{list_any};
 ghost use Rattle.mk_lines.specs.LogicalLines.{ends_with_odd_run};
 ghost use Rattle.mk_lines.specs.PhysicalLines.{physical_lines};
 ghost use Rattle.mk_edit_language.specs.EditViews.{lines_of};
 ghost use Rattle.mk_edit_language.specs.LineRuns.{after_texts, block_lines, is_block, texts_of};
 ghost use Rattle.mk_edit_parts.specs.LineRunsFound.{block_seen};
-ghost use Rattle.mk_edit_parts.specs.LineRunWalks.{has_line_feed, is_stray_byte, lines_left};
+ghost use Rattle.mk_edit_parts.specs.LineRunWalks.{BeginSame, has_line_feed, is_stray_byte, lines_left};
+ghost use Rattle.mk_edit_parts.specs.Windows.{first_text};
 
 use memchr::memchr;
 use mk_lines::ends::{is_continued, without_line_end};
@@ -54,6 +55,80 @@ fn ends_with_odd_run(text: &[u8]) -> bool
         [.., b'\n'] => false,
         _ => is_continued(text),
     }
+}
+
+/// How many lines a block has.
+pub(crate) fn line_count(block: &[u8]) -> usize
+    ensures { result ≡ length (block_lines block.now) }
+{
+    line_feeds(block) + 1
+}
+
+/// How many line feeds a text has.
+pub fn line_feeds(text: &[u8]) -> usize
+    ensures number { result ≡ count_by (λ b. b == 10) text.now }
+    ensures few { result ≤ length text.now }
+{
+    text.iter().filter(|byte| **byte == b'\n').count()
+}
+
+/// The first line of a block.
+pub fn block_front(block: &[u8]) -> &[u8]
+    ensures first { result.now ≡ get_or (block_lines block.now) 0 [] }
+    ensures one_line { has_line_feed result.now ≡ false }
+{
+    match memchr(b'\n', block) {
+        Some(feed) => &block[..feed],
+        None => block,
+    }
+}
+
+/// How many of the first lines of a block are the same.
+pub(crate) fn same_lines(block: &[u8]) -> usize
+    ensures { BeginSame (get_or (block_lines block.now) 0 []) result (block_lines block.now) }
+{
+    let first = block_front(block);
+    let all = line_count(block);
+    let mut left = block;
+    'lines: for count in 0..all {
+        match after_text(first, left) {
+            Left::Other => return count,
+            Left::Nothing => return count + 1,
+            Left::Lines(lines) => left = lines,
+        }
+    }
+    all
+}
+
+/// What is left of a block after so many lines, each of which is this text; `None` if no line is left.
+pub(crate) fn after_same<'a>(block: &'a [u8], first: &[u8], passed: usize) -> Option<&'a [u8]>
+    requires { BeginSame first.now passed (block_lines block.now) }
+    ensures { MatchOption result (drop passed (block_lines block.now) ≡ [])
+        (λ rest. block_lines rest.now ≡ drop passed (block_lines block.now)) }
+{
+    let cut = passed * (first.len() + 1);
+    if cut > block.len() {
+        return None;
+    }
+    Some(&block[cut..])
+}
+
+/// Whether the one physical line of a line says a text.
+pub(crate) fn says_alone(line: &[u8], text: &[u8]) -> bool
+    requires { has_line_feed text.now ≡ false }
+    ensures { IsTrue result → texts_of line.now ≡ text.now ∷ [] }
+{
+    matches!(after_line(line, text), Left::Nothing)
+}
+
+/// What the first physical line of a line says; nothing, if the line has no byte.
+pub fn line_front(line: &[u8]) -> &[u8]
+    ensures { result.now ≡ first_text line.now }
+{
+    if line.is_empty() {
+        return line;
+    }
+    first_text(line).0
 }
 
 /// What is left of a block after some texts.

@@ -11,7 +11,7 @@ ghost use Rattle.mk_edit_parts.specs.EachLineWalks.{assigns_other_located, each_
 ghost use Rattle.mk_edit_parts.specs.LocatedParts.{IsClassed};
 ghost use Rattle.mk_edit_parts.specs.Seeking.{may_mean};
 
-use crate::address::{Address, each_address_of};
+use crate::address::{Address, each_address_of, nth_of};
 use crate::line_change::{LineRewrite, rewrite_of};
 use crate::line_test::assigns;
 use crate::recipe::is_recipe;
@@ -136,10 +136,11 @@ fn is_number(address: Option<Address>, number: usize) -> bool
     ensures { result ≡ is_number (address_seen address.entry) number }
 {
     match address {
-        Some(Address::Variable(Some(nth), _) | Address::Rule(Some(nth), _)) => {
-            number == nth as usize
-        }
-        _ => true,
+        Some(address) => match nth_of(address) {
+            Some(nth) => number == nth as usize,
+            None => true,
+        },
+        None => true,
     }
 }
 
@@ -148,11 +149,11 @@ fn is_number(address: Option<Address>, number: usize) -> bool
 pub fn is_missing<A: Allocator>(edit: &EachEdit<A>, count: usize) -> bool
     ensures { result ≡ is_missing_among (each_address (each_edit_of edit.now)) count }
 {
-    match each_address_of(edit) {
-        None => false,
-        Some(Address::Variable(None, _) | Address::Rule(None, _)) => count == 0,
-        Some(Address::Variable(Some(nth), _) | Address::Rule(Some(nth), _)) => {
-            nth == 0 || count < nth as usize
-        }
+    let Some(address) = each_address_of(edit) else {
+        return false;
+    };
+    match nth_of(address) {
+        Some(nth) => nth == 0 || count < nth as usize,
+        None => count == 0,
     }
 }

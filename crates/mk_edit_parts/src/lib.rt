@@ -7,6 +7,7 @@
 //! - [`argument`]: the causes of refusal that the fields of an edit decide.
 //! - [`address`]: the line that an edit means, as the edit says it.
 //! - [`line_test`]: which variable a line assigns, and which targets it has.
+//! - [`comment`]: comments that say an assignment.
 //! - [`window`]: some lines of a document, outside of which a walk need not look; and what is known
 //!   before an edit is planned.
 //! - [`seek`]: the line that an address means, found by one walk.
@@ -40,6 +41,7 @@ pub mod address;
 pub mod argument;
 mod block;
 pub mod candidates;
+pub mod comment;
 pub mod each_line;
 pub mod find;
 pub mod glance;
@@ -57,6 +59,7 @@ pub mod recipe;
 pub mod recipe_change;
 pub mod recipe_text;
 pub mod renamed_line;
+pub mod rule;
 pub mod seek;
 pub mod site;
 pub mod tally;
@@ -65,4 +68,4 @@ pub mod value_words;
 pub mod window;
 pub mod word_parts;
 
-pub use block::block_of;
+pub use block::{block_front, block_of, line_feeds, line_front};

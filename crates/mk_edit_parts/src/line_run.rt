@@ -1,25 +1,29 @@
 //! The runs for a block in a document: lines that follow each other and say together what the block
-//! says. They are found by a walk over the kept lines.
+//! says. They are found by a walk over the kept lines, or over those of some windows.
 //!
 //! A walk tries a run at each line. Where the first line says something else, that costs one
-//! comparison. The worst case, lines that all say what a long block begins with, costs as many
+//! comparison. Where a block begins with lines that are the same, those of the document are counted and
+//! not compared again. The worst case, lines that say a part of a long block over and over, costs as many
 //! comparisons as the document has lines times those of the block. No call reads a line anew or takes
 //! memory.
-ghost use Rattle.std.specs.Prelude.{◌≡◌, ◌+◌, ◌<◌, ◌≤◌, ◌∷◌, IfSome, drop, length, not};
+ghost use Rattle.std.specs.Prelude.{◌≡◌, ◌+◌, ◌<◌, ◌≤◌, ◌==◌, ◌||◌, [], ◌∷◌, IfSome, get_or, is_some, drop, length, false, not};
 ghost use Rattle.std.specs.List.{list_any};
 ghost use Rattle.mk_lines.specs.Limits.{max_text};
 ghost use Rattle.mk_class.specs.ClassedLines.{classed_lines};
+ghost use Rattle.mk_tree.specs.Admissions.{AreAdmitted};
 ghost use Rattle.mk_tree.specs.Documents.{IsFaithful};
 ghost use Rattle.mk_tree.specs.LocatedLines.{located_text};
+ghost use Rattle.mk_tree.specs.Origins.{lines_between};
 ghost use Rattle.mk_tree.specs.Trees.{line_view};
 ghost use Rattle.mk_edit_language.specs.LineRuns.{block_lines, is_in_run, runs};
 ghost use Rattle.mk_edit_language.specs.Stretches.{Stretch};
 ghost use Rattle.mk_edit_parts.specs.Found.{IsPlaceOf};
 ghost use Rattle.mk_edit_parts.specs.LineRunsFound.{AreRunMatches, block_seen, numbered};
-ghost use Rattle.mk_edit_parts.specs.LineRunWalks.{holds, is_reached, reached, run_length, with_run};
+ghost use Rattle.mk_edit_parts.specs.LineRunWalks.{BeginSame, SayAlone, has_line_feed, holds, is_reached, reached, run_length, with_run, with_runs};
 ghost use Rattle.mk_edit_parts.specs.Seeking.{wanted_of};
+ghost use Rattle.mk_edit_parts.specs.Windows.{AreWindows, first_place, says_first};
 
-use crate::block::{Left, after_line};
+use crate::block::{Left, after_line, after_same, block_front, line_count, same_lines, says_alone};
 use crate::seek::Found;
 use crate::window::Window;
 use mk_lines::source::MAX_TEXT;
@@ -36,30 +40,136 @@ pub struct RunMatches {
 }
 
 /// The runs for a block, and the run of a number from 1; the first if no number is given. Runs may
-/// overlap, and are numbered by where they begin.
-pub fn run_matches<A: Allocator>(doc: &Doc<A>, block: &[u8], nth: Option<u32>) -> RunMatches
-    requires { IsFaithful doc.now }
+/// overlap, and are numbered by where they begin. The call walks over the lines of some windows alone,
+/// outside of which no line begins as the block does.
+pub fn run_matches<A: Allocator>(
+    doc: &Doc<A>,
+    windows: &[Window],
+    block: &[u8],
+    nth: Option<u32>,
+) -> RunMatches
+    requires faithful { IsFaithful doc.now }
+    requires windows { AreWindows (says_first (block_lines block.now)) first_place doc.now
+        windows.now }
     ensures matches { AreRunMatches (classed_lines (located_text doc.now)) (block_lines block.now)
         nth result }
     ensures within { IfSome result.found (λ run. run.place.at + run.count ≤ length doc.now) }
     ensures place { IfSome result.found (λ run. IsPlaceOf doc.now run.place) }
 {
-    prove!(doc.len() <= MAX_TEXT);
+    // The contract of `iter` says that each line is admitted where it stands.
+    let _lines = doc.iter();
     let wanted = wanted(nth);
+    let same = same_lines(block);
     let mut matches = RunMatches {
         count: 0,
         found: None,
     };
-    let mut lines = doc.lines_with_contexts();
-    'lines: for at in 0..doc.len() {
-        let Some(standing) = lines.next() else {
-            unreachable!()
-        };
-        let (context, line) = standing;
-        let run = length_at(doc, line, at + 1, block);
-        matches = with_run(matches, wanted, Found { at, context }, run);
+    'windows: for window in windows {
+        matches = matches_in(doc, *window, block, same, wanted, matches);
     }
     matches
+}
+
+// What is found with each run that begins with a line of one more window. So many of the first lines of
+// the block are the same.
+fn matches_in<A: Allocator>(
+    doc: &Doc<A>,
+    window: Window,
+    block: &[u8],
+    same: usize,
+    wanted: usize,
+    matches: RunMatches,
+) -> RunMatches
+    requires same { BeginSame (get_or (block_lines block.now) 0 []) same (block_lines block.now) }
+    requires in_range { window.place.at + window.count ≤ length doc.now }
+    requires admitted { AreAdmitted window.place.context (drop window.place.at doc.now) }
+    requires few { matches.count ≤ window.place.at }
+    ensures { result ≡ with_runs (block_lines block.now) wanted window.place
+        (lines_between window.place.at window.count doc.now)
+        (drop (window.place.at + window.count) doc.now) matches }
+{
+    prove!(doc.len() <= MAX_TEXT);
+    let mut found = matches;
+    let Found { at, context } = window.place;
+    let mut at = at;
+    let mut context = context;
+    let mut known = 0;
+    let mut lines = doc.lines_from(at);
+    'lines: for passed in 0..window.count {
+        let Some(line) = lines.next() else {
+            unreachable!()
+        };
+        known = known_at(doc, at, block, same, known);
+        let run = length_past(doc, line, at, block, known.min(same));
+        found = with_run(found, wanted, Found { at, context }, run);
+        context = context.step(&line.class());
+        known = known.saturating_sub(1);
+        at += 1;
+    }
+    found
+}
+
+// How many lines from an index on are known to say what a block begins with, and nothing else: those
+// that were known, or, if there were none, those that are there. They are counted only for a block whose
+// first lines are the same.
+fn known_at<A: Allocator>(doc: &Doc<A>, at: usize, block: &[u8], same: usize, known: usize) -> usize
+    requires in_range { at ≤ length doc.now }
+    requires known { SayAlone (get_or (block_lines block.now) 0 []) known (drop at doc.now) }
+    ensures { SayAlone (get_or (block_lines block.now) 0 []) result (drop at doc.now) }
+{
+    if same < 2 || known > 0 {
+        known
+    } else {
+        alone_from(doc, at, block_front(block))
+    }
+}
+
+// How many lines from an index on say a text, and nothing else.
+fn alone_from<A: Allocator>(doc: &Doc<A>, at: usize, text: &[u8]) -> usize
+    requires in_range { at ≤ length doc.now }
+    requires one_line { has_line_feed text.now ≡ false }
+    ensures { SayAlone text.now result (drop at doc.now) }
+{
+    prove!(doc.len() <= MAX_TEXT);
+    let mut count = 0;
+    let mut lines = doc.lines_from(at);
+    'lines: while let Some(line) = lines.next() {
+        if !says_alone(line.bytes(), text) {
+            return count;
+        }
+        count += 1;
+    }
+    count
+}
+
+// How many lines the run has that begins with the line at an index, if one does. So many lines from
+// there on say what as many of the block's first lines say, and nothing else.
+fn length_past<A: Allocator>(
+    doc: &Doc<A>,
+    line: &Line<A>,
+    at: usize,
+    block: &[u8],
+    passed: usize,
+) -> Option<usize>
+    requires here { drop at doc.now ≡ line_view line.now ∷ drop (at + 1) doc.now }
+    requires in_range { at < length doc.now }
+    requires same { BeginSame (get_or (block_lines block.now) 0 []) passed (block_lines block.now) }
+    requires alone { SayAlone (get_or (block_lines block.now) 0 []) passed (drop at doc.now) }
+    ensures run { result
+        ≡ run_length (block_lines block.now) (line_view line.now ∷ drop (at + 1) doc.now) }
+    ensures within { IfSome result (λ count. at + count ≤ length doc.now) }
+{
+    prove!(doc.len() <= MAX_TEXT);
+    if passed == 0 {
+        return length_at(doc, line, at + 1, block);
+    }
+    let Some(rest) = after_same(block, block_front(block), passed) else {
+        return Some(passed);
+    };
+    match length_from(doc, at + passed, rest) {
+        Some(count) => Some(passed + count),
+        None => None,
+    }
 }
 
 /// Whether some lines of a document lie within a run for a block: `count` lines, the first of which
@@ -72,8 +182,10 @@ pub fn is_in_run<A: Allocator>(doc: &Doc<A>, at: usize, count: usize, block: &[u
         ≡ is_in_run (block_lines block.now) (classed_lines (located_text doc.now)) stretch }
 {
     prove!(doc.len() <= MAX_TEXT);
-    let mut lines = doc.iter();
-    'lines: for start in 0..doc.len() {
+    // A run has no more lines than its block, so that one which begins above does not reach the end.
+    let first = (at + count).saturating_sub(line_count(block));
+    let mut lines = doc.lines_from(first);
+    'lines: for start in first..doc.len() {
         let Some(line) = lines.next() else {
             unreachable!()
         };
@@ -107,16 +219,25 @@ pub fn is_exchanged<A: Allocator>(
         (classed_lines (located_text doc.now)) run))
         (numbered nth (runs (block_lines block.now) (classed_lines (located_text doc.now))))) }
 {
-    let Some(run) = matches.found else {
+    let RunMatches { count, found } = matches;
+    let Some(run) = found else {
         return true;
     };
     let Some(new) = new else {
         return false;
     };
-    let Some(_number) = nth else {
-        return are_in_runs(doc, block, new);
-    };
-    is_in_run(doc, run.place.at, run.count, new)
+    if is_one(nth, count) {
+        is_in_run(doc, run.place.at, run.count, new)
+    } else {
+        are_in_runs(doc, block, new)
+    }
+}
+
+// Whether one of so many runs may be meant: that of a number, or the only one.
+fn is_one(nth: Option<u32>, count: usize) -> bool
+    ensures { result ≡ (is_some nth || (count == 1)) }
+{
+    nth.is_some() || count == 1
 }
 
 // Whether each run for a block lies within a run for another block.

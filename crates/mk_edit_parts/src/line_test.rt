@@ -3,7 +3,7 @@
 //! Each test takes the class of the line, which the caller has at hand.
 ghost use Rattle.std.specs.Prelude.{◌≡◌, ◌≤◌, length};
 ghost use Rattle.mk_class.specs.Texts.{is_one_of};
-ghost use Rattle.mk_edit_parts.specs.LocatedParts.{IsClassed, assigns_located, is_rule_for_located, is_target_located, words_before};
+ghost use Rattle.mk_edit_parts.specs.LocatedParts.{IsClassed, assigns_located, has_value_located, is_rule_for_located, is_target_located, words_before};
 ghost use Rattle.mk_tree.specs.LocatedLines.{text_of_line};
 ghost use Rattle.mk_lines.specs.Cells.{line_cells};
 ghost use Rattle.mk_tree.specs.Trees.{line_view};
@@ -24,6 +24,18 @@ pub fn assigns<A: Allocator>(line: &Line<A>, class: &Class, name: &[u8]) -> bool
 {
     match class {
         Class::Assign(assignment, _) => is_part(line, assignment.name, name),
+        _ => false,
+    }
+}
+
+/// Whether a line is an assignment that has this value.
+pub fn has_value<A: Allocator>(line: &Line<A>, class: &Class, value: &[u8]) -> bool
+    requires classed { IsClassed (line_view line.now) }
+    requires class { class.now ≡ (line_view line.now).class }
+    ensures { result ≡ has_value_located value.now (line_view line.now) }
+{
+    match class {
+        Class::Assign(assignment, _) => is_part(line, assignment.value, value),
         _ => false,
     }
 }

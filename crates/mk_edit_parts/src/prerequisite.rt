@@ -1,5 +1,5 @@
 //! The prerequisites in the line of a rule: whether a word is one of them, and the line with one
-//! more or one fewer.
+//! more, one fewer, or one in the place of another.
 ghost use Rattle.std.specs.Prelude.{◌≡◌, ◌≤◌, ◌<◌, ◌+◌, ◌++◌, ◌^◌, ◌&&◌, ◌==◌, not, if◌then◌else◌, length, IfOk, IsOk};
 ghost use Rattle.mk_lines.specs.PhysicalLines.{line_end, line_end_bytes};
 ghost use Rattle.mk_lines.specs.Cells.{Cell, line_cells, joined_text};
@@ -7,21 +7,25 @@ ghost use Rattle.mk_lines.specs.Pieces.{new_bytes};
 ghost use Rattle.mk_lines.specs.Ranges.{text_at, word_ranges};
 ghost use Rattle.mk_class.specs.Headers;
 ghost use Rattle.mk_tree.specs.Trees.{line_view};
-ghost use Rattle.mk_edit_language.specs.RuleCauses.{is_normal, is_order_only};
-ghost use Rattle.mk_edit_language.specs.WordPieces.{add_pieces, remove_pieces};
+ghost use Rattle.mk_edit_language.specs.RuleCauses.{is_normal, is_order_only, is_prereq};
+ghost use Rattle.mk_edit_language.specs.WordPieces.{add_pieces, remove_pieces, replace_pieces};
 ghost use Rattle.mk_tree.specs.LocatedLines.{text_of_line};
+ghost use Rattle.mk_edit_parts.specs.RenamedRanges.{bytes_in, no_words, tallied};
+ghost use Rattle.mk_edit_parts.specs.ReplacedPrerequisites.{prerequisite_ranges};
 ghost use Rattle.mk_edit_parts.specs.SeenHeaders.{HasHeader, IsHeaderSeen};
 ghost use Rattle.mk_class.specs.LineParts.{order_only_span, normal_span};
 ghost use Rattle.mk_edit_parts.specs.WordCuts.{without_words};
 ghost use Rattle.mk_edit_parts.specs.NewPrerequisites.{after_new, before_new, new_word_text, part_of_new, offset_of_new, words_end};
 
 use crate::raw_part::{raw_part, raw_rest};
+use crate::renamed_line::write_part;
+use crate::tally::{Tally, count_in_part};
 use crate::text::{has_word, is_same_text};
 use mk_class::Header;
 use mk_lines::split::Span;
 use mk_lines::words;
 use mk_tree::Line;
-use mk_tree::part::{part, text_of_line};
+use mk_tree::part::{part, rest, text_of_line};
 use std::alloc::{AllocError, Allocator};
 
 /// Whether a word is among the normal prerequisites.
@@ -40,6 +44,15 @@ pub fn has_order_only<A: Allocator>(line: &Line<A>, header: Header, word: &[u8])
         → result ≡ is_order_only word.now h }
 {
     has_word(part(text_of_line(line), order_only(header)), word)
+}
+
+/// Whether a word is among the prerequisites of either kind.
+pub fn is_prerequisite<A: Allocator>(line: &Line<A>, header: Header, word: &[u8]) -> bool
+    requires { HasHeader (line_view line.now) header }
+    ensures { (h : Headers.Header Cell) → IsHeaderSeen (line_view line.now) header h
+        → result ≡ is_prereq word.now h }
+{
+    has_normal(line, header, word) || has_order_only(line, header, word)
 }
 
 // Where the normal prerequisites stand in the joined text.
@@ -252,4 +265,45 @@ fn put_without<A: Allocator>(
         end: span.end,
     };
     bytes.extend_from_slice(raw_part(line, left))
+}
+
+// ---- a prerequisite replaced
+
+/// Counts the prerequisites that are a word. Takes no memory.
+pub fn count_prerequisites<A: Allocator>(line: &Line<A>, header: Header, word: &[u8]) -> Tally
+    requires header { HasHeader (line_view line.now) header }
+    requires few { length (prerequisite_ranges word.now (line_view line.now) header) < 2 ^ 32 }
+    requires few_bytes { bytes_in (prerequisite_ranges word.now (line_view line.now) header)
+        ≤ 2 ^ 32 }
+    ensures { result
+        ≡ tallied no_words (prerequisite_ranges word.now (line_view line.now) header) }
+{
+    let found = count_in_part(line, normal(header), word, 0, Tally::none());
+    count_in_part(line, order_only(header), word, 0, found)
+}
+
+/// The line with a new prerequisite in the place of an old one, wherever that stands in the two lists.
+///
+/// # Errors
+///
+/// [`AllocError`] if there is no memory for it.
+pub fn with_prerequisite_replaced<A: Allocator + Copy>(
+    alloc: A,
+    line: &Line<A>,
+    header: Header,
+    old: &[u8],
+    new: &[u8],
+) -> Result<Vec<u8, A>, AllocError>
+    requires { HasHeader (line_view line.now) header }
+    ensures { IfOk result (λ bytes.
+        (h : Headers.Header Cell) → IsHeaderSeen (line_view line.now) header h
+        → bytes.items
+        ≡ new_bytes (replace_pieces old.now new.now h) ++ line_end_bytes
+        (line_end (line_view line.now).bytes)) }
+{
+    let mut bytes = Vec::with_capacity(alloc, line.bytes().len())?;
+    let normal_end = write_part(&mut bytes, line, normal(header), old, new, 0)?;
+    let end = write_part(&mut bytes, line, order_only(header), old, new, normal_end)?;
+    bytes.extend_from_slice(rest(line.bytes(), end))?;
+    Ok(bytes)
 }

@@ -81,10 +81,10 @@ pub fn rewritten<A: Allocator>(
     Ok(all)
 }
 
-// Writes a line from an offset up to the end of the last word of a part that is replaced, and
-// answers this end; if no word is replaced, it writes nothing and answers the offset. Most parts do
-// not have the word, and are not cut into words: a look from blank to blank is quicker.
-fn write_part<A: Allocator + Copy>(
+/// Writes a line from an offset up to the end of the last word of a part that is replaced, and
+/// answers this end; if no word is replaced, it writes nothing and answers the offset. Most parts do
+/// not have the word, and are not cut into words: a look from blank to blank is quicker.
+pub(crate) fn write_part<A: Allocator + Copy>(
     bytes: &mut Vec<u8, A>,
     line: &Line<A>,
     span: Span,

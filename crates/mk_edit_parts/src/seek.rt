@@ -1,6 +1,6 @@
 //! The line of a document that an address means, found by one walk over the kept lines, or over
 //! those of some windows.
-ghost use Rattle.std.specs.Prelude.{◌≡◌, ◌+◌, ◌<◌, ◌≤◌, drop, length};
+ghost use Rattle.std.specs.Prelude.{◌≡◌, ◌+◌, ◌<◌, ◌≤◌, Some, drop, length};
 ghost use Rattle.mk_lines.specs.Limits.{max_text};
 ghost use Rattle.mk_class.specs.ClassedLines.{classed_lines};
 ghost use Rattle.mk_class.specs.Contexts.{Admits};
@@ -11,12 +11,14 @@ ghost use Rattle.mk_tree.specs.Origins.{lines_between};
 ghost use Rattle.mk_tree.specs.Trees.{line_view};
 ghost use Rattle.mk_edit_parts.specs.AddressViews.{address_seen};
 ghost use Rattle.mk_edit_parts.specs.LocatedParts.{IsClassed};
-ghost use Rattle.mk_edit_parts.specs.Seeking.{IsSought, may_mean, wanted};
+ghost use Rattle.mk_edit_language.specs.Addresses.{LastVariable};
+ghost use Rattle.mk_edit_parts.specs.Seeking.{IsNumbered, IsSought, may_mean, wanted};
 ghost use Rattle.mk_edit_parts.specs.SeekWalks.{noted_by, nothing_seen, seek};
 ghost use Rattle.mk_edit_parts.specs.Windows.{AreWindows, concerns, first_place};
 
-use crate::address::Address;
-use crate::line_test::{assigns, is_rule_for};
+use crate::address::{Address, nth_of};
+use crate::comment::says_name;
+use crate::line_test::{assigns, has_value, is_rule_for};
 use crate::window::Window;
 use mk_class::{Class, Context};
 use mk_lines::source::MAX_TEXT;
@@ -73,6 +75,40 @@ pub fn seek_within<A: Allocator>(
         windows.now }
     ensures { IsSought (classed_lines (located_text doc.now)) (address_seen address.entry) result }
 {
+    match address {
+        Some(Address::LastVariable(name)) => last_within(doc, windows, name),
+        _ => walked(doc, windows, address),
+    }
+}
+
+// What a document has for the last line that assigns a name: a walk counts these lines, and another one
+// goes to the last. No line outside the windows assigns the name.
+fn last_within<A: Allocator>(doc: &Doc<A>, windows: &[Window], name: &[u8]) -> Sought
+    requires faithful { IsFaithful doc.now }
+    requires windows { AreWindows (concerns (Some (LastVariable name.now))) first_place doc.now
+        windows.now }
+    ensures { IsSought (classed_lines (located_text doc.now)) (Some (LastVariable name.now)) result }
+{
+    let all = walked(doc, windows, Some(Address::Variable(None, name)));
+    if all.count == 0 {
+        return all;
+    }
+    let last = Some(all.count as u32);
+    let sought = walked(doc, windows, Some(Address::Variable(last, name)));
+    Sought { count: 1, ..sought }
+}
+
+// What a walk over the lines of some windows sees for an address that means a line by its number.
+fn walked<A: Allocator>(doc: &Doc<A>, windows: &[Window], address: Option<Address>) -> Sought
+    requires faithful { IsFaithful doc.now }
+    requires windows { AreWindows (concerns (address_seen address)) first_place doc.now
+        windows.now }
+    requires numbered { IsNumbered (address_seen address) }
+    ensures sought { IsSought (classed_lines (located_text doc.now)) (address_seen address.entry)
+        result }
+    ensures few { result.count ≤ max_text }
+{
+    prove!(doc.len() <= MAX_TEXT);
     // The contract of `iter` says that each line is admitted where it stands.
     let _lines = doc.iter();
     let wanted = wanted(address);
@@ -170,7 +206,13 @@ pub(crate) fn may_mean<A: Allocator>(
 {
     match address {
         None => false,
-        Some(Address::Variable(_, name)) => assigns(line, class, name),
+        Some(Address::Variable(_, name) | Address::LastVariable(name)) => {
+            assigns(line, class, name)
+        }
+        Some(Address::Valued(_, name, value)) => {
+            assigns(line, class, name) && has_value(line, class, value)
+        }
+        Some(Address::Commented(_, name)) => says_name(line, name),
         Some(Address::Rule(_, target)) => is_rule_for(line, class, target),
     }
 }
@@ -180,7 +222,10 @@ pub fn wanted(address: Option<Address>) -> usize
     ensures { result ≡ wanted (address_seen address.entry) }
 {
     match address {
-        Some(Address::Variable(Some(nth), _) | Address::Rule(Some(nth), _)) => nth as usize,
-        _ => 1,
+        Some(address) => match nth_of(address) {
+            Some(nth) => nth as usize,
+            None => 1,
+        },
+        None => 1,
     }
 }

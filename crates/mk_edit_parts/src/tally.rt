@@ -31,6 +31,20 @@ pub struct Tally {
     pub first: Option<Span>,
 }
 
+impl Tally {
+    // Nothing counted.
+    pub(crate) fn none() -> Tally
+        ensures { result ≡ no_words }
+    {
+        Tally {
+            words: 0,
+            bytes: 0,
+            at_front: false,
+            first: None,
+        }
+    }
+}
+
 /// Counts the words of a line that are `from`, where a rename replaces words. Takes no memory.
 pub fn count_words<A: Allocator>(line: &Line<A>, class: &Class, from: &[u8]) -> Tally
     requires classed { IsClassed (line_view line.now) }
@@ -39,12 +53,7 @@ pub fn count_words<A: Allocator>(line: &Line<A>, class: &Class, from: &[u8]) -> 
     requires few_bytes { bytes_in (renamed_ranges from.now (line_view line.now)) ≤ 2 ^ 32 }
     ensures { result ≡ tallied no_words (renamed_ranges from.now (line_view line.now)) }
 {
-    let none = Tally {
-        words: 0,
-        bytes: 0,
-        at_front: false,
-        first: None,
-    };
+    let none = Tally::none();
     if !has_parts(class) {
         return none;
     }
@@ -65,9 +74,9 @@ pub fn has_parts(class: &Class) -> bool
     matches!(class, Class::Header(_) | Class::TargetAssign(_))
 }
 
-// The count with the words of a part added that are `from`. A part that ends at `place` or before
-// it does not have the word, and is not cut into words.
-fn count_in_part<A: Allocator>(
+/// The count with the words of a part added that are `from`. A part that ends at `place` or before
+/// it does not have the word, and is not cut into words.
+pub(crate) fn count_in_part<A: Allocator>(
     line: &Line<A>,
     span: Span,
     from: &[u8],

@@ -1,6 +1,6 @@
 -- What is known of a document that is edited, and what a change of the document means for it.
 -- Told in docs/ARCHITECTURE.md, "The index of a session".
-use Rattle.std.specs.Prelude.{◌≡◌, ℕ, List, [], ◌∷◌, ◌++◌, Option, None, IfSome}
+use Rattle.std.specs.Prelude.{◌≡◌, ℕ, false, List, [], ◌∷◌, ◌++◌, Option, None, IfSome}
 use Rattle.mk_lines.specs.Ranges.{text_at}
 use Rattle.mk_class.specs.declared.assignment.Assignment as assignment
 use Rattle.mk_class.specs.declared.class.Class.TheVariants as variants
@@ -32,9 +32,13 @@ pub record NamedLines : Type 0 where
 abbrev pub AreNamedIn : List LocatedLine → NamedLines → Type 0
 AreNamedIn ls n = AreCandidates n.name ls n.lines
 
--- a change of the lines leaves right what is known of them
+-- no index is known that lists what lines say
+abbrev pub ListsNoTexts : Known → Type 0
+ListsNoTexts k = IfSome k.index (λ index. index.scope.lines ≡ false)
+
+-- a change of the lines leaves right what is known of them, but for an index that lists what they say
 pub record StaysRight (before after : List LocatedLine) : Type 0 where
-  pub known : (k : Known) → IsKnownFor before k → IsKnownFor after k
+  pub known : (k : Known) → ListsNoTexts k → IsKnownFor before k → IsKnownFor after k
   pub named : (n : NamedLines) → AreNamedIn before n → AreNamedIn after n
 
 -- two lines assign the same variable, and neither sets the recipe prefix
@@ -56,8 +60,8 @@ pub record IsBehind (ls : List LocatedLine) (end : DocEnd) : Type 0 where
   pub one_more : IsOneMore earlier ls
   pub end_is : IsEndOf earlier end
 
--- What a change of the lines means for what is known of them: all of it stays right; or one more
--- line stands at the end; or nothing is said.
+-- What a change of the lines means for what is known of them: it stays right, unless it is an index that
+-- lists what lines say; or one more line stands at the end; or nothing is said.
 abbrev pub IsEffect : Effect → (before after : List LocatedLine) → Type 0
 IsEffect Same b a = StaysRight b a
 IsEffect Appends b a = IsOneMore b a

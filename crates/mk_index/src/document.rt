@@ -145,8 +145,8 @@ impl<A: Allocator + Copy> IndexedDoc<A> {
 
     /// Makes a patch that leads from a faithful document to a faithful one, as the patch of a planned
     /// edit does, and gives the patch that takes it back. What is known of the document follows: another
-    /// value of the same variable leaves all of it right, and after one more line at the end it is
-    /// still known where the document ends. Lines that are exchanged for others of the same kind have
+    /// value of the same variable leaves all of it right, unless the index lists what lines say, and after
+    /// one more line at the end it is still known where the document ends. Lines that are exchanged for others of the same kind have
     /// their new keys listed, which takes memory; a growth that is refused drops the index. Never refused.
     pub fn make_planned(&mut self, patch: Patch<A>) -> IndexedPatch<A>
         requires faithful { IsFaithful self.old }
@@ -160,7 +160,7 @@ impl<A: Allocator + Copy> IndexedDoc<A> {
         ensures number { length self.new + taken_by patch ≡ length self.old + held_by patch }
     {
         match (effect_of(&self.doc, &patch), self.finder.end()) {
-            (Effect::Same, _) => IndexedPatch {
+            (Effect::Same, _) if !self.finder.lists_lines() => IndexedPatch {
                 patch: patch.make(&mut self.doc),
             },
             (Effect::Appends, Some(end)) => {

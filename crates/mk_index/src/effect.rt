@@ -16,7 +16,7 @@ use std::alloc::Allocator;
 /// What the making of a patch means for what is known of a document.
 #[derive(Clone, Copy)]
 pub enum Effect {
-    /// All that is known stays right.
+    /// All that is known stays right, but for an index that lists what lines say.
     Same,
     /// One more line stands at the end.
     Appends,

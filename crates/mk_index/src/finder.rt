@@ -5,23 +5,23 @@
 //! would take longer than a walk, so the index tells nothing of it. Edits make chains longer, since
 //! a line that is written anew has its keys listed again; an index that has grown that much is made
 //! anew.
-ghost use Rattle.std.specs.Prelude.{◌≡◌, None, Some, List, ℕ, IfSome};
+ghost use Rattle.std.specs.Prelude.{◌≡◌, None, Some, List, ℕ, IfSome, false};
 ghost use Rattle.mk_class.specs.ClassedLines.{classed_lines};
 ghost use Rattle.mk_tree.specs.Documents.{IsFaithful};
 ghost use Rattle.mk_tree.specs.LocatedLines.{LocatedLine, located_text};
 ghost use Rattle.mk_tree.specs.UnreadPrefixes.{IsEndOf};
-ghost use Rattle.mk_edit_language.specs.EditViews.{edit_of};
+ghost use Rattle.mk_edit_language.specs.EditViews.{edit_of, site_of};
 ghost use Rattle.mk_edit_parts.specs.AddressViews.{address_seen};
 ghost use Rattle.mk_edit_parts.specs.Seeking.{IsKnownOf, IsLineKnown, IsSought};
-ghost use Rattle.mk_edit_parts.specs.Windows.{AreWindows, IsKnown, concerns_name, concerns_rename, first_place};
+ghost use Rattle.mk_edit_parts.specs.Windows.{AreWindows, IsKnown, concerns_name, concerns_rename, concerns_site, first_place};
 ghost use Rattle.mk_edit_language.specs.Edits as edits;
-ghost use Rattle.mk_edit_language.specs.Edits.{ChangeValue, Every, RenameTarget};
+ghost use Rattle.mk_edit_language.specs.Edits.{ChangeValue, Every, ExchangeLines, RenameTarget};
 ghost use Rattle.mk_patch.specs.Moves.{FitMoves, after_moves};
-ghost use Rattle.mk_index.specs.Effects.{IsBehind, IsKnownFor};
+ghost use Rattle.mk_index.specs.Effects.{IsBehind, IsKnownFor, ListsNoTexts};
 
 use crate::index::Index;
 use crate::keys::{Expected, Scope};
-use mk_edit_language::Edit;
+use mk_edit_language::{Edit, Site};
 use mk_edit_parts::address::{Address, address_of};
 use mk_edit_parts::seek::{Found, Sought, seek};
 use mk_edit_parts::window::{Known, Window};
@@ -41,8 +41,9 @@ const FEWEST_LINES: usize = 1_024;
 pub struct Finder<A: Allocator = Global> {
     index: Option<Index<A>>,
     end: Option<DocEnd>,
-    // Whether the next edit that asks for an index makes it (an edit with an address, a rename, or a
-    // change of all values of a name): the last one made do with a walk, or more edits are expected.
+    // Whether the next edit that asks for an index makes it (an edit with an address, a rename, a change
+    // of all values of a name, or an exchange of whole lines): the last one made do with a walk, or more
+    // edits are expected.
     is_due: bool,
     // Which words the next index lists, and the index that there is: those that edits have asked for, or
     // will as far as is expected.
@@ -94,6 +95,11 @@ impl<A: Allocator + Copy> Finder<A> {
             self.make_due(alloc, doc);
             return windows_known(self.for_values(alloc, doc, name));
         }
+        if let Edit::ExchangeLines { site, .. } = edit {
+            self.ask_for_site(site);
+            self.make_due(alloc, doc);
+            return windows_known(self.for_site(alloc, doc, site));
+        }
         let address = address_of(edit);
         if address.is_some() {
             self.ask_for(address);
@@ -105,8 +111,9 @@ impl<A: Allocator + Copy> Finder<A> {
     }
 
     /// Lets the next edit that asks for an index make one, since more edits are to come: an edit with an
-    /// address, a rename, or a change of all values of a name. The index lists what the expected edits ask
-    /// for: renames targets and prerequisites, others names and targets. One that does not is dropped. This
+    /// address, a rename, a change of all values of a name, or an exchange of whole lines. The index lists
+    /// what the expected edits ask for: renames targets and prerequisites, those of whole lines what lines
+    /// say, others names and targets. One that does not is dropped. This
     /// call walks over nothing and takes no memory.
     pub fn expect_edits(&mut self, expected: Expected)
         ensures end { self.new.end ≡ self.old.end }
@@ -127,6 +134,7 @@ impl<A: Allocator + Copy> Finder<A> {
         if !self.scope.lists(address) {
             self.widen(Scope::of(Expected {
                 renames: false,
+                lines: false,
                 others: true,
             }));
         }
@@ -142,7 +150,24 @@ impl<A: Allocator + Copy> Finder<A> {
         if !self.scope.lists_renames() {
             self.widen(Scope::of(Expected {
                 renames: true,
+                lines: false,
                 others: true,
+            }));
+        }
+    }
+
+    // Has the next index list that by which the lines of a site are found, unless it does.
+    fn ask_for_site(&mut self, site: &Site<A>)
+        ensures end { self.new.end ≡ self.old.end }
+        ensures right { (lines : List LocatedLine) → IsKnownFor lines self.old
+            → IsKnownFor lines self.new }
+    {
+        if !self.scope.lists_site(site) {
+            let has_address = matches!(site, Site::AtPlace(_) | Site::OfRule { .. });
+            self.widen(Scope::of(Expected {
+                renames: false,
+                lines: !has_address,
+                others: has_address,
             }));
         }
     }
@@ -252,6 +277,34 @@ impl<A: Allocator + Copy> Finder<A> {
         windows
     }
 
+    // The windows that the index tells for a site. The index is dropped where one is dropped that tells of
+    // an address.
+    fn for_site(&mut self, alloc: A, doc: &Doc<A>, site: &Site<A>) -> Option<Vec<Window, A>>
+        requires faithful { IsFaithful doc.now }
+        requires right { IsKnownFor doc.now self.old }
+        ensures windows { IfSome result (λ windows.
+            AreWindows (concerns_site (site_of site.now)) first_place doc.now windows.items) }
+        ensures right { IsKnownFor doc.now self.new }
+    {
+        let mut index = self.index.take()?;
+        index.refresh(doc).ok()?;
+        let windows = index.for_site(alloc, doc, site);
+        if windows.is_some() || !index.is_worn() {
+            self.index = Some(index);
+        }
+        windows
+    }
+
+    /// Whether there is an index that lists what lines say.
+    pub(crate) fn lists_lines(&self) -> bool
+        ensures { result ≡ false → ListsNoTexts self.now }
+    {
+        match &self.index {
+            Some(index) => index.lists_lines(),
+            None => false,
+        }
+    }
+
     /// Whether there is an index.
     pub(crate) fn is_indexed(&self) -> bool {
         self.index.is_some()
@@ -359,7 +412,8 @@ fn line_known<A: Allocator>(sought: Option<Sought>) -> Known<A>
     }
 }
 
-// What is known by the windows for a rename or a change of all values of a name, if there are any.
+// What is known by the windows for a rename, a change of all values of a name, or an exchange of whole
+// lines, if there are any.
 fn windows_known<A: Allocator>(windows: Option<Vec<Window, A>>) -> Known<A>
     ensures rename { (old new : List ℕ) (lines : List LocatedLine)
         → IfSome windows (λ w. AreWindows (concerns_rename old new) first_place lines w.items)
@@ -367,6 +421,9 @@ fn windows_known<A: Allocator>(windows: Option<Vec<Window, A>>) -> Known<A>
     ensures values { (name : List ℕ) (change : edits.ValueChange) (lines : List LocatedLine)
         → IfSome windows (λ w. AreWindows (concerns_name name) first_place lines w.items)
         → IsKnown (ChangeValue Every name change) lines result }
+    ensures site { (site : edits.Site) (block : List (List ℕ)) (lines : List LocatedLine)
+        → IfSome windows (λ w. AreWindows (concerns_site site) first_place lines w.items)
+        → IsKnown (ExchangeLines site block) lines result }
 {
     match windows {
         Some(windows) => Known::Windows(windows),

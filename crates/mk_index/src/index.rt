@@ -10,15 +10,15 @@ ghost use Rattle.mk_class.specs.Contexts.{start};
 ghost use Rattle.mk_tree.specs.Documents.{IsFaithful};
 ghost use Rattle.mk_tree.specs.LocatedLines.{LocatedLine, context_after_located_lines};
 ghost use Rattle.mk_tree.specs.Origins.{lines_between};
+ghost use Rattle.mk_edit_language.specs.EditViews.{site_of};
 ghost use Rattle.mk_edit_parts.specs.AddressViews.{address_seen};
 ghost use Rattle.mk_edit_parts.specs.Seeking.{IsKnownOf};
-ghost use Rattle.mk_edit_parts.specs.Windows.{AreWindows, concerns, concerns_rename, first_place};
+ghost use Rattle.mk_edit_parts.specs.Windows.{AreWindows, concerns, concerns_rename, concerns_site, first_place};
 ghost use Rattle.mk_patch.specs.Moves.{FitMoves, after_moves};
 ghost use Rattle.mk_index.specs.Blocks.{AreBlocks, AreLinesMentioned, HaveListedLines, IsCarried, IsExpected, PassesInMarked, blocks_of, lines_in};
 ghost use Rattle.mk_index.specs.Walks.{HasWindows, IsRefreshed};
 ghost use Rattle.mk_index.specs.Chains.{AreChainsOf, Mention};
 ghost use Rattle.mk_index.specs.Exchanges.{IsKept};
-ghost use Rattle.mk_index.specs.Keys.{IsKeyOf};
 ghost use Rattle.mk_index.specs.declared.keys.Scope as scopes;
 ghost use Rattle.mk_index.specs.Indexes.{AreMarked, IsFreshIndexOf, IsIndexOf, PassesByKeys};
 
@@ -26,9 +26,10 @@ use crate::blocks::{Block, Blocks, Group};
 use crate::bucket::hash_of;
 use crate::chains::{Chains, MOST_STEPS};
 use crate::follow::{follow_all, holder, is_rising};
-use crate::keys::{Scope, list_exchanged, list_keys};
+use crate::keys::{Scope, UNREAD, key_of, list_exchanged, list_keys, site_key};
 use crate::marks::Marks;
 use mk_class::Context;
+use mk_edit_language::Site;
 use mk_edit_parts::address::Address;
 use mk_edit_parts::seek::{Found, Sought, seek_within};
 use mk_edit_parts::window::Window;
@@ -40,9 +41,6 @@ use std::marker::Model;
 // The most steps of a patch that are followed. Each takes a look at the blocks above its line, so that
 // very many would take longer than the making of another index.
 const MOST_FOLLOWED: usize = 8_192;
-
-// The hash of a line that sets the recipe prefix in a way that is not read: that of the empty word.
-const UNREAD: u32 = 0;
 
 /// What is known of a document's lines, so that the lines of a word are found without a walk over all
 /// lines.
@@ -285,6 +283,28 @@ impl<A: Allocator + Copy> Index<A> {
         self.windows(alloc, doc, UNREAD, key_of(address))
     }
 
+    /// Windows of the document, outside of which no line decides what a site means. `None` if these are
+    /// unknown.
+    pub fn for_site(&mut self, alloc: A, doc: &Doc<A>, site: &Site<A>) -> Option<Vec<Window, A>>
+        requires faithful { IsFaithful doc.now }
+        requires index { IsFreshIndexOf doc.now self.old }
+        ensures windows { IfSome result (λ windows.
+            AreWindows (concerns_site (site_of site.now)) first_place doc.now windows.items) }
+        ensures same { self.new ≡ self.old }
+    {
+        if !self.scope.lists_site(site) {
+            return None;
+        }
+        self.windows(alloc, doc, UNREAD, site_key(site))
+    }
+
+    /// Whether it lists what lines say.
+    pub(crate) fn lists_lines(&self) -> bool
+        ensures { result ≡ self.now.scope.lines }
+    {
+        self.scope.lines
+    }
+
     /// Windows of the document, outside of which no line concerns the rename of a word to another.
     /// `None` if these are unknown, as where the index lists no prerequisites.
     pub fn for_rename(
@@ -372,17 +392,6 @@ fn add_windows<A: Allocator + Copy>(
         at += count;
     }
     Ok(())
-}
-
-// The hash of the word that an address says; any hash, if there is no address.
-fn key_of(address: Option<Address>) -> u32
-    ensures { IsKeyOf (address_seen address.entry) result }
-{
-    match address {
-        Some(Address::Variable(_, name)) => hash_of(name),
-        Some(Address::Rule(_, target)) => hash_of(target),
-        None => UNREAD,
-    }
 }
 
 // Marks each block in which a key of one of two hashes stands, and each with an unread recipe prefix.

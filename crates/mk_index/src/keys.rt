@@ -5,7 +5,7 @@
 //! prerequisites, which only a rename asks for, it is made in half of the time. Where a line goes
 //! in for another, words are compared place by place: to look each new word up among the old ones
 //! would take square time.
-ghost use Rattle.std.specs.Prelude.{◌≡◌, List, map, true, IsTrue, IfOk, OnOk};
+ghost use Rattle.std.specs.Prelude.{◌≡◌, ◌∷◌, ◌++◌, [], List, map, true, IsTrue, IfOk, OnOk};
 ghost use Rattle.mk_lines.specs.Words.{words_in};
 ghost use Rattle.mk_tree.specs.LocatedLines.{text_of_line};
 ghost use Rattle.mk_tree.specs.Trees.{line_view};
@@ -14,20 +14,27 @@ ghost use Rattle.mk_edit_parts.specs.LocatedParts.{IsClassed, is_unread_located}
 ghost use Rattle.mk_edit_parts.specs.RenamedRanges.{word_parts};
 ghost use Rattle.mk_index.specs.Chains.{AreChainsOf, HaveListed, Mention, hash_of};
 ghost use Rattle.mk_index.specs.Exchanges.{AreAlike, HaveExchanged, HaveListedBut};
-ghost use Rattle.mk_index.specs.Keys.{IsListed, hashes_of, listed, unread_key, words_of_parts};
+ghost use Rattle.mk_edit_language.specs.EditViews.{site_of};
+ghost use Rattle.mk_edit_parts.specs.Windows.{first_text};
+ghost use Rattle.mk_index.specs.Keys.{IsKeyOf, IsListed, IsSiteKey, IsSiteListed, hashes_of, keys_in, listed, text_key, unread_key, words_of_parts};
 
-use crate::bucket::hash_of;
+use crate::bucket::{hash_of, hash_of_text};
 use crate::chains::Chains;
 use mk_class::Class;
-use mk_edit_parts::address::Address;
+use mk_edit_language::Site;
+use mk_edit_parts::address::{Address, place_address};
 use mk_edit_parts::tally::has_parts;
 use mk_edit_parts::text::is_same_text;
 use mk_edit_parts::word_parts::parts_of;
+use mk_edit_parts::{block_front, line_front};
 use mk_lines::split_first_word;
 use mk_tree::Line;
 use mk_tree::end::sets_prefix_unread;
 use mk_tree::part::{part, text_of_line};
 use std::alloc::{AllocError, Allocator};
+
+/// The hash of a line that sets the recipe prefix in a way that is not read: that of the empty word.
+pub(crate) const UNREAD: u32 = 0;
 
 /// Which words an index lists.
 #[derive(Clone, Copy)]
@@ -38,6 +45,8 @@ pub struct Scope {
     pub targets: bool,
     /// Prerequisites, which a rename asks for besides targets.
     pub prerequisites: bool,
+    /// What the first physical line of each line says: by this an edit of whole lines finds them.
+    pub lines: bool,
 }
 
 /// Which edits are expected.
@@ -45,7 +54,9 @@ pub struct Scope {
 pub struct Expected {
     /// Renames.
     pub renames: bool,
-    /// Edits besides renames.
+    /// Edits of whole lines.
+    pub lines: bool,
+    /// Other edits.
     pub others: bool,
 }
 
@@ -56,16 +67,18 @@ impl Scope {
             names: false,
             targets: false,
             prerequisites: false,
+            lines: false,
         }
     }
 
-    /// The words that some edits ask for: renames for targets and prerequisites, others for names and
-    /// targets.
+    /// The words that some edits ask for: renames for targets and prerequisites, those of whole lines for
+    /// what lines say, and others for names and targets.
     pub(crate) fn of(edits: Expected) -> Scope {
         Scope {
             names: edits.others,
             targets: edits.renames || edits.others,
             prerequisites: edits.renames,
+            lines: edits.lines,
         }
     }
 
@@ -75,6 +88,7 @@ impl Scope {
             names: self.names || other.names,
             targets: self.targets || other.targets,
             prerequisites: self.prerequisites || other.prerequisites,
+            lines: self.lines || other.lines,
         }
     }
 
@@ -83,6 +97,7 @@ impl Scope {
         (self.names || !other.names)
             && (self.targets || !other.targets)
             && (self.prerequisites || !other.prerequisites)
+            && (self.lines || !other.lines)
     }
 
     /// Whether the words are listed by which an address finds its line.
@@ -90,9 +105,23 @@ impl Scope {
         ensures { IsTrue result → IsListed self (address_seen address.entry) }
     {
         match address {
-            Some(Address::Variable(_, _)) => self.names,
-            Some(Address::Rule(_, _)) => self.targets,
+            Some(Address::Variable(..) | Address::LastVariable(_) | Address::Valued(..)) => {
+                self.names
+            }
+            Some(Address::Commented(..)) => false,
+            Some(Address::Rule(..)) => self.targets,
             None => true,
+        }
+    }
+
+    /// Whether that is listed by which the lines of a site are found.
+    pub(crate) fn lists_site<A: Allocator>(self, site: &Site<A>) -> bool
+        ensures { IsTrue result → IsSiteListed self (site_of site.now) }
+    {
+        match site {
+            Site::AtPlace(place) => self.lists(place_address(place)),
+            Site::OfRule { .. } => self.targets,
+            Site::BeforeLines { .. } | Site::AfterLines { .. } | Site::OfLines { .. } => self.lines,
         }
     }
 
@@ -105,9 +134,34 @@ impl Scope {
     }
 }
 
-/// Lists the keys of a line with the block in which it stands: the name that it assigns, its targets
-/// and its prerequisites, each if such words are to be listed; and the empty word, if it sets the recipe
-/// prefix in a way that is not read. The caller has the class of the line at hand. [`AllocError`] if a
+/// The hash of the word that an address says; any hash, if there is no address.
+pub(crate) fn key_of(address: Option<Address>) -> u32
+    ensures { IsKeyOf (address_seen address.entry) result }
+{
+    match address {
+        Some(
+            Address::Variable(_, name) | Address::LastVariable(name) | Address::Valued(_, name, _),
+        ) => hash_of(name),
+        Some(Address::Rule(_, target)) => hash_of(target),
+        Some(Address::Commented(..)) | None => UNREAD,
+    }
+}
+
+/// The hash of that by which the lines of a site are found; any hash, if there is nothing.
+pub(crate) fn site_key<A: Allocator>(site: &Site<A>) -> u32
+    ensures { IsSiteKey (site_of site.now) result }
+{
+    match site {
+        Site::AtPlace(place) => key_of(place_address(place)),
+        Site::OfRule { target, .. } => hash_of(target),
+        Site::BeforeLines { old, .. } | Site::AfterLines { old, .. } | Site::OfLines { old, .. } =>
+            { hash_of_text(block_front(old)) }
+    }
+}
+
+/// Lists the keys of a line with the block in which it stands: what its first physical line says, the
+/// name that it assigns, its targets and its prerequisites, each if such words are to be listed; and the
+/// empty word, if it sets the recipe prefix in a way that is not read. The caller has the class of the line at hand. [`AllocError`] if a
 /// growth was refused, or if the chains are full.
 pub fn list_keys<A: Allocator + Copy>(
     chains: &mut Chains<A>,
@@ -120,6 +174,42 @@ pub fn list_keys<A: Allocator + Copy>(
     requires class { class.now ≡ (line_view line.now).class }
     ensures { (ms : List Mention) → AreChainsOf ms chains.old → OnOk result
         (HaveListed (hashes_of scope (line_view line.now)) block ms chains.new) }
+{
+    list_text(chains, scope, line, block)?;
+    list_words_of(chains, scope, line, class, block)
+}
+
+// Lists what the first physical line of a line says, if that is to be listed.
+fn list_text<A: Allocator + Copy>(
+    chains: &mut Chains<A>,
+    scope: Scope,
+    line: &Line<A>,
+    block: u32,
+) -> Result<(), AllocError>
+    ensures { (ms : List Mention) → AreChainsOf ms chains.old → OnOk result (HaveListed
+        (map hash_of (listed scope.lines (text_key (first_text (line_view line.now).bytes) ∷ [])))
+        block ms chains.new) }
+{
+    if !scope.lines {
+        return Ok(());
+    }
+    chains.list(hash_of_text(line_front(line.bytes())), block)
+}
+
+// Lists the words of a line with the block in which it stands.
+fn list_words_of<A: Allocator + Copy>(
+    chains: &mut Chains<A>,
+    scope: Scope,
+    line: &Line<A>,
+    class: &Class,
+    block: u32,
+) -> Result<(), AllocError>
+    requires classed { IsClassed (line_view line.now) }
+    requires class { class.now ≡ (line_view line.now).class }
+    ensures { (ms : List Mention) → AreChainsOf ms chains.old → OnOk result (HaveListed
+        (map hash_of (unread_key (is_unread_located (line_view line.now))
+        ++ keys_in scope (text_of_line (line_view line.now)) (line_view line.now).class))
+        block ms chains.new) }
 {
     list_unread(chains, line, class, block)?;
     match class {
@@ -237,6 +327,7 @@ pub fn list_exchanged<A: Allocator + Copy>(
     if !are_alike(&was, &class) {
         return Ok(false);
     }
+    list_text(chains, scope, new, block)?;
     list_parts_but(chains, scope, old, &was, new, &class, block)?;
     Ok(true)
 }

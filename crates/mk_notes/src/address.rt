@@ -7,7 +7,7 @@ use memchr::memmem;
 use mk_edit_language::{EachEdit, Edit, LineChange, ValueChange};
 use mk_edit_parts::address::{Address, address_of, each_address_of};
 use mk_edit_parts::seek::wanted;
-use mk_listing::{Position, RuleLine, numbered, rule_lines_for};
+use mk_queries::listing::{Position, RuleLine, numbered, rule_lines_for};
 use mk_tree::Doc;
 use std::alloc::{AllocError, Allocator};
 
@@ -35,28 +35,40 @@ pub(crate) fn number_of<A: Allocator>(edit: &Edit<A>) -> Option<u32> {
 /// The name or the target of an address.
 pub(crate) fn name_in<'a>(address: Address<'a>) -> &'a [u8] {
     match address {
-        Address::Variable(_, name) | Address::Rule(_, name) => name,
+        Address::Variable(_, name)
+        | Address::LastVariable(name)
+        | Address::Valued(_, name, _)
+        | Address::Commented(_, name)
+        | Address::Rule(_, name) => name,
     }
 }
 
 /// The number of an address, if it has one.
 pub(crate) fn number_in(address: Address<'_>) -> Option<u32> {
     match address {
-        Address::Variable(nth, _) | Address::Rule(nth, _) => nth,
+        Address::Variable(nth, _)
+        | Address::Valued(nth, _, _)
+        | Address::Commented(nth, _)
+        | Address::Rule(nth, _) => nth,
+        Address::LastVariable(_) => None,
     }
 }
 
-/// The word that an edit adds to lines, takes out of them or puts another one beside, the text that it replaces
-/// in values or recipe lines, or the new name of a target.
+/// The word that an edit adds to lines, takes out of them, replaces or puts another one beside, the value or
+/// the text in values or recipe lines that it replaces, or the new name of a target.
 pub(crate) fn word_of<A: Allocator>(edit: &Edit<A>) -> Option<&[u8]> {
     match edit {
         Edit::AddWord { word, .. }
         | Edit::RemoveWord { word, .. }
         | Edit::AddPrereq { word, .. }
         | Edit::RemovePrereq { word, .. }
+        | Edit::ReplacePrereq { old: word, .. }
+        | Edit::SetValueIf { old: word, .. }
         | Edit::RenameTarget { to: word, .. }
         | Edit::ChangeValues {
-            change: ValueChange::Add(word) | ValueChange::Remove(word),
+            change: ValueChange::Add(word)
+            | ValueChange::Remove(word)
+            | ValueChange::SetIf { old: word, .. },
             ..
         }
         | Edit::EachLine(
@@ -81,12 +93,15 @@ fn word_of_change<A: Allocator>(change: &LineChange<A>) -> Option<&[u8]> {
     }
 }
 
-/// The line of the number of an address, or the first one that it may mean if it has no number.
+/// The line of the number of an address, or the first one that it may mean if it has no number; the last line
+/// of the name of an address that means the last.
 pub(crate) fn line_of<A: Allocator>(doc: &Doc<A>, address: Address<'_>) -> Option<Position> {
-    numbered(doc)
-        .filter(|(_, line)| is_named(line, address))
-        .nth(wanted(Some(address)).saturating_sub(1))
-        .map(|(at, _)| at)
+    let mut named = numbered(doc).filter(|(_, line)| is_named(line, address));
+    let found = match address {
+        Address::LastVariable(_) => named.last(),
+        _ => named.nth(wanted(Some(address)).saturating_sub(1)),
+    };
+    found.map(|(at, _)| at)
 }
 
 /// The rule of the number of an address, or the first one that it may mean if it has no number; none if it
@@ -96,10 +111,10 @@ pub(crate) fn line_of_rule<'a, A: Allocator>(
     address: Address<'a>,
 ) -> Option<RuleLine<'a, A>> {
     match address {
-        Address::Variable(..) => None,
         Address::Rule(_, target) => {
             rule_lines_for(doc, target).nth(wanted(Some(address)).saturating_sub(1))
         }
+        _ => None,
     }
 }
 

@@ -37,10 +37,13 @@ impl<'a, A: Allocator, B: Allocator + Copy> Notes<'a, A, B> {
     // Puts the fields of a place.
     fn place_fields<C: Allocator>(&mut self, place: &Place<C>) -> Result<(), AllocError> {
         let (word, about) = match place {
+            Place::Top => return self.fields(&[b"top"]),
             Place::Bottom => return self.fields(&[b"bottom"]),
             Place::BeforeVar { name, .. } => ("before-var", name.as_slice()),
             Place::AfterVar { name, .. } => ("after-var", name.as_slice()),
+            Place::AfterLastVar { name } => ("after-last-var", name.as_slice()),
             Place::BeforeRule { target, .. } => ("before-rule", target.as_slice()),
+            Place::AfterRule { target, .. } => ("after-rule", target.as_slice()),
         };
         self.fields(&[word.as_bytes(), about])
     }
@@ -48,11 +51,11 @@ impl<'a, A: Allocator, B: Allocator + Copy> Notes<'a, A, B> {
     // Puts the fields of the site of whole lines; of lines that are sought, the first.
     fn asked_of_site<C: Allocator>(&mut self, site: &Site<C>) -> Result<(), AllocError> {
         match site {
-            Site::Top => self.fields(&[b"top"]),
             Site::AtPlace(place) => self.place_fields(place),
             Site::BeforeLines { old, .. } => self.fields(&[b"before-line", first_line(old)]),
             Site::AfterLines { old, .. } => self.fields(&[b"after-line", first_line(old)]),
             Site::OfLines { old, .. } => self.fields(&[first_line(old)]),
+            Site::OfRule { target, .. } => self.fields(&[target]),
         }
     }
 
@@ -69,7 +72,8 @@ impl<'a, A: Allocator, B: Allocator + Copy> Notes<'a, A, B> {
             Edit::ChangeLine {
                 change: LineChange::InsertWord { new, .. },
                 ..
-            } => self.fields(&[new]),
+            }
+            | Edit::ReplacePrereq { new, .. } => self.fields(&[new]),
             Edit::SetRecipe { number, .. }
             | Edit::RemoveRecipe { number, .. }
             | Edit::InsertRecipe { number, .. } => self.say(" @", &[Number(u64::from(*number))]),
@@ -91,11 +95,13 @@ impl<'a, A: Allocator, B: Allocator + Copy> Notes<'a, A, B> {
 fn command_word<A: Allocator>(edit: &Edit<A>) -> &'static str {
     match edit {
         Edit::SetValue { .. } => "set",
+        Edit::SetValueIf { .. } => "set-if",
         Edit::AppendValue { .. } => "append",
         Edit::AddWord { .. } => "add",
         Edit::RemoveWord { .. } => "drop",
         Edit::ChangeValues { change, .. } => match change {
             ValueChange::Set(_) => "all set",
+            ValueChange::SetIf { .. } => "all set-if",
             ValueChange::Append(_) => "all append",
             ValueChange::Add(_) => "all add",
             ValueChange::Remove(_) => "all drop",
@@ -103,11 +109,14 @@ fn command_word<A: Allocator>(edit: &Edit<A>) -> &'static str {
         Edit::ChangeLine { change, .. } => line_change_word(change),
         Edit::AddAssign { .. } => "assign",
         Edit::RemoveAssign { .. } => "unset",
+        Edit::CommentOut { .. } => "comment-out",
+        Edit::Uncomment { .. } => "uncomment",
         Edit::AddRule { .. } => "rule",
         Edit::RemoveRule { .. } => "unrule",
         Edit::AddPrereq { order: true, .. } => "depend-order",
         Edit::AddPrereq { .. } => "depend",
         Edit::RemovePrereq { .. } => "undepend",
+        Edit::ReplacePrereq { .. } => "depend-replace",
         Edit::AddRecipe { .. } => "recipe",
         Edit::SetRecipe { .. } => "recipe-set",
         Edit::RemoveRecipe { .. } => "recipe-del",
@@ -118,6 +127,8 @@ fn command_word<A: Allocator>(edit: &Edit<A>) -> &'static str {
         Edit::ExchangeLines { site, block } => match (site, block) {
             (Site::OfLines { .. }, Some(_)) => "line-replace",
             (Site::OfLines { .. }, None) => "line-remove",
+            (Site::OfRule { .. }, Some(_)) => "rule-replace",
+            (Site::OfRule { .. }, None) => "rule-remove",
             _ => "insert",
         },
         Edit::EachLine(each) => word_of_each(each),

@@ -1,5 +1,6 @@
 //! The sentence on a field of an edit that may not stand there.
 
+use crate::address::name_in;
 use crate::broken::{Test, broken};
 use crate::part::Part::Words;
 use crate::text::Notes;
@@ -44,13 +45,24 @@ fn text_of_field<A: Allocator>(edit: &Edit<A>, field: Field) -> Tested<'_> {
         (
             Field::Value,
             Edit::SetValue { value, .. }
+            | Edit::SetValueIf { value, .. }
             | Edit::AppendValue { value, .. }
             | Edit::AddAssign { value, .. }
             | Edit::ChangeValues {
-                change: ValueChange::Set(value) | ValueChange::Append(value),
+                change: ValueChange::Set(value)
+                | ValueChange::SetIf { value, .. }
+                | ValueChange::Append(value),
                 ..
             },
         ) => Tested::new("the value", value, Test::Value),
+        (
+            Field::Old,
+            Edit::SetValueIf { old, .. }
+            | Edit::ChangeValues {
+                change: ValueChange::SetIf { old, .. },
+                ..
+            },
+        ) => Tested::new("the old value", old, Test::Value),
         (
             Field::Word,
             Edit::AddWord { word, .. }
@@ -137,6 +149,12 @@ fn text_of_rule_field<A: Allocator>(edit: &Edit<A>, field: Field) -> Tested<'_> 
         (Field::Word, Edit::AddPrereq { word, .. } | Edit::RemovePrereq { word, .. }) => {
             Tested::new("the word", word, Test::Word)
         }
+        (Field::Old, Edit::ReplacePrereq { old, .. }) => {
+            Tested::new("the old word", old, Test::Word)
+        }
+        (Field::New, Edit::ReplacePrereq { new, .. }) => {
+            Tested::new("the new word", new, Test::Word)
+        }
         (Field::Targets, Edit::AddRule { targets, .. }) => {
             match WordTexts::new(targets).find(|word| !is_target(word)) {
                 Some(word) => Tested::new("a target", word, Test::Word),
@@ -175,14 +193,14 @@ fn text_of_address<A: Allocator>(edit: &Edit<A>, field: Field) -> Tested<'_> {
 // The name or the target in an address that may not stand there.
 fn text_of_named(address: Option<Address<'_>>, field: Field) -> Tested<'_> {
     match (field, address) {
-        (Field::Place, Some(Address::Variable(_, name))) => {
-            Tested::new("the name in PLACE", name, Test::Name)
-        }
         (Field::Place, Some(Address::Rule(_, target))) => {
             Tested::new("the target in PLACE", target, Test::Word)
         }
-        (_, Some(Address::Variable(_, name))) => Tested::new("the name", name, Test::Name),
+        (Field::Place, Some(address)) => {
+            Tested::new("the name in PLACE", name_in(address), Test::Name)
+        }
         (_, Some(Address::Rule(_, target))) => Tested::new("the target", target, Test::Word),
+        (_, Some(address)) => Tested::new("the name", name_in(address), Test::Name),
         (_, None) => Tested::new("the field", &[], Test::Line),
     }
 }

@@ -12,12 +12,13 @@ use bstr::ByteSlice;
 use mk_class::Class;
 use mk_edit_language::{EachEdit, Edit};
 use mk_edit_parts::address::Address;
+use mk_edit_parts::comment::comment_mark;
 use mk_edit_parts::each_line::{EachChange, each_change};
 use mk_edit_parts::line_change::LineRewrite;
 use mk_edit_parts::text::is_prefix_name;
 use mk_lines::ends::is_open;
 use mk_lines::{Fault, words};
-use mk_listing::{Position, numbered, rule_lines_for};
+use mk_queries::listing::{Position, numbered, rule_lines_for};
 use mk_tree::{Doc, Line};
 use std::alloc::{AllocError, Allocator};
 
@@ -66,12 +67,25 @@ impl<'a, A: Allocator, B: Allocator + Copy> Notes<'a, A, B> {
         edit: &Edit<C>,
         address: Address<'_>,
     ) -> Result<(), AllocError> {
-        if let (Some(at), Some(change)) = (line_of(self.doc, address), change_of(edit)) {
-            if self.becomes(at, change)? {
-                return Ok(());
+        if let Some(at) = line_of(self.doc, address) {
+            if let Edit::Uncomment { .. } = edit {
+                return self.becomes_unmarked(at);
+            }
+            if let Some(change) = change_of(edit) {
+                if self.becomes(at, change)? {
+                    return Ok(());
+                }
             }
         }
         self.meant(edit, address).map(|_| ())
+    }
+
+    // Puts the notes on a comment that would not read as an assignment: its line, and what it would become.
+    fn becomes_unmarked(&mut self, at: Position) -> Result<(), AllocError> {
+        let doc = self.doc;
+        let text = doc.get(at.index).map_or(b"".as_slice(), |line| line.text());
+        self.line(Some(at))?;
+        self.would_become(part(text, comment_mark(text).end, text.len()))
     }
 
     // Puts the notes on a line if a change makes it one that does not read as stated: the line, and what it

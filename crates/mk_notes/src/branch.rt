@@ -1,6 +1,6 @@
 //! The branch of a conditional in which a line stands, and the other branches.
 
-use mk_listing::{Position, numbered};
+use mk_queries::listing::{Position, numbered};
 use mk_tree::{Conditional, Doc};
 use std::alloc::Allocator;
 use std::ops::Range;

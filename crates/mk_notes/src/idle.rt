@@ -6,7 +6,7 @@ use crate::part::Part::{Count, Number, Text};
 use crate::text::Notes;
 use mk_edit_language::{Edit, LineChange, Refusal, ValueChange};
 use mk_edit_parts::address::Address;
-use mk_listing::RuleLine;
+use mk_queries::listing::RuleLine;
 use mk_tree::Doc;
 use std::alloc::{AllocError, Allocator};
 
@@ -44,6 +44,11 @@ impl<'a, A: Allocator, B: Allocator + Copy> Notes<'a, A, B> {
         let said = match edit {
             Edit::AddWord { .. } => "@ has the word @ already",
             Edit::RemoveWord { .. } => "@ has no word @",
+            Edit::SetValueIf { .. }
+            | Edit::ChangeValues {
+                change: ValueChange::SetIf { .. },
+                ..
+            } => "no assignment of @ has the value `@`",
             Edit::ChangeValues {
                 change: ValueChange::Add(_),
                 ..
@@ -59,6 +64,9 @@ impl<'a, A: Allocator, B: Allocator + Copy> Notes<'a, A, B> {
             Edit::ChangeLine { .. } => "@ has no word @",
             Edit::AddPrereq { order: true, .. } => "@ has the order-only prerequisite @ already",
             Edit::AddPrereq { .. } => "@ depends on @ already",
+            Edit::ReplacePrereq { .. } if matches!(refusal, Refusal::Already) => {
+                "@ depends on @ already"
+            }
             _ => "@ does not depend on @",
         };
         self.say(said, &[Text(name), Text(word_told(edit, refusal))])
@@ -113,7 +121,8 @@ fn word_told<A: Allocator>(edit: &Edit<A>, refusal: Refusal) -> &[u8] {
             Edit::ChangeLine {
                 change: LineChange::InsertWord { new, .. },
                 ..
-            },
+            }
+            | Edit::ReplacePrereq { new, .. },
             Refusal::Already,
         ) => new,
         _ => word_of(edit).unwrap_or_default(),

@@ -2,6 +2,7 @@
 
 use mk_class::{Class, Flavor};
 use mk_edit_parts::address::Address;
+use mk_edit_parts::comment::says_name;
 use mk_edit_parts::text::is_prefix_name;
 use mk_script::spelling::are_alike;
 use mk_tree::Line;
@@ -39,7 +40,13 @@ pub(crate) fn kind<A: Allocator>(line: &Line<A>) -> Option<&'static str> {
 /// Whether a line is one that an address means by its name, whatever its number.
 pub(crate) fn is_named<A: Allocator>(line: &Line<A>, address: Address<'_>) -> bool {
     match address {
-        Address::Variable(_, name) => line.assignment().is_some_and(|it| it.name() == name),
+        Address::Variable(_, name) | Address::LastVariable(name) => {
+            line.assignment().is_some_and(|it| it.name() == name)
+        }
+        Address::Valued(_, name, value) => line
+            .assignment()
+            .is_some_and(|it| it.name() == name && it.value() == value),
+        Address::Commented(_, name) => says_name(line, name),
         Address::Rule(_, target) => line
             .rule()
             .is_some_and(|rule| rule.targets().any(|word| word == target)),
@@ -112,9 +119,11 @@ pub(crate) fn has_target<A: Allocator>(line: &Line<A>, target: &[u8]) -> bool {
 /// that of an address, but spelled alike.
 pub(crate) fn is_near<A: Allocator>(line: &Line<A>, address: Address<'_>) -> bool {
     match address {
-        Address::Variable(_, name) => line
-            .assignment()
-            .is_some_and(|it| is_near_word(it.name(), name)),
+        Address::Variable(_, name) | Address::LastVariable(name) | Address::Valued(_, name, _) => {
+            line.assignment()
+                .is_some_and(|it| is_near_word(it.name(), name))
+        }
+        Address::Commented(..) => false,
         Address::Rule(_, target) => line.rule().is_some_and(|rule| rule
             .targets()
             .any(|word| is_near_word(word, target))),
@@ -124,9 +133,10 @@ pub(crate) fn is_near<A: Allocator>(line: &Line<A>, address: Address<'_>) -> boo
 /// Whether the name of an address stands in a line where no edit looks.
 pub(crate) fn is_hidden<A: Allocator>(line: &Line<A>, address: Address<'_>) -> bool {
     match address {
-        Address::Variable(_, name) => {
+        Address::Variable(_, name) | Address::LastVariable(name) | Address::Valued(_, name, _) => {
             line.define() == Some(name) || is_for_targets(line, name) || is_unread(line, address)
         }
+        Address::Commented(..) => false,
         Address::Rule(_, target) => is_for_target(line, target) || is_unread(line, address),
     }
 }
@@ -166,7 +176,10 @@ fn is_unread<A: Allocator>(line: &Line<A>, address: Address<'_>) -> bool {
 fn leads(address: Address<'_>, text: &[u8]) -> bool {
     let text = after_blanks(text);
     match address {
-        Address::Variable(_, name) => {
+        Address::Variable(_, name)
+        | Address::LastVariable(name)
+        | Address::Valued(_, name, _)
+        | Address::Commented(_, name) => {
             let text = text.strip_prefix(b"override ").unwrap_or(text);
             let text = text.strip_prefix(b"export ").unwrap_or(text);
             text.strip_prefix(name)

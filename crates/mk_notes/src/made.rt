@@ -6,7 +6,7 @@
 //! in another branch have a note of their own, since make never reads them together with the line of
 //! the edit.
 
-use crate::address::{line_of, line_of_rule};
+use crate::address::{line_of, line_of_rule, name_in};
 use crate::branch::OtherBranches;
 use crate::line::{gives, gives_anew, may_give};
 use crate::run_notes::{RunNotes, Walks};
@@ -16,7 +16,7 @@ use mk_class::Flavor;
 use mk_edit_language::{EachEdit, Edit, LineChange, Place};
 use mk_edit_parts::address::{Address, address_of};
 use mk_edit_parts::text::has_word;
-use mk_listing::{Position, numbered};
+use mk_queries::listing::{Position, assignments_of, numbered};
 use mk_tree::Doc;
 use std::alloc::{AllocError, Allocator};
 
@@ -27,11 +27,11 @@ impl<B: Allocator + Copy> RunNotes<'_, B> {
     ///
     /// | Edit | Notes |
     /// |---|---|
-    /// | each but `RemoveAssign`, `RemoveRule`, `ChangeValues`, `RenameTarget`, `ExchangeLines` and `EachLine` | where the changed line is in a conditional: that make may skip it, and the line |
-    /// | `SetValue`, `AppendValue`, `AddWord`, `RemoveWord`, and `ChangeLine` except for `SetOperator` | where the operator is `?=`: that make takes the value only where the variable has none, and the line |
+    /// | each but `RemoveAssign`, `CommentOut`, `Uncomment`, `RemoveRule`, `ChangeValues`, `RenameTarget`, `ExchangeLines` and `EachLine` | where the changed line is in a conditional: that make may skip it, and the line |
+    /// | `SetValue`, `SetValueIf`, `AppendValue`, `AddWord`, `RemoveWord`, and `ChangeLine` except for `SetOperator` | where the operator is `?=`: that make takes the value only where the variable has none, and the line |
     /// | the same, `SetOperator` and `AddAssign` | where the variable is assigned again below, and not in another branch of the same conditional: that it is, and the lines that assign it |
     /// | the same | where it is assigned in another branch of the same conditional: that it is, and the lines that assign it |
-    /// | the same, and anywhere in the makefile `RemoveAssign`, `ChangeValues` and `ChangeEach` | where lines below seem to assign it that are not read: that they do, and these lines |
+    /// | the same, and anywhere in the makefile `RemoveAssign`, `CommentOut`, `Uncomment`, `ChangeValues` and `ChangeEach` | where lines below seem to assign it that are not read: that they do, and these lines |
     /// | `AddRule` | for each of its first ten targets that has a rule with colons of the other kind: that make stops if it reads both, and the lines of these rules |
     /// | the same | for each other of them that has a recipe in another rule: that it has, and the lines of these rules |
     /// | the same | where its target may be the default goal now: that it may, and the line of the earlier one |
@@ -84,16 +84,18 @@ impl<'a, A: Allocator, B: Allocator + Copy> Notes<'a, A, B> {
             (Edit::AddAssign { name, .. }, Some(at)) => self.assigned(name, at),
             (
                 Edit::RemoveAssign { name, .. }
+                | Edit::CommentOut { name, .. }
+                | Edit::Uncomment { name, .. }
                 | Edit::ChangeValues { name, .. }
                 | Edit::EachLine(EachEdit::ChangeEach { name, .. }),
                 _,
             ) => self.unread(name, 0),
             _ => match (address_of(edit), changed) {
-                (Some(Address::Variable(_, name)), Some(at)) => self.assigned(name, at),
                 (Some(Address::Rule(nth, target)), _) if has_new_recipe(edit) => {
                     self.other_recipes(nth.unwrap_or(1), target)
                 }
-                _ => Ok(()),
+                (Some(Address::Rule(..)), _) | (_, None) | (None, _) => Ok(()),
+                (Some(address), Some(at)) => self.assigned(name_in(address), at),
             },
         }
     }
@@ -176,18 +178,27 @@ fn has_new_recipe<A: Allocator>(edit: &Edit<A>) -> bool {
 // The line that an edit has changed or put in, or that of the rule of which it has taken a recipe line out;
 // none if it has taken its line out, put one in at the end, or changed several.
 fn changed_line<A: Allocator, B: Allocator>(doc: &Doc<A>, edit: &Edit<B>) -> Option<Position> {
+    match edit {
+        Edit::AddAssign { place, .. } | Edit::AddRule { place, .. } => {
+            let new = new_index(doc, edit, place)?;
+            return numbered(doc).nth(new).map(|(at, _)| at);
+        }
+        Edit::SetValueIf { name, value, .. } => {
+            let mut found = assignments_of(doc, name).filter(|it| it.assignment.value()
+                == value.as_slice());
+            return match (found.next(), found.next()) {
+                (Some(it), None) => Some(it.position),
+                _ => None,
+            };
+        }
+        _ => {}
+    }
     let address = address_of(edit)?;
     match edit {
-        Edit::RemoveAssign { .. } | Edit::RemoveRule { .. } => None,
-        Edit::AddAssign { place, .. } | Edit::AddRule { place, .. } => {
-            let index = line_of(doc, address)?.index;
-            let new = match place {
-                Place::AfterVar { .. } => index.saturating_add(1),
-                _ if fits_own_place(edit) => index,
-                _ => index.saturating_sub(1),
-            };
-            numbered(doc).nth(new).map(|(at, _)| at)
-        }
+        Edit::RemoveAssign { .. }
+        | Edit::CommentOut { .. }
+        | Edit::Uncomment { .. }
+        | Edit::RemoveRule { .. } => None,
         Edit::SetRecipe { number, .. } => {
             let number = *number;
             line_of_rule(doc, address)?
@@ -207,11 +218,38 @@ fn changed_line<A: Allocator, B: Allocator>(doc: &Doc<A>, edit: &Edit<B>) -> Opt
     }
 }
 
-// Whether the new line of an edit fits the address of the line before which it was put in.
+// The index of the line that an edit has put in at a place; none if that is the end.
+fn new_index<A: Allocator, B: Allocator>(
+    doc: &Doc<A>,
+    edit: &Edit<B>,
+    place: &Place<B>,
+) -> Option<usize> {
+    if let Place::Top = place {
+        return Some(0);
+    }
+    let address = address_of(edit)?;
+    if let Place::AfterRule { .. } = place {
+        let rule = line_of_rule(doc, address)?;
+        let last = rule.recipe_lines().last();
+        let above = last.map_or(rule.position.index, |it| it.position.index);
+        return Some(above.saturating_add(1));
+    }
+    let index = line_of(doc, address)?.index;
+    Some(match place {
+        Place::AfterVar { .. } => index.saturating_add(1),
+        _ if fits_own_place(edit) => index,
+        Place::AfterLastVar { .. } => index.saturating_add(1),
+        _ => index.saturating_sub(1),
+    })
+}
+
+// Whether the new line of an edit fits the address of the line beside which it was put in.
 fn fits_own_place<A: Allocator>(edit: &Edit<A>) -> bool {
     match (edit, address_of(edit)) {
-        (Edit::AddAssign { name, .. }, Some(Address::Variable(_, other))) => name.as_slice()
-            == other,
+        (
+            Edit::AddAssign { name, .. },
+            Some(Address::Variable(_, other) | Address::LastVariable(other)),
+        ) => name.as_slice() == other,
         (Edit::AddRule { targets, .. }, Some(Address::Rule(_, other))) => {
             has_word(targets, other)
         }

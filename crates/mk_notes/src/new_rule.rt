@@ -4,7 +4,7 @@ use crate::tally::Tally;
 use crate::text::Notes;
 use mk_class::{Class, Separator};
 use mk_edit_language::{Edit, RuleSeparator};
-use mk_listing::{Position, RuleLine, assignments_of, numbered, rule_lines_for};
+use mk_queries::listing::{Position, RuleLine, assignments_of, numbered, rule_lines_for};
 use mk_tree::{Line, WordTexts};
 use std::alloc::{AllocError, Allocator};
 

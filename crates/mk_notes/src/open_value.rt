@@ -11,7 +11,7 @@ use mk_edit_parts::address::Address;
 use mk_edit_parts::text::has_word;
 use mk_edit_parts::value_words::bares_end;
 use mk_lines::is_closed;
-use mk_listing::assignments_of;
+use mk_queries::listing::assignments_of;
 use mk_tree::{Doc, WordTexts};
 use std::alloc::{AllocError, Allocator};
 
@@ -89,7 +89,9 @@ fn word_before<'v>(value: &'v [u8], word: &[u8]) -> &'v [u8] {
 /// Whether a value does not let a change pass. A fold at its end, which bars a new word, is not seen.
 pub(crate) fn is_open_to<A: Allocator>(value: &[u8], change: &ValueChange<A>) -> bool {
     match change {
-        ValueChange::Set(_) | ValueChange::Append(_) => !is_closed(value),
+        ValueChange::Set(_) | ValueChange::SetIf { .. } | ValueChange::Append(_) => !is_closed(
+            value,
+        ),
         ValueChange::Add(word) => !is_closed(value) && !has_word(value, word),
         ValueChange::Remove(word) => {
             has_word(value, word) && (!is_closed(value) || bares_end(value, word))

@@ -13,7 +13,7 @@ use mk_class::Class;
 use mk_edit_language::{Edit, LineChange, Place, Refusal, Site, ValueChange};
 use mk_edit_parts::address::{Address, address_of};
 use mk_edit_parts::lean::begins_with;
-use mk_listing::{Position, assignments_of, numbered};
+use mk_queries::listing::{Position, assignments_of, numbered};
 use mk_tree::Doc;
 use std::alloc::{AllocError, Allocator};
 
@@ -128,6 +128,9 @@ impl<'a, A: Allocator, C: Allocator + Copy> Notes<'a, A, C> {
         match refusal {
             Refusal::Ambiguous(_) => self.ambiguous(edit, address),
             Refusal::NoSuch => self.missing(address),
+            Refusal::Absent if matches!(edit, Edit::SetValueIf { .. }) => self
+                .candidates(Address::Variable(None, name_in(address)), b"")
+                .map(|_| ()),
             Refusal::Straddles => {
                 self.meant(edit, address)?;
                 self.line(conditional_below(self.doc, address))
@@ -265,6 +268,7 @@ fn behind<'s>(all: bool) -> &'s str {
 fn takes_all<A: Allocator>(edit: &Edit<A>) -> bool {
     match edit {
         Edit::SetValue { .. }
+        | Edit::SetValueIf { .. }
         | Edit::AppendValue { .. }
         | Edit::AddWord { .. }
         | Edit::RemoveWord { .. } => true,
@@ -294,6 +298,10 @@ fn conditional_below<A: Allocator>(doc: &Doc<A>, address: Address<'_>) -> Option
 fn leaning<A: Allocator, B: Allocator>(doc: &Doc<A>, edit: &Edit<B>) -> Option<Position> {
     let change = match edit {
         Edit::ExchangeLines { site, .. } => line_at_site(doc, site)?,
+        Edit::AddRule {
+            place: Place::Top,
+            ..
+        } => numbered(doc).next()?.0,
         _ => line_of(doc, address_of(edit)?)?,
     };
     let prefix = prefix_at(doc, change);
@@ -314,7 +322,9 @@ fn line_at_site<A: Allocator, B: Allocator>(doc: &Doc<A>, site: &Site<B>) -> Opt
     let old = sought_by(site).unwrap_or_default();
     let before = (number_of_site(site).unwrap_or(1) as usize).saturating_sub(1);
     numbered(doc)
-        .filter(|(at, _)| matches!(site, Site::Top) || is_run_at(doc, at.index, old))
+        .filter(|(at, _)| {
+            matches!(site, Site::AtPlace(Place::Top)) || is_run_at(doc, at.index, old)
+        })
         .nth(before)
         .map(|(at, _)| at)
 }
@@ -327,8 +337,11 @@ fn goes_above<A: Allocator>(edit: &Edit<A>) -> bool {
         | Edit::ExchangeLines {
             site: Site::AtPlace(place),
             ..
-        } => matches!(place, Place::BeforeVar { .. } | Place::BeforeRule { .. }),
-        Edit::ExchangeLines { site, .. } => matches!(site, Site::Top | Site::BeforeLines { .. }),
+        } => matches!(
+            place,
+            Place::Top | Place::BeforeVar { .. } | Place::BeforeRule { .. }
+        ),
+        Edit::ExchangeLines { site, .. } => matches!(site, Site::BeforeLines { .. }),
         _ => false,
     }
 }

@@ -3,7 +3,7 @@
 
 use mk_cli::{COMMAND_HINT, EXCHANGED_HINT, ScriptMistake, is_command_word};
 use mk_fs::SystemFault;
-use mk_json::Object;
+use mk_queries::Object;
 use std::alloc::{AllocError, Global};
 
 /// The line of JSON on a message, and on the fault and the mistake that it is about. The message is as it

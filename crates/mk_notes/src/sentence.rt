@@ -12,7 +12,7 @@ use mk_class::is_reserved_word;
 use mk_edit_language::{EachEdit, Edit, LineChange, Refusal, Site};
 use mk_edit_parts::address::{Address, each_address_of};
 use mk_edit_parts::block_of;
-use mk_listing::numbered;
+use mk_queries::listing::numbered;
 use mk_tree::WordTexts;
 use std::alloc::{AllocError, Allocator};
 
@@ -52,6 +52,8 @@ impl<'a, A: Allocator, B: Allocator + Copy> Notes<'a, A, B> {
             (Refusal::NoSuch, None) => self.no_such_lines(old, number_of_site(site)),
             (Refusal::Ambiguous(count), Some(address)) => self.has(address, count),
             (Refusal::Ambiguous(count), None) => self.several_lines(old, count),
+            (Refusal::SharedRule(count), Some(address)) => self.shared(address, count),
+            (Refusal::Straddles, Some(address)) => self.straddles(address, site),
             (Refusal::Already, _) => self.lines_there(new),
             (Refusal::Misread, _) => {
                 let gone = if matches!(site, Site::OfLines { .. }) {
@@ -98,9 +100,7 @@ impl<'a, A: Allocator, B: Allocator + Copy> Notes<'a, A, B> {
             (Refusal::Taken, Edit::RenameTarget { to, .. }) => {
                 self.say("@ has the target @ already", &[Makefile, Text(to)])
             }
-            (Refusal::SharedRule(count), _) => {
-                self.say("the rule for @ has @", &[name, Count(count, "target")])
-            }
+            (Refusal::SharedRule(count), _) => self.shared(address, count),
             (Refusal::Straddles, _) => {
                 self.say("a conditional directive stands in the recipe of @", &[name])
             }
@@ -108,6 +108,26 @@ impl<'a, A: Allocator, B: Allocator + Copy> Notes<'a, A, B> {
             (Refusal::Misread, _) => self.misread(edit),
             _ => self.plain_sentence(refusal),
         }
+    }
+
+    // Puts how many targets a rule has.
+    fn shared(&mut self, address: Address<'_>, count: u64) -> Result<(), AllocError> {
+        let name = Text(name_in(address));
+        self.say("the rule for @ has @", &[name, Count(count, "target")])
+    }
+
+    // Puts how a conditional stands in a recipe, where whole lines go behind the rule or in its place.
+    fn straddles<C: Allocator>(
+        &mut self,
+        address: Address<'_>,
+        site: &Site<C>,
+    ) -> Result<(), AllocError> {
+        let said = if matches!(site, Site::OfRule { .. }) {
+            "only a part of a conditional stands in the recipe of @"
+        } else {
+            "a conditional directive stands in the recipe of @"
+        };
+        self.say(said, &[Text(name_in(address))])
     }
 
     // Puts which name is reserved that an edit has.
@@ -194,13 +214,13 @@ impl<'a, A: Allocator, B: Allocator + Copy> Notes<'a, A, B> {
             return self.has(address, count);
         }
         match address {
-            Address::Variable(..) => {
-                let lines = Count(count, "assignment");
-                self.say("@ of @, or words of its value, fit", &[lines, name])
-            }
             Address::Rule(..) => {
                 let rules = Count(count, "rule");
                 self.say("@ for @, or lines of its recipe, fit", &[rules, name])
+            }
+            _ => {
+                let lines = Count(count, "assignment");
+                self.say("@ of @, or words of its value, fit", &[lines, name])
             }
         }
     }
@@ -209,9 +229,20 @@ impl<'a, A: Allocator, B: Allocator + Copy> Notes<'a, A, B> {
     fn has(&mut self, address: Address<'_>, count: u64) -> Result<(), AllocError> {
         let name = Text(name_in(address));
         match address {
-            Address::Variable(..) if count == 0 => self.say("@ assigns no @", &[Makefile, name]),
-            Address::Variable(..) => self.say("@ assigns @ @", &[Makefile, name, Times(count)]),
             Address::Rule(..) => self.say("@ has @ for @", &[Makefile, Count(count, "rule"), name]),
+            Address::Commented(..) => {
+                let comments = Count(count, "comment");
+                self.say(
+                    "@ has @ with an assignment of @",
+                    &[Makefile, comments, name],
+                )
+            }
+            _ if count == 0 => self.say("@ assigns no @", &[Makefile, name]),
+            Address::Valued(_, _, value) => self.say(
+                "@ assigns @ the value `@` @",
+                &[Makefile, name, Text(value), Times(count)],
+            ),
+            _ => self.say("@ assigns @ @", &[Makefile, name, Times(count)]),
         }
     }
 
@@ -219,13 +250,21 @@ impl<'a, A: Allocator, B: Allocator + Copy> Notes<'a, A, B> {
     fn has_fewer(&mut self, address: Address<'_>, nth: u64) -> Result<(), AllocError> {
         let name = Text(name_in(address));
         match address {
-            Address::Variable(..) => self.say(
-                "@ assigns @ fewer than @",
-                &[Makefile, name, Count(nth, "time")],
-            ),
             Address::Rule(..) => self.say(
                 "@ has fewer than @ for @",
                 &[Makefile, Count(nth, "rule"), name],
+            ),
+            Address::Commented(..) => self.say(
+                "@ has fewer than @ with an assignment of @",
+                &[Makefile, Count(nth, "comment"), name],
+            ),
+            Address::Valued(_, _, value) => self.say(
+                "@ assigns @ the value `@` fewer than @",
+                &[Makefile, name, Text(value), Count(nth, "time")],
+            ),
+            _ => self.say(
+                "@ assigns @ fewer than @",
+                &[Makefile, name, Count(nth, "time")],
             ),
         }
     }

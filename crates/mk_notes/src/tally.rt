@@ -1,6 +1,6 @@
 //! Which words of a makefile stand in several lines, so that most edits need no walk for their notes.
 
-use crate::address::meant_by;
+use crate::address::{meant_by, name_in};
 use crate::line::is_doubtful;
 use mk_class::Flavor;
 use mk_edit_language::{EachEdit, Edit, LineChange, Place};
@@ -80,7 +80,9 @@ impl<A: Allocator + Copy> Tally<A> {
                     change: LineChange::SetOperator(Flavor::Conditional),
                 },
             ) => self.add(Use::Default, name, 1),
-            Edit::RemoveAssign { name, .. } => self.assign(name, Flavor::Conditional),
+            Edit::RemoveAssign { name, .. }
+            | Edit::CommentOut { name, .. }
+            | Edit::Uncomment { name, .. } => self.assign(name, Flavor::Conditional),
             Edit::AddRule { targets, .. } => {
                 for target in WordTexts::new(targets) {
                     self.add(Use::Target, target, 1)?;
@@ -115,8 +117,8 @@ impl<A: Allocator + Copy> Tally<A> {
                     || WordTexts::new(targets).any(|target| self.has_rules(target))
             }
             _ => match meant_by(edit) {
-                Some(Address::Variable(_, name)) => self.may_vary(name),
                 Some(Address::Rule(_, target)) => self.has_rules(target),
+                Some(address) => self.may_vary(name_in(address)),
                 None => false,
             },
         }

@@ -12,17 +12,27 @@ use mk_lines::words;
 use mk_tree::Doc;
 use std::alloc::{AllocError, Allocator};
 
-/// The address of the line beside which whole lines go, if the site names one.
+/// The address of the line beside which whole lines go, or of the rule that goes for them, if the site names
+/// one.
 pub(crate) fn address_of_site<A: Allocator>(site: &Site<A>) -> Option<Address<'_>> {
-    let Site::AtPlace(place) = site else {
-        return None;
-    };
+    match site {
+        Site::AtPlace(place) => address_of_place(place),
+        Site::OfRule { nth, target } => Some(Address::Rule(*nth, target)),
+        _ => None,
+    }
+}
+
+// The address of a place of a new line, if it has one.
+fn address_of_place<A: Allocator>(place: &Place<A>) -> Option<Address<'_>> {
     match place {
-        Place::Bottom => None,
+        Place::Top | Place::Bottom => None,
         Place::BeforeVar { nth, name } | Place::AfterVar { nth, name } => {
             Some(Address::Variable(*nth, name))
         }
-        Place::BeforeRule { nth, target } => Some(Address::Rule(*nth, target)),
+        Place::AfterLastVar { name } => Some(Address::LastVariable(name)),
+        Place::BeforeRule { nth, target } | Place::AfterRule { nth, target } => {
+            Some(Address::Rule(*nth, target))
+        }
     }
 }
 
@@ -31,7 +41,7 @@ pub(crate) fn number_of_site<A: Allocator>(site: &Site<A>) -> Option<u32> {
     match site {
         Site::BeforeLines { nth, .. } | Site::AfterLines { nth, .. } | Site::OfLines { nth, .. } =>
             *nth,
-        Site::Top | Site::AtPlace(_) => address_of_site(site).and_then(|it| number_in(it)),
+        _ => address_of_site(site).and_then(|it| number_in(it)),
     }
 }
 
@@ -40,7 +50,7 @@ pub(crate) fn sought_by<A: Allocator>(site: &Site<A>) -> Option<&[u8]> {
     match site {
         Site::BeforeLines { old, .. } | Site::AfterLines { old, .. } | Site::OfLines { old, .. } =>
             Some(old.as_slice()),
-        Site::Top | Site::AtPlace(_) => None,
+        Site::AtPlace(_) | Site::OfRule { .. } => None,
     }
 }
 

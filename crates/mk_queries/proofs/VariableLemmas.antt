@@ -6,8 +6,8 @@ use Rattle.mk_lines.specs.Spacing.{after_space, each_after_space}
 use Rattle.mk_class.specs.OperatorTexts.{operator_text}
 use Rattle.mk_tree.specs.LocatedLines.{LocatedLine}
 use Rattle.mk_tree.specs.Views.{AssignmentView, TargetAssignmentView, assignment_of, target_assignment_of}
-use Rattle.mk_listing.specs.Listings.{Standing, Walk, is_of, position_below, standing, standing_below}
-use Rattle.mk_listing.specs.declared.position.Position.{Position}
+use Rattle.mk_queries.specs.Listings.{Standing, Walk, is_of, position_below, standing, standing_below}
+use Rattle.mk_queries.specs.declared.listing.position.Position.{Position}
 use Rattle.mk_queries.specs.Queries.{said_if, variable_line}
 use Rattle.mk_queries.specs.Texts.{assigned_text, position_text, target_assigned_text}
 

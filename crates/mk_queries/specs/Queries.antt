@@ -5,8 +5,8 @@ use Rattle.std.specs.List.{flat_map}
 use Rattle.mk_class.specs.Contexts.{start}
 use Rattle.mk_tree.specs.LocatedLines.{LocatedLine, context_after_located_lines}
 use Rattle.mk_tree.specs.Views.{assignment_of, target_assignment_of}
-use Rattle.mk_listing.specs.Listings.{RuleSpot, is_of, recipes_ahead, rules_ahead, standing, whole}
-use Rattle.mk_listing.specs.declared.position.Position.{Position}
+use Rattle.mk_queries.specs.Listings.{RuleSpot, is_of, recipes_ahead, rules_ahead, standing, whole}
+use Rattle.mk_queries.specs.declared.listing.position.Position.{Position}
 use Rattle.mk_queries.specs.Texts.{assigned_text, end_text, position_text, recipe_text, rule_text, target_assigned_text, unread_text}
 
 -- ---- `vars`

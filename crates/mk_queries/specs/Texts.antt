@@ -9,8 +9,8 @@ use Rattle.mk_class.specs.declared.class.Class.{Class}
 use Rattle.mk_class.specs.declared.class.Class.TheVariants.{Opaque, Rough}
 use Rattle.mk_class.specs.declared.rule.Separator.{Separator}
 use Rattle.mk_tree.specs.Views.{AssignmentView, TargetAssignmentView}
-use Rattle.mk_listing.specs.Listings.{RecipeSpot, RuleSpot, recipes_ahead}
-use Rattle.mk_listing.specs.declared.position.Position.{Position}
+use Rattle.mk_queries.specs.Listings.{RecipeSpot, RuleSpot, recipes_ahead}
+use Rattle.mk_queries.specs.declared.listing.position.Position.{Position}
 
 -- where a line stands: its number, and how many conditionals are open there
 abbrev pub position_text : Position → List ℕ

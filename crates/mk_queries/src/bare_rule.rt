@@ -4,8 +4,8 @@
 //! own. Nor is one whose target may mean something else to make: a special target, a pattern or a
 //! reference.
 
+use crate::listing::{RuleLine, rule_lines_for};
 use mk_class::Separator;
-use mk_listing::{RuleLine, rule_lines_for};
 use mk_tree::{Doc, RuleRef};
 use std::alloc::Allocator;
 

@@ -4,9 +4,9 @@ ghost use Rattle.mk_tree.specs.Printing.{Gathers};
 ghost use Rattle.mk_queries.specs.Texts.{position_text};
 
 use crate::gathering::put_parts;
+use crate::listing::Position;
 use mk_lines::Fault;
 use mk_lines::sink::ByteSink;
-use mk_listing::Position;
 use mk_tree::gathering::Gathered;
 
 /// Puts the number of a line, and how many conditionals are open there, each with a `:` behind it.

@@ -1,6 +1,6 @@
 //! The caveat of each line of a document.
 //!
-//! The query in words and that of `mk_json` both follow this walk, so they list the same lines.
+//! The query in words and that of [`json_format`](crate::json_format) both follow this walk, so they list the same lines.
 //! Whether a rule adds nothing depends on another line, which may stand anywhere: that takes a walk
 //! for each such rule, so the bytes of these walks are bounded.
 ghost use Rattle.std.specs.Prelude.{◌≡◌, length};
@@ -8,12 +8,12 @@ ghost use Rattle.mk_tree.specs.Documents.{IsFaithful};
 
 use crate::bare_rule::{bare_target, has_recipe_for};
 use crate::caveat::Caveat;
+use crate::listing::Rules;
 use crate::make_word::make_word;
 use crate::seen::{Seen, is_led, is_other_class, is_rule};
 use mk_class::{Class, Context, Meter, class_of_plain_line};
 use mk_lines::after_first_unit;
 use mk_lines::source::MAX_TEXT;
-use mk_listing::Rules;
 use mk_tree::{ContextedLines, Doc, Line};
 use std::alloc::{Allocator, Global};
 use std::marker::Model;
@@ -54,7 +54,7 @@ pub fn line_caveats<A: Allocator>(doc: &Doc<A>) -> LineCaveats<'_, A>
     LineCaveats {
         doc,
         lines: doc.lines_with_contexts(),
-        rules: mk_listing::rule_lines(doc),
+        rules: crate::listing::rule_lines(doc),
         left: MAX_TEXT,
         seen: Seen::start(),
     }

@@ -7,7 +7,7 @@ use Rattle.mk_tree.specs.Documents.{document_lines}
 use Rattle.mk_tree.specs.LocatedLines.{LocatedLine}
 use Rattle.mk_queries.specs.Queries.{check_text, recipes_text, rules_text, vars_text}
 use Rattle.mk_edit_language.specs.declared.refusal.Refusal.{Refusal}
-use Rattle.mk_lookup.specs.Lookups.{looked_up}
+use Rattle.mk_session.specs.Lookups.{looked_up}
 use Rattle.mk_run.specs.declared.outcome.Outcome.{Outcome}
 use Rattle.mk_run.specs.declared.outcome.Outcome.TheVariants.{Done, Write}
 use Rattle.mk_cli.specs.declared.request.Query.{Query}

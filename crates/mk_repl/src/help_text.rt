@@ -3,11 +3,12 @@
 /// The commands and the requests.
 pub const HELP: &str = "\
 Commands, of each of which `help COMMAND` says more:
-    set append add drop prepend replace add-before add-after subst operator
-    values-subst unset assign rename rule unrule depend depend-order undepend
+    set set-if append add drop prepend replace add-before add-after subst
+    operator values-subst unset comment-out uncomment assign rename rule unrule
+    depend depend-order undepend depend-replace
     recipe recipe-insert recipe-set recipe-del recipe-replace recipe-remove
-    recipe-subst recipes-subst
-    insert line-replace line-remove nth all try undo redo begin end cancel
+    recipe-subst recipes-subst insert line-replace line-remove rule-replace
+    rule-remove nth all try undo redo begin end cancel
 Requests:
     print    print FROM    print FROM TO     the text, or its lines from one number to another
     diff                                     what has changed since FILE was opened

@@ -8,14 +8,14 @@ ghost use Rattle.mk_repl.specs.declared.question.Unanswered.TheVariants as unans
 ghost use Rattle.mk_repl.specs.QueryTexts.{IsSaid, answer_refusal, answer_text, found_text, query_text};
 
 use mk_cli::{Form, Query, Question};
-use mk_json::{caveats_json, check_json, recipes_json, rules_json, value_json, vars_json};
 use mk_lines::sink::{write_all, write_parts};
 use mk_lines::{ByteSink, Fault};
-use mk_lookup::get;
 use mk_queries::{
-    caveats, check, check_texts, recipes, recipes_named, rules, rules_named, vars, vars_named,
+    caveats, caveats_json, check, check_json, check_texts, recipes, recipes_json, recipes_named,
+    rules, rules_json, rules_named, value_json, vars, vars_json, vars_named,
 };
 use mk_session::Refusal;
+use mk_session::lookup::get;
 use mk_tree::Doc;
 use std::alloc::{AllocError, Allocator};
 

@@ -1,7 +1,7 @@
 //! Answers as lines of JSON.
 
 use crate::line_length;
-use mk_json::push_text_line;
+use mk_queries::push_text_line;
 use std::alloc::{AllocError, Allocator};
 
 /// The lines of an answer as lines of JSON, each an object with the text of its line.

@@ -91,11 +91,12 @@ fn expect_steps<A: Allocator + Copy>(session: &mut Session<A>, steps: &[Step<A>]
     }
 }
 
-// Which edits some steps ask for. Of a chain it says that it asks for edits besides renames: a rename in
-// a chain has an index made that serves it.
+// Which edits some steps ask for. Of a chain it says that it asks for edits of variables and rules: a
+// rename in a chain, or an edit of whole lines, has an index made that serves it.
 fn edits_of<A: Allocator>(steps: &[Step<A>]) -> Expected {
     let mut expected = Expected {
         renames: false,
+        lines: false,
         others: false,
     };
     for step in steps {
@@ -112,6 +113,7 @@ fn edits_of<A: Allocator>(steps: &[Step<A>]) -> Expected {
         };
         match edit {
             Edit::RenameTarget { .. } => expected.renames = true,
+            Edit::ExchangeLines { .. } => expected.lines = true,
             _ => expected.others = true,
         }
     }

@@ -62,9 +62,7 @@ plain_at (Some place.Top) = 1
 plain_at (Some place.Bottom) = 1
 plain_at (Some place.BeforeLine) = 1
 plain_at (Some place.AfterLine) = 1
-plain_at (Some place.BeforeVar) = 2
-plain_at (Some place.AfterVar) = 2
-plain_at (Some place.BeforeRule) = 2
+plain_at (Some w) = 2
 plain_at None = 9
 
 abbrev pub plain_in_place : Texts → ℕ
@@ -76,6 +74,7 @@ abbrev pub plain_behind : Word → Texts → ℕ
 plain_behind word.Insert fields = plain_in_place fields
 plain_behind word.LineReplace fields = 0
 plain_behind word.LineRemove fields = 0
+plain_behind word.RuleReplace fields = 1
 plain_behind w fields = 9
 
 -- the same of a word and the fields behind it

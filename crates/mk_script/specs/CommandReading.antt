@@ -1,7 +1,7 @@
 -- How the fields of a line are read: which command they are, and what the line says.
 -- Told in docs/ARCHITECTURE.md, "From a script to a text".
 use Rattle.std.specs.Prelude.{ℕ, ◌-◌, true, false, List, [], ◌∷◌, length, take, drop, Option, Some, None, option_map, option_and_then}
-use Rattle.mk_edit_language.specs.Edits.{Place, Bottom, BeforeVar, AfterVar, BeforeRule, Site, Top, AtPlace, BeforeRun, AfterRun, OfRun, NewLine, NewAssign, NewRule, Which, One, Every, Set, Append, Add, Remove, LineChange, Prepend, ReplaceWord, InsertWord, Substitute, SetOperator, ChangeEach, SubstValues, SubstRecipe, SubstRecipes, AddPrereq, RemovePrereq, ByNumber, ByText, Last, At, OfAssign, OfRule, OfRecipe, Edit, ChangeValue, ChangeLine, ChangePrereqs, AddLine, AddRecipe, SetRecipe, RemoveLines, RenameTarget, ExchangeLines, EachLine}
+use Rattle.mk_edit_language.specs.Edits.{Place, Top, Bottom, BeforeVar, AfterVar, AfterLastVar, BeforeRule, AfterRule, Site, AtPlace, BeforeRun, AfterRun, OfRun, OfRuleRun, NewLine, NewAssign, NewRule, Which, One, Every, Set, SetIf, Append, Add, Remove, LineChange, Prepend, ReplaceWord, InsertWord, Substitute, SetOperator, ChangeEach, SubstValues, SubstRecipe, SubstRecipes, AddPrereq, RemovePrereq, ReplacePrereq, ByNumber, ByText, Last, At, OfAssign, OfRule, OfRecipe, CommentOut, Uncomment, Edit, ChangeValue, ChangeLine, ChangePrereqs, AddLine, AddRecipe, SetRecipe, RemoveLines, RenameTarget, ExchangeLines, SwitchLine, EachLine}
 use Rattle.mk_edit_language.specs.declared.edit.Side.TheVariants.{Before, After}
 use Rattle.mk_edit_language.specs.LineRuns.{block_lines}
 use Rattle.mk_history.specs.Machine.{Command, Apply, Undo, Redo, Begin, End, Cancel}
@@ -47,13 +47,20 @@ worded fields = option_and_then (λ p. option_map (λ w. (w, p.1)) (named words 
 
 -- ---- places
 
--- the place of a new line that a word and the fields behind it are; no number stands before
--- `bottom`
+-- the place of a new line that a word and the fields behind it are, if no number stands before it alone
+abbrev pub plain_place : PlaceWord → Texts → Option Place
+plain_place place.Top [] = Some Top
+plain_place place.Bottom [] = Some Bottom
+plain_place place.AfterLastVar (name ∷ []) = Some (AfterLastVar name)
+plain_place w fields = None
+
+-- the place of a new line that a word and the fields behind it are
 abbrev pub place_with : (nth : Option ℕ) → PlaceWord → Texts → Option Place
 place_with nth place.BeforeVar fields = option_map (λ name. BeforeVar nth name) (one fields)
 place_with nth place.AfterVar fields = option_map (λ name. AfterVar nth name) (one fields)
 place_with nth place.BeforeRule fields = option_map (λ t. BeforeRule nth t) (one fields)
-place_with None place.Bottom [] = Some Bottom
+place_with nth place.AfterRule fields = option_map (λ t. AfterRule nth t) (one fields)
+place_with None w fields = plain_place w fields
 place_with nth w fields = None
 
 abbrev pub place_in : (nth : Option ℕ) → Texts → Option Place
@@ -61,14 +68,12 @@ place_in nth fields =
     option_and_then (λ p. option_and_then (λ w. place_with nth w p.1) (named places p.0))
     (front fields)
 
--- the site of whole lines that a word and the fields behind it are; no number stands before `top`
+-- the site of whole lines that a word and the fields behind it are
 abbrev pub site_with : (nth : Option ℕ) → PlaceWord → Texts → Option Site
 site_with nth place.BeforeLine fields =
     option_map (λ old. BeforeRun nth (block_lines old)) (one fields)
 site_with nth place.AfterLine fields =
     option_map (λ old. AfterRun nth (block_lines old)) (one fields)
-site_with None place.Top [] = Some Top
-site_with nth place.Top fields = None
 site_with nth w fields = option_map AtPlace (place_with nth w fields)
 
 abbrev pub site_in : (nth : Option ℕ) → Texts → Option Site
@@ -143,6 +148,10 @@ exchange_lines nth word.LineReplace fields =
     option_map (λ p. ExchangeLines (OfRun nth (block_lines p.0)) (block_lines p.1)) (two fields)
 exchange_lines nth word.LineRemove fields =
     option_map (λ old. ExchangeLines (OfRun nth (block_lines old)) []) (one fields)
+exchange_lines nth word.RuleReplace fields =
+    option_map (λ p. ExchangeLines (OfRuleRun nth p.0) (block_lines p.1)) (two fields)
+exchange_lines nth word.RuleRemove fields =
+    option_map (λ target. ExchangeLines (OfRuleRun nth target) []) (one fields)
 exchange_lines nth w fields = change_line nth w fields
 
 -- an edit of a recipe, by its word and the fields behind it; by another word an exchange of lines
@@ -163,6 +172,19 @@ recipe_edit nth word.RecipeSubst fields =
     option_map (λ p. EachLine (SubstRecipe nth p.0 p.1 p.2)) (three fields)
 recipe_edit nth w fields = exchange_lines nth w fields
 
+-- an edit of the prerequisites of a rule, by its word and the fields behind it; by another word an edit
+-- of a recipe
+abbrev pub prereq_edit : (nth : Option ℕ) → Word → Texts → Option Edit
+prereq_edit nth word.Depend fields =
+    option_map (λ p. ChangePrereqs nth p.0 (AddPrereq false p.1)) (two fields)
+prereq_edit nth word.DependOrder fields =
+    option_map (λ p. ChangePrereqs nth p.0 (AddPrereq true p.1)) (two fields)
+prereq_edit nth word.Undepend fields =
+    option_map (λ p. ChangePrereqs nth p.0 (RemovePrereq p.1)) (two fields)
+prereq_edit nth word.DependReplace fields =
+    option_map (λ p. ChangePrereqs nth p.0 (ReplacePrereq p.1 p.2)) (three fields)
+prereq_edit nth w fields = recipe_edit nth w fields
+
 -- an edit before which no number may stand
 abbrev pub plain_edit : (nth : Option ℕ) → Word → Texts → Option Edit
 plain_edit None word.Rename fields = option_map (λ p. RenameTarget p.0 p.1) (two fields)
@@ -175,23 +197,21 @@ plain_edit nth w fields = None
 -- an edit of one line, or one that may have no number before it
 abbrev pub line_edit : (nth : Option ℕ) → Word → Texts → Option Edit
 line_edit nth word.Unset fields = option_map (λ name. RemoveLines (OfAssign nth name)) (one fields)
+line_edit nth word.CommentOut fields = option_map (λ name. SwitchLine CommentOut nth name) (one fields)
+line_edit nth word.Uncomment fields = option_map (λ name. SwitchLine Uncomment nth name) (one fields)
 line_edit nth word.Assign fields = add_line nth new_assign fields
 line_edit nth word.Rule fields = add_line nth new_rule fields
 line_edit nth word.Unrule fields = option_map (λ t. RemoveLines (OfRule nth t)) (one fields)
-line_edit nth word.Depend fields =
-    option_map (λ p. ChangePrereqs nth p.0 (AddPrereq false p.1)) (two fields)
-line_edit nth word.DependOrder fields =
-    option_map (λ p. ChangePrereqs nth p.0 (AddPrereq true p.1)) (two fields)
-line_edit nth word.Undepend fields =
-    option_map (λ p. ChangePrereqs nth p.0 (RemovePrereq p.1)) (two fields)
 line_edit nth word.Rename fields = plain_edit nth word.Rename fields
 line_edit nth word.ValuesSubst fields = plain_edit nth word.ValuesSubst fields
 line_edit nth word.RecipesSubst fields = plain_edit nth word.RecipesSubst fields
-line_edit nth w fields = recipe_edit nth w fields
+line_edit nth w fields = prereq_edit nth w fields
 
 -- an edit of one line, or of every assignment of a name
 abbrev pub edit_with : Which → Word → Texts → Option Edit
 edit_with which word.Set fields = option_map (λ p. ChangeValue which p.0 (Set p.1)) (two fields)
+edit_with which word.SetIf fields =
+    option_map (λ p. ChangeValue which p.0 (SetIf p.1 p.2)) (three fields)
 edit_with which word.Append fields =
     option_map (λ p. ChangeValue which p.0 (Append p.1)) (two fields)
 edit_with which word.Add fields = option_map (λ p. ChangeValue which p.0 (Add p.1)) (two fields)

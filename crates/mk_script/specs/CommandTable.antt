@@ -2,7 +2,7 @@
 -- Told in docs/EDITS.md, "The script".
 use Rattle.std.specs.Prelude.{◌≡◌, ℕ, Bool, true, false, List, [], ◌∷◌, ◌++◌, map, Option, Some, None, codes}
 use Rattle.mk_class.specs.OperatorTexts.{operator_text}
-use Rattle.mk_edit_language.specs.Edits.{Place, Bottom, BeforeVar, AfterVar, BeforeRule, Site, Top, AtPlace, BeforeRun, AfterRun, OfRun, NewAssign, NewRule, One, Every, ValueChange, Set, Append, Add, Remove, LineChange, Prepend, ReplaceWord, InsertWord, Substitute, SetOperator, EachEdit, ChangeEach, SubstValues, SubstRecipe, SubstRecipes, AddPrereq, RemovePrereq, ByNumber, ByText, Last, At, OfAssign, OfRule, OfRecipe, Edit, ChangeValue, ChangeLine, ChangePrereqs, AddLine, AddRecipe, SetRecipe, RemoveLines, RenameTarget, ExchangeLines, EachLine}
+use Rattle.mk_edit_language.specs.Edits.{Place, Top, Bottom, BeforeVar, AfterVar, AfterLastVar, BeforeRule, AfterRule, Site, AtPlace, BeforeRun, AfterRun, OfRun, OfRuleRun, NewAssign, NewRule, One, Every, ValueChange, Set, SetIf, Append, Add, Remove, LineChange, Prepend, ReplaceWord, InsertWord, Substitute, SetOperator, EachEdit, ChangeEach, SubstValues, SubstRecipe, SubstRecipes, AddPrereq, RemovePrereq, ReplacePrereq, ByNumber, ByText, Last, At, OfAssign, OfRule, OfRecipe, CommentOut, Uncomment, Edit, ChangeValue, ChangeLine, ChangePrereqs, AddLine, AddRecipe, SetRecipe, RemoveLines, RenameTarget, ExchangeLines, SwitchLine, EachLine}
 use Rattle.mk_edit_language.specs.declared.edit.Side.TheVariants.{Before, After}
 use Rattle.mk_edit_language.specs.LineRuns.{block_lines}
 use Rattle.mk_edit_language.specs.NewLines.{rule_separator_text}
@@ -30,17 +30,23 @@ after_nth (Some n) fields = Text (codes "nth") ∷ Number n ∷ fields
 
 -- the words of a place
 abbrev pub place_words : Place → List (List ℕ)
+place_words Top = codes "top" ∷ []
 place_words Bottom = codes "bottom" ∷ []
 place_words (BeforeVar nth name) = codes "before-var" ∷ name ∷ []
 place_words (AfterVar nth name) = codes "after-var" ∷ name ∷ []
+place_words (AfterLastVar name) = codes "after-last-var" ∷ name ∷ []
 place_words (BeforeRule nth target) = codes "before-rule" ∷ target ∷ []
+place_words (AfterRule nth target) = codes "after-rule" ∷ target ∷ []
 
 -- the number of a place, which stands before the command
 abbrev pub nth_of_place : Place → Option ℕ
+nth_of_place Top = None
 nth_of_place Bottom = None
 nth_of_place (BeforeVar nth name) = nth
 nth_of_place (AfterVar nth name) = nth
+nth_of_place (AfterLastVar name) = None
 nth_of_place (BeforeRule nth target) = nth
+nth_of_place (AfterRule nth target) = nth
 
 -- the word for a new prerequisite, order-only or not
 abbrev pub depend_word : (order : Bool) → List ℕ
@@ -50,6 +56,7 @@ depend_word true = codes "depend-order"
 -- the words of a change of a value
 abbrev pub change_words : (name : List ℕ) → ValueChange → List (List ℕ)
 change_words name (Set value) = codes "set" ∷ name ∷ value ∷ []
+change_words name (SetIf old value) = codes "set-if" ∷ name ∷ old ∷ value ∷ []
 change_words name (Append value) = codes "append" ∷ name ∷ value ∷ []
 change_words name (Add word) = codes "add" ∷ name ∷ word ∷ []
 change_words name (Remove word) = codes "drop" ∷ name ∷ word ∷ []
@@ -73,7 +80,6 @@ insert_fields nth site new = after_nth nth (Text (codes "insert") ∷ (site ++ B
 
 -- the fields of an exchange of whole lines
 abbrev pub exchange_fields : Site → (new : List (List ℕ)) → List Content
-exchange_fields Top new = insert_fields None (Text (codes "top") ∷ []) new
 exchange_fields (AtPlace place) new =
     insert_fields (nth_of_place place) (texts (place_words place)) new
 exchange_fields (BeforeRun nth old) new =
@@ -83,11 +89,14 @@ exchange_fields (AfterRun nth old) new =
 exchange_fields (OfRun nth old) [] = after_nth nth (Text (codes "line-remove") ∷ Block old ∷ [])
 exchange_fields (OfRun nth old) (line ∷ lines) =
     after_nth nth (Text (codes "line-replace") ∷ Block old ∷ Block (line ∷ lines) ∷ [])
+exchange_fields (OfRuleRun nth target) [] = after_nth nth (texts (codes "rule-remove" ∷ target ∷ []))
+exchange_fields (OfRuleRun nth target) (line ∷ lines) =
+    after_nth nth (Text (codes "rule-replace") ∷ Text target ∷ Block (line ∷ lines) ∷ [])
 
 -- the fields of an edit of several lines; no command puts a word beside another one in each value, so that
 -- has fields that no line has: an insert without a new line
 abbrev pub each_fields : EachEdit → List Content
-each_fields (ChangeEach name (InsertWord side word new)) = exchange_fields Top []
+each_fields (ChangeEach name (InsertWord side word new)) = exchange_fields (AtPlace Top) []
 each_fields (ChangeEach name change) = texts (codes "all" ∷ line_change_words name change)
 each_fields (SubstValues from to) = texts (codes "values-subst" ∷ from ∷ to ∷ [])
 each_fields (SubstRecipe nth target from to) =
@@ -109,6 +118,10 @@ command_fields (Apply (AddLine place (NewAssign name flavor value))) =
     (texts (codes "assign" ∷ (place_words place ++ name ∷ operator_text flavor ∷ value ∷ [])))
 command_fields (Apply (RemoveLines (OfAssign nth name))) =
     after_nth nth (texts (codes "unset" ∷ name ∷ []))
+command_fields (Apply (SwitchLine CommentOut nth name)) =
+    after_nth nth (texts (codes "comment-out" ∷ name ∷ []))
+command_fields (Apply (SwitchLine Uncomment nth name)) =
+    after_nth nth (texts (codes "uncomment" ∷ name ∷ []))
 command_fields (Apply (AddLine place (NewRule targets separator prereqs))) =
     after_nth (nth_of_place place)
     (texts
@@ -119,6 +132,8 @@ command_fields (Apply (ChangePrereqs nth target (AddPrereq order word))) =
     after_nth nth (texts (depend_word order ∷ target ∷ word ∷ []))
 command_fields (Apply (ChangePrereqs nth target (RemovePrereq word))) =
     after_nth nth (texts (codes "undepend" ∷ target ∷ word ∷ []))
+command_fields (Apply (ChangePrereqs nth target (ReplacePrereq old new))) =
+    after_nth nth (texts (codes "depend-replace" ∷ target ∷ old ∷ new ∷ []))
 command_fields (Apply (AddRecipe nth target Last line)) =
     after_nth nth (texts (codes "recipe" ∷ target ∷ line ∷ []))
 command_fields (Apply (AddRecipe nth target (At n) line)) =

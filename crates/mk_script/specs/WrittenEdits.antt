@@ -6,7 +6,7 @@ use Rattle.std.specs.Str.{bytes_eq}
 use Rattle.mk_lines.specs.Bytes.{is_blank_byte}
 use Rattle.mk_lines.specs.Lists.{concat}
 use Rattle.mk_lines.specs.Spacing.{spaced_words}
-use Rattle.mk_edit_language.specs.Edits.{OfRun, LineChange, InsertWord, ChangeEach, Edit, ExchangeLines, EachLine}
+use Rattle.mk_edit_language.specs.Edits.{OfRun, OfRuleRun, LineChange, InsertWord, ChangeEach, Edit, ExchangeLines, EachLine}
 use Rattle.mk_history.specs.Machine.{Apply}
 use Rattle.mk_script.specs.CommandTable.{Content, Text, Number, Block, command_fields}
 use Rattle.mk_script.specs.Fields.{Bare, quoted}
@@ -110,6 +110,7 @@ inserts_word change = false
 -- in each value
 abbrev pub has_no_command : Edit → Bool
 has_no_command (ExchangeLines (OfRun nth old) new) = false
+has_no_command (ExchangeLines (OfRuleRun nth target) new) = false
 has_no_command (ExchangeLines site []) = true
 has_no_command (EachLine (ChangeEach name change)) = inserts_word change
 has_no_command e = false

@@ -5,7 +5,7 @@ use Rattle.std.specs.Borrow.{Bor}
 use Rattle.std.specs.List.{AllByRecursion}
 use Rattle.mk_lines.specs.Lists.{concat}
 use Rattle.mk_lines.specs.Spacing.{spaced_words}
-use Rattle.mk_edit_language.specs.Edits.{OfRecipe, Site, Top, AtPlace, BeforeRun, AfterRun, OfRun, Edit, AddRecipe, SetRecipe, RemoveLines}
+use Rattle.mk_edit_language.specs.Edits.{OfRecipe, Site, AtPlace, BeforeRun, AfterRun, OfRun, OfRuleRun, Edit, AddRecipe, SetRecipe, RemoveLines}
 use Rattle.mk_script.specs.Blocks.{is_word}
 use Rattle.mk_script.specs.CommandTable.{Content, Text, Block, texts, after_nth, nth_of_place, place_words}
 use Rattle.mk_script.specs.ScriptLaws.{CanBeWritten}
@@ -26,7 +26,6 @@ is_of_recipe e = false
 
 -- the fields of an exchange of lines, up to the new lines
 abbrev pub site_fields : Site → List Content
-site_fields Top = texts (codes "insert" ∷ codes "top" ∷ [])
 site_fields (AtPlace place) =
     after_nth (nth_of_place place) (texts (codes "insert" ∷ place_words place))
 site_fields (BeforeRun nth old) =
@@ -34,6 +33,7 @@ site_fields (BeforeRun nth old) =
 site_fields (AfterRun nth old) =
     after_nth nth (Text (codes "insert") ∷ Text (codes "after-line") ∷ Block old ∷ [])
 site_fields (OfRun nth old) = after_nth nth (Text (codes "line-replace") ∷ Block old ∷ [])
+site_fields (OfRuleRun nth target) = after_nth nth (texts (codes "rule-replace" ∷ target ∷ []))
 
 -- a block that stands below its line ends with a word that none of its lines is
 abbrev pub HasFreeWord : Content → Type 0

@@ -151,6 +151,7 @@ fn plain_behind(word: Word, fields: &[Field<'_>]) -> usize
     match word {
         Word::Insert => plain_in_place(fields),
         Word::LineReplace | Word::LineRemove => 0,
+        Word::RuleReplace => 1,
         _ => MOST_FIELDS,
     }
 }
@@ -174,7 +175,7 @@ fn plain_at(place: Option<PlaceWord>) -> usize
     match place {
         Some(PlaceWord::Top | PlaceWord::Bottom | PlaceWord::BeforeLine | PlaceWord::AfterLine) =>
             1,
-        Some(PlaceWord::BeforeVar | PlaceWord::AfterVar | PlaceWord::BeforeRule) => 2,
+        Some(_) => 2,
         None => MOST_FIELDS,
     }
 }

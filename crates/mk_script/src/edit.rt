@@ -6,7 +6,7 @@ ghost use Rattle.std.specs.Prelude.{◌≡◌, option_map};
 ghost use Rattle.mk_edit_language.specs.Edits as edits;
 ghost use Rattle.mk_edit_language.specs.EditViews.{edit_of, line_change_of, place_of, site_of, value_change_of};
 ghost use Rattle.mk_script.specs.SeenFields.{field_texts};
-ghost use Rattle.mk_script.specs.CommandReading.{add_line, before_last, change_each, change_line, edit_with, exchange_lines, insert_lines, last_fields, line_change, line_edit, new_assign, new_rule, numbered, place_in, place_with, plain_edit, recipe_edit, site_in, site_with, three, two};
+ghost use Rattle.mk_script.specs.CommandReading.{add_line, before_last, change_each, change_line, edit_with, exchange_lines, insert_lines, last_fields, line_change, line_edit, new_assign, new_rule, numbered, place_in, place_with, plain_edit, plain_place, prereq_edit, recipe_edit, site_in, site_with, three, two};
 ghost use Rattle.mk_script.specs.ReaderAnswers.{IsRead, copied_numbered, copied_three, copied_two, which_of};
 
 use crate::fault::LineFault;
@@ -42,7 +42,7 @@ fn make_place<A: Allocator + Copy>(
     }
 }
 
-// The place of a new line that a word and the fields behind it are. No number may stand before `bottom`.
+// The place of a new line that a word and the fields behind it are.
 fn place_with<A: Allocator + Copy>(
     alloc: A,
     nth: Option<u32>,
@@ -52,10 +52,6 @@ fn place_with<A: Allocator + Copy>(
     ensures { IsRead place_of (place_with nth word (field_texts fields.now)) result }
 {
     match word {
-        PlaceWord::Bottom => match (nth, fields) {
-            (None, []) => Ok(Place::Bottom),
-            _ => Err(LineFault::NotACommand),
-        },
         PlaceWord::BeforeVar => {
             let name = one(fields)?.to_vec(alloc)?;
             Ok(Place::BeforeVar { nth, name })
@@ -68,9 +64,33 @@ fn place_with<A: Allocator + Copy>(
             let target = one(fields)?.to_vec(alloc)?;
             Ok(Place::BeforeRule { nth, target })
         }
-        PlaceWord::Top | PlaceWord::BeforeLine | PlaceWord::AfterLine => {
-            Err(LineFault::NotACommand)
+        PlaceWord::AfterRule => {
+            let target = one(fields)?.to_vec(alloc)?;
+            Ok(Place::AfterRule { nth, target })
         }
+        _ => match nth {
+            None => plain_place(alloc, word, fields),
+            Some(_) => Err(LineFault::NotACommand),
+        },
+    }
+}
+
+// The same of a place before which no number may stand.
+fn plain_place<A: Allocator + Copy>(
+    alloc: A,
+    word: PlaceWord,
+    fields: &[Field<'_>],
+) -> Result<Place<A>, LineFault>
+    ensures { IsRead place_of (plain_place word (field_texts fields.now)) result }
+{
+    match (word, fields) {
+        (PlaceWord::Top, []) => Ok(Place::Top),
+        (PlaceWord::Bottom, []) => Ok(Place::Bottom),
+        (PlaceWord::AfterLastVar, [name]) => {
+            let name = name.to_vec(alloc)?;
+            Ok(Place::AfterLastVar { name })
+        }
+        _ => Err(LineFault::NotACommand),
     }
 }
 
@@ -89,7 +109,7 @@ fn make_site<A: Allocator + Copy>(
     }
 }
 
-// The site of whole lines that a word and the fields behind it are. No number may stand before `top`.
+// The site of whole lines that a word and the fields behind it are.
 fn site_with<A: Allocator + Copy>(
     alloc: A,
     nth: Option<u32>,
@@ -99,10 +119,6 @@ fn site_with<A: Allocator + Copy>(
     ensures { IsRead site_of (site_with nth word (field_texts fields.now)) result }
 {
     match word {
-        PlaceWord::Top => match (nth, fields) {
-            (None, []) => Ok(Site::Top),
-            _ => Err(LineFault::NotACommand),
-        },
         PlaceWord::BeforeLine => {
             let old = one(fields)?.to_vec(alloc)?;
             Ok(Site::BeforeLines { nth, old })
@@ -183,6 +199,10 @@ pub(crate) fn make_edit<A: Allocator + Copy>(
             let (name, value) = two_copied(alloc, fields)?;
             Ok(changing(which, name, ValueChange::Set(value)))
         }
+        Word::SetIf => {
+            let (name, old, value) = three_copied(alloc, fields)?;
+            Ok(changing(which, name, ValueChange::SetIf { old, value }))
+        }
         Word::Append => {
             let (name, value) = two_copied(alloc, fields)?;
             Ok(changing(which, name, ValueChange::Append(value)))
@@ -213,6 +233,12 @@ fn changing<A: Allocator>(which: Which, name: Vec<u8, A>, change: ValueChange<A>
     };
     match change {
         ValueChange::Set(value) => Edit::SetValue { nth, name, value },
+        ValueChange::SetIf { old, value } => Edit::SetValueIf {
+            nth,
+            name,
+            old,
+            value,
+        },
         ValueChange::Append(value) => Edit::AppendValue { nth, name, value },
         ValueChange::Add(word) => Edit::AddWord { nth, name, word },
         ValueChange::Remove(word) => Edit::RemoveWord { nth, name, word },
@@ -234,22 +260,24 @@ fn make_line_edit<A: Allocator + Copy>(
             let name = one(fields)?.to_vec(alloc)?;
             Ok(Edit::RemoveAssign { nth, name })
         }
+        Word::CommentOut => {
+            let name = one(fields)?.to_vec(alloc)?;
+            Ok(Edit::CommentOut { nth, name })
+        }
+        Word::Uncomment => {
+            let name = one(fields)?.to_vec(alloc)?;
+            Ok(Edit::Uncomment { nth, name })
+        }
         Word::Assign => make_assign(alloc, nth, fields),
         Word::Rule => make_rule(alloc, nth, fields),
         Word::Unrule => {
             let target = one(fields)?.to_vec(alloc)?;
             Ok(Edit::RemoveRule { nth, target })
         }
-        Word::Depend => make_depend(alloc, false, nth, fields),
-        Word::DependOrder => make_depend(alloc, true, nth, fields),
-        Word::Undepend => {
-            let (target, word) = two_copied(alloc, fields)?;
-            Ok(Edit::RemovePrereq { nth, target, word })
-        }
         Word::Rename | Word::ValuesSubst | Word::RecipesSubst => {
             make_plain_edit(alloc, nth, word, fields)
         }
-        _ => make_recipe_edit(alloc, nth, word, fields),
+        _ => make_prereq_edit(alloc, nth, word, fields),
     }
 }
 
@@ -326,6 +354,36 @@ fn make_rule<A: Allocator + Copy>(
         separator,
         prereqs,
     })
+}
+
+// An edit of the prerequisites of a rule; by another word one of a recipe.
+#[tactic(auto, using(crate::proofs::on_commands::TableLemmas::is_some_mapped))]
+fn make_prereq_edit<A: Allocator + Copy>(
+    alloc: A,
+    nth: Option<u32>,
+    word: Word,
+    fields: &[Field<'_>],
+) -> Result<Edit<A>, LineFault>
+    ensures { IsRead edit_of (prereq_edit nth word (field_texts fields.now)) result }
+{
+    match word {
+        Word::Depend => make_depend(alloc, false, nth, fields),
+        Word::DependOrder => make_depend(alloc, true, nth, fields),
+        Word::Undepend => {
+            let (target, word) = two_copied(alloc, fields)?;
+            Ok(Edit::RemovePrereq { nth, target, word })
+        }
+        Word::DependReplace => {
+            let (target, old, new) = three_copied(alloc, fields)?;
+            Ok(Edit::ReplacePrereq {
+                nth,
+                target,
+                old,
+                new,
+            })
+        }
+        _ => make_recipe_edit(alloc, nth, word, fields),
+    }
 }
 
 // `depend TARGET WORD` and `depend-order TARGET WORD`.
@@ -444,17 +502,25 @@ fn make_exchange<A: Allocator + Copy>(
         Word::Insert => make_insert(alloc, nth, fields),
         Word::LineReplace => {
             let (old, block) = two_copied(alloc, fields)?;
-            Ok(Edit::ExchangeLines {
-                site: Site::OfLines { nth, old },
-                block: Some(block),
-            })
+            let site = Site::OfLines { nth, old };
+            let block = Some(block);
+            Ok(Edit::ExchangeLines { site, block })
         }
         Word::LineRemove => {
             let old = one(fields)?.to_vec(alloc)?;
-            Ok(Edit::ExchangeLines {
-                site: Site::OfLines { nth, old },
-                block: None,
-            })
+            let site = Site::OfLines { nth, old };
+            Ok(Edit::ExchangeLines { site, block: None })
+        }
+        Word::RuleReplace => {
+            let (target, block) = two_copied(alloc, fields)?;
+            let site = Site::OfRule { nth, target };
+            let block = Some(block);
+            Ok(Edit::ExchangeLines { site, block })
+        }
+        Word::RuleRemove => {
+            let target = one(fields)?.to_vec(alloc)?;
+            let site = Site::OfRule { nth, target };
+            Ok(Edit::ExchangeLines { site, block: None })
         }
         _ => make_change_line(alloc, nth, word, fields),
     }

@@ -47,10 +47,8 @@ pub enum MistakeCause {
     NotAfterNth,
     /// This word of a command may not stand behind `all`.
     NotAfterAll,
-    /// The place is `top`, and `nth` stands before the command.
-    NthTop,
-    /// The place is `bottom`, and `nth` stands before the command.
-    NthBottom,
+    /// `nth` stands before the command, and no several lines could be meant by its place.
+    NthPlace,
     /// The line above is no edit without `try`, and no `or`. Or there is none.
     StrayOr,
     /// No line below is the word of this block.
@@ -140,12 +138,14 @@ fn after_field<'a>(name: &'static str, text: &'a [u8]) -> Result<&'a [u8], Fault
 fn after_place(is_numbered: bool, text: &[u8]) -> Result<&[u8], Fault> {
     let (word, rest) = field_at("PLACE", text)?;
     match place_word(word) {
-        Some(PlaceWord::Bottom) if is_numbered => {
-            Err(Fault::at_field(text, MistakeCause::NthBottom))
+        Some(PlaceWord::Top | PlaceWord::Bottom | PlaceWord::AfterLastVar) if is_numbered => {
+            Err(Fault::at_field(text, MistakeCause::NthPlace))
         }
-        Some(PlaceWord::Bottom) => Ok(rest),
-        Some(PlaceWord::BeforeVar | PlaceWord::AfterVar) => after_field("NAME", rest),
-        Some(PlaceWord::BeforeRule) => after_field("TARGET", rest),
+        Some(PlaceWord::Top | PlaceWord::Bottom) => Ok(rest),
+        Some(PlaceWord::BeforeVar | PlaceWord::AfterVar | PlaceWord::AfterLastVar) => {
+            after_field("NAME", rest)
+        }
+        Some(PlaceWord::BeforeRule | PlaceWord::AfterRule) => after_field("TARGET", rest),
         _ => Err(Fault::at_field(text, MistakeCause::UnknownPlace)),
     }
 }
@@ -155,8 +155,6 @@ fn after_site(is_numbered: bool, text: &[u8]) -> Result<&[u8], Fault> {
     let (word, rest) = field_at("PLACE", text)?;
     match place_word(word) {
         None => Err(Fault::at_field(text, MistakeCause::UnknownSite)),
-        Some(PlaceWord::Top) if is_numbered => Err(Fault::at_field(text, MistakeCause::NthTop)),
-        Some(PlaceWord::Top) => Ok(rest),
         Some(PlaceWord::BeforeLine | PlaceWord::AfterLine) => after_field("OLD", rest),
         Some(_) => after_place(is_numbered, text),
     }

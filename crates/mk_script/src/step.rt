@@ -57,13 +57,11 @@ impl<A: Allocator + Copy> Step<A> {
             ≡ chain_of (numbered_edit edits.0) (map numbered_edit edits.1.items)) }
     {
         match self {
-            Step::Alone(
-                NumberedCommand {
-                    line,
-                    command: Command::Apply(edit),
-                },
-            ) => Some((NumberedEdit { line, edit }, Vec::new(alloc))),
-            Step::Alone(_) | Step::Try(_) => None,
+            Step::Alone(NumberedCommand { line, command }) => match command {
+                Command::Apply(edit) => Some((NumberedEdit { line, edit }, Vec::new(alloc))),
+                _ => None,
+            },
+            Step::Try(_tried) => None,
             Step::Chain(Chain { first, others }) => Some((first, others)),
         }
     }

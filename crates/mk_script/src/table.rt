@@ -31,6 +31,7 @@ pub enum CommandKind {
 #[derive(Clone, Copy, Debug)]
 pub(crate) enum Word {
     Set,
+    SetIf,
     Append,
     Add,
     Drop,
@@ -42,12 +43,15 @@ pub(crate) enum Word {
     Operator,
     ValuesSubst,
     Unset,
+    CommentOut,
+    Uncomment,
     Assign,
     Rule,
     Unrule,
     Depend,
     DependOrder,
     Undepend,
+    DependReplace,
     Recipe,
     RecipeInsert,
     RecipeSet,
@@ -59,6 +63,8 @@ pub(crate) enum Word {
     Insert,
     LineReplace,
     LineRemove,
+    RuleReplace,
+    RuleRemove,
     Rename,
     Nth,
     All,
@@ -91,8 +97,9 @@ impl CommandForm {
 pub(crate) type Row = (&'static str, CommandKind, Word);
 
 /// All commands of a script, and the words that may stand before one.
-pub(crate) const COMMANDS: [(&str, CommandKind, Word); 39] = [
+pub(crate) const COMMANDS: [(&str, CommandKind, Word); 45] = [
     ("set NAME VALUE", ValueEdit, Word::Set),
+    ("set-if NAME OLD VALUE", ValueEdit, Word::SetIf),
     ("append NAME VALUE", ValueEdit, Word::Append),
     ("add NAME WORD", ValueEdit, Word::Add),
     ("drop NAME WORD", ValueEdit, Word::Drop),
@@ -104,12 +111,19 @@ pub(crate) const COMMANDS: [(&str, CommandKind, Word); 39] = [
     ("operator NAME OP", ValueEdit, Word::Operator),
     ("values-subst FROM TO", PlainEdit, Word::ValuesSubst),
     ("unset NAME", NumberedEdit, Word::Unset),
+    ("comment-out NAME", NumberedEdit, Word::CommentOut),
+    ("uncomment NAME", NumberedEdit, Word::Uncomment),
     ("assign PLACE NAME OP VALUE", NumberedEdit, Word::Assign),
     ("rule PLACE TARGETS SEP PREREQS", NumberedEdit, Word::Rule),
     ("unrule TARGET", NumberedEdit, Word::Unrule),
     ("depend TARGET WORD", NumberedEdit, Word::Depend),
     ("depend-order TARGET WORD", NumberedEdit, Word::DependOrder),
     ("undepend TARGET WORD", NumberedEdit, Word::Undepend),
+    (
+        "depend-replace TARGET OLD NEW",
+        NumberedEdit,
+        Word::DependReplace,
+    ),
     ("recipe TARGET LINE", NumberedEdit, Word::Recipe),
     (
         "recipe-insert TARGET K LINE",
@@ -133,6 +147,8 @@ pub(crate) const COMMANDS: [(&str, CommandKind, Word); 39] = [
     ("insert PLACE BLOCK", NumberedEdit, Word::Insert),
     ("line-replace OLD BLOCK", NumberedEdit, Word::LineReplace),
     ("line-remove OLD", NumberedEdit, Word::LineRemove),
+    ("rule-replace TARGET BLOCK", NumberedEdit, Word::RuleReplace),
+    ("rule-remove TARGET", NumberedEdit, Word::RuleRemove),
     ("rename OLD NEW", PlainEdit, Word::Rename),
     ("nth N COMMAND", Prefix, Word::Nth),
     ("all COMMAND", Prefix, Word::All),

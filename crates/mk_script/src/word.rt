@@ -7,24 +7,28 @@ use crate::field::Field;
 use mk_class::Flavor;
 use mk_edit_language::RuleSeparator;
 
-/// The first words of places. At the top and beside other lines only whole lines go.
+/// The first words of places. Beside lines that are found by their text only whole lines go.
 #[derive(Clone, Copy, Debug)]
 pub(crate) enum PlaceWord {
     Top,
     Bottom,
     BeforeVar,
     AfterVar,
+    AfterLastVar,
     BeforeRule,
+    AfterRule,
     BeforeLine,
     AfterLine,
 }
 
-const PLACES: [(PlaceWord, &[u8]); 7] = [
+const PLACES: [(PlaceWord, &[u8]); 9] = [
     (PlaceWord::Top, b"top"),
     (PlaceWord::Bottom, b"bottom"),
     (PlaceWord::BeforeVar, b"before-var"),
     (PlaceWord::AfterVar, b"after-var"),
+    (PlaceWord::AfterLastVar, b"after-last-var"),
     (PlaceWord::BeforeRule, b"before-rule"),
+    (PlaceWord::AfterRule, b"after-rule"),
     (PlaceWord::BeforeLine, b"before-line"),
     (PlaceWord::AfterLine, b"after-line"),
 ];

@@ -112,7 +112,7 @@ fn lacks_lines<B: Allocator>(site: &Site<B>, block: &Option<Vec<u8, B>>) -> bool
     ensures { result ≡ has_no_command (ExchangeLines (site_of site.now) (lines_of block.now)) }
 {
     match (site, block) {
-        (_, Some(_)) | (Site::OfLines { .. }, None) => false,
+        (_, Some(_)) | (Site::OfLines { .. } | Site::OfRule { .. }, None) => false,
         _ => true,
     }
 }
@@ -128,6 +128,12 @@ fn command_text<A: Allocator + Copy, B: Allocator>(
 {
     match edit {
         Edit::SetValue { nth, name, value } => said(alloc, *nth, b"set", &[name, value]),
+        Edit::SetValueIf {
+            nth,
+            name,
+            old,
+            value,
+        } => said(alloc, *nth, b"set-if", &[name, old, value]),
         Edit::AppendValue { nth, name, value } => said(alloc, *nth, b"append", &[name, value]),
         Edit::AddWord { nth, name, word } => said(alloc, *nth, b"add", &[name, word]),
         Edit::RemoveWord { nth, name, word } => said(alloc, *nth, b"drop", &[name, word]),
@@ -140,6 +146,8 @@ fn command_text<A: Allocator + Copy, B: Allocator>(
             value,
         } => said_at(alloc, b"assign", place, &[name, operator(*flavor), value]),
         Edit::RemoveAssign { nth, name } => said(alloc, *nth, b"unset", &[name]),
+        Edit::CommentOut { nth, name } => said(alloc, *nth, b"comment-out", &[name]),
+        Edit::Uncomment { nth, name } => said(alloc, *nth, b"uncomment", &[name]),
         Edit::AddRule {
             place,
             targets,
@@ -161,6 +169,12 @@ fn command_text<A: Allocator + Copy, B: Allocator>(
         Edit::RemovePrereq { nth, target, word } => {
             said(alloc, *nth, b"undepend", &[target, word])
         }
+        Edit::ReplacePrereq {
+            nth,
+            target,
+            old,
+            new,
+        } => said(alloc, *nth, b"depend-replace", &[target, old, new]),
         Edit::RenameTarget { from, to } => said(alloc, None, b"rename", &[from, to]),
         Edit::ExchangeLines { site, block } => exchange_text(alloc, site, block),
         Edit::EachLine(each) => each_text(alloc, each),
@@ -179,6 +193,9 @@ fn change_text<A: Allocator + Copy, B: Allocator>(
 {
     match change {
         ValueChange::Set(value) => said(alloc, None, b"all", &[b"set", name, value]),
+        ValueChange::SetIf { old, value } => {
+            said(alloc, None, b"all", &[b"set-if", name, old, value])
+        }
         ValueChange::Append(value) => said(alloc, None, b"all", &[b"append", name, value]),
         ValueChange::Add(word) => said(alloc, None, b"all", &[b"add", name, word]),
         ValueChange::Remove(word) => said(alloc, None, b"all", &[b"drop", name, word]),
@@ -276,6 +293,7 @@ fn exchange_text<A: Allocator + Copy, B: Allocator>(
     match (site, block) {
         (_, Some(block)) => block_text(alloc, site, block),
         (Site::OfLines { nth, old }, None) => said_with(alloc, *nth, b"line-remove", &[], old),
+        (Site::OfRule { nth, target }, None) => said(alloc, *nth, b"rule-remove", &[target]),
         _ => unreachable!(),
     }
 }
@@ -301,7 +319,6 @@ fn site_text<A: Allocator + Copy, B: Allocator>(
     ensures { IfOk result (λ text. IsTextOf (site_fields (site_of site.now)) text) }
 {
     match site {
-        Site::Top => said(alloc, None, b"insert", &[b"top"]),
         Site::AtPlace(place) => said_at(alloc, b"insert", place, &[]),
         Site::BeforeLines { nth, old } => {
             said_with(alloc, *nth, b"insert", &[b"before-line"], old)
@@ -310,6 +327,7 @@ fn site_text<A: Allocator + Copy, B: Allocator>(
             said_with(alloc, *nth, b"insert", &[b"after-line"], old)
         }
         Site::OfLines { nth, old } => said_with(alloc, *nth, b"line-replace", &[], old),
+        Site::OfRule { nth, target } => said(alloc, *nth, b"rule-replace", &[target]),
     }
 }
 
@@ -391,6 +409,7 @@ fn said_at<A: Allocator + Copy, B: Allocator>(
         (texts (word.now ∷ (place_words (place_of place.now) ++ fields_in fields.now)))) text) }
 {
     match place {
+        Place::Top => said_after(alloc, None, word, &[b"top"], fields),
         Place::Bottom => said_after(alloc, None, word, &[b"bottom"], fields),
         Place::BeforeVar { nth, name } => {
             said_after(alloc, *nth, word, &[b"before-var", name], fields)
@@ -398,8 +417,14 @@ fn said_at<A: Allocator + Copy, B: Allocator>(
         Place::AfterVar { nth, name } => {
             said_after(alloc, *nth, word, &[b"after-var", name], fields)
         }
+        Place::AfterLastVar { name } => {
+            said_after(alloc, None, word, &[b"after-last-var", name], fields)
+        }
         Place::BeforeRule { nth, target } => {
             said_after(alloc, *nth, word, &[b"before-rule", target], fields)
+        }
+        Place::AfterRule { nth, target } => {
+            said_after(alloc, *nth, word, &[b"after-rule", target], fields)
         }
     }
 }

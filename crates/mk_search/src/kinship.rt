@@ -20,11 +20,13 @@ pub(crate) fn kinship(old: SeenLine<'_>, new: SeenLine<'_>) -> u32 {
     if old.is_blank() || new.is_blank() {
         return 0;
     }
-    if are_namesakes(old, new) {
+    if are_namesakes(old, new) || are_switched(old, new) {
         return NAMESAKES;
     }
-    if !are_of_one_kind(old.line.class(), new.line.class()) {
-        return switched(old, new);
+    // A line that assigns one variable does not become one that assigns another.
+    let have_names = old.name().is_some() && new.name().is_some();
+    if have_names || !are_of_one_kind(old.line.class(), new.line.class()) {
+        return 0;
     }
     likeness(without_end(old.bytes()), without_end(new.bytes()))
 }
@@ -54,12 +56,12 @@ fn are_namesakes(old: SeenLine<'_>, new: SeenLine<'_>) -> bool {
     }
 }
 
-/// Whether one line may become another by an edit that finds it by a name: both assign the same variable, or
-/// are lines of rules for the same target, or recipe lines of one rule.
+/// Whether one line may become another by an edit that finds it by a name: both assign the same variable, one
+/// of them in a comment perhaps, or are lines of rules for the same target, or recipe lines.
 pub(crate) fn have_one_name(old: SeenLine<'_>, new: SeenLine<'_>) -> bool {
     match (old.recipe_target(), new.recipe_target()) {
         (Some(_), Some(_)) => true,
-        _ => are_namesakes(old, new),
+        _ => are_namesakes(old, new) || are_switched(old, new),
     }
 }
 
@@ -76,23 +78,21 @@ fn are_of_one_kind(old: Class, new: Class) -> bool {
     }
 }
 
-// What it counts if one of two lines is the other as a comment.
-fn switched(old: SeenLine<'_>, new: SeenLine<'_>) -> u32 {
-    let old = uncommented(old.bytes());
-    let new = uncommented(new.bytes());
-    if old == new { NAMESAKES } else { 0 }
+// Whether one of two lines assigns a variable, and the other is that line with the sign of a comment before it.
+fn are_switched(old: SeenLine<'_>, new: SeenLine<'_>) -> bool {
+    match (old.name(), new.name()) {
+        (Some(_), None) => uncommented(new.bytes()) == old.bytes(),
+        (None, Some(_)) => uncommented(old.bytes()).trim_ascii_start() == new.bytes(),
+        _ => false,
+    }
 }
 
-// A line without the sign of a comment at its front, and the blanks around that.
-fn uncommented(bytes: &[u8]) -> &[u8] {
-    let mut rest = bytes;
-    for _ in 0..bytes.len() {
-        match rest {
-            [b'#' | b' ' | b'\t', after @ ..] => rest = after,
-            _ => return rest,
-        }
+// A line without the sign of a comment at its front; nothing if it has none.
+fn uncommented(line: &[u8]) -> &[u8] {
+    match line {
+        [b'#', text @ ..] => text,
+        _ => &[],
     }
-    rest
 }
 
 // How much two texts agree at their front and at their end: nothing if that is less than half of them.

@@ -182,15 +182,22 @@ fn tries_recipe_lines(bench: &mut Bench, spot: Spot<'_>) -> Result<bool, DeriveE
     bench.tries(edits.as_slice(), spot.aim())
 }
 
-// Tries to put in the new lines of a shift beside a line that has a name.
+// Tries to put in the new lines of a shift beside a line that has a name, or behind a rule.
 fn tries_beside_name(bench: &mut Bench, spot: Spot<'_>, shift: Step) -> Result<bool, DeriveError> {
     let alloc = bench.alloc();
     let lines = spot.new.between(shift.new_start, shift.new_end);
-    if let Some(above) = spot.new.line_before(shift.new_start)
-        && let Some(name) = above.name()
-        && tries_at_place(bench, spot, Place::after_var(alloc, name)?, lines)?
-    {
-        return Ok(true);
+    if let Some(above) = spot.new.line_before(shift.new_start) {
+        if let Some(name) = above.name()
+            && (tries_at_place(bench, spot, Place::after_var(alloc, name)?, lines)?
+                || tries_at_place(bench, spot, Place::after_last_var(alloc, name)?, lines)?)
+        {
+            return Ok(true);
+        }
+        if let Some(target) = above.target().or(above.recipe_target())
+            && tries_at_place(bench, spot, Place::after_rule(alloc, target)?, lines)?
+        {
+            return Ok(true);
+        }
     }
     let Some(below) = spot.old.line(shift.old_end) else {
         return Ok(false);
@@ -227,19 +234,17 @@ fn tries_at_place(
     bench.tries(&[edit], spot.aim())
 }
 
-// Tries to put in the new lines at the start or the end of the file.
+// Tries to put in the new lines at the end or the start of the file.
 fn tries_at_end(bench: &mut Bench, spot: Spot<'_>) -> Result<bool, DeriveError> {
-    let alloc = bench.alloc();
+    let place = if spot.step.new_end == spot.new.len() {
+        Place::Bottom
+    } else if spot.step.new_start == 0 {
+        Place::Top
+    } else {
+        return Ok(false);
+    };
     let lines = spot.new.between(spot.step.new_start, spot.step.new_end);
-    if spot.step.new_end == spot.new.len() {
-        return tries_at_place(bench, spot, Place::Bottom, lines);
-    }
-    if spot.step.new_start == 0 {
-        let block = block_of(alloc, lines)?;
-        let edit = Site::Top.insert(alloc, block.as_slice())?;
-        return bench.tries(&[edit], spot.aim());
-    }
-    Ok(false)
+    tries_at_place(bench, spot, place, lines)
 }
 
 // Tries to put in the new lines of a shift beside some lines by what these say.

@@ -28,8 +28,8 @@ pub(crate) fn tries_value(
     if old.flavor() != new.flavor() {
         return bench.tries(&[Edit::operator(alloc, old.name(), new.flavor())?], aim);
     }
-    let old_words = words(alloc, old.value())?;
-    let new_words = words(alloc, new.value())?;
+    let old_words = listed(alloc, WordTexts::new(old.value()))?;
+    let new_words = listed(alloc, WordTexts::new(new.value()))?;
     let mut pair = ValuePair {
         old,
         new,
@@ -46,7 +46,8 @@ pub(crate) fn tries_value(
             return Ok(true);
         }
     }
-    tries_ends(bench, pair, aim)
+    let edit = Edit::set_if(alloc, old.name(), old.value(), new.value())?;
+    bench.tries(&[edit], aim)
 }
 
 // A value that becomes another one.
@@ -98,30 +99,13 @@ fn tries_words(
     Ok(false)
 }
 
-// Tries to put a text before a value, or behind it.
-fn tries_ends(
-    bench: &mut Bench,
-    pair: ValuePair<'_, '_, '_>,
-    aim: Aim<'_>,
-) -> Result<bool, DeriveError> {
-    let (name, old, new) = (pair.old.name(), pair.old.value(), pair.new.value());
-    let edit = if let Some([b' ', text @ ..]) = new.strip_prefix(old) {
-        Edit::append(bench.alloc(), name, text)?
-    } else if let Some([text @ .., b' ']) = new.strip_suffix(old) {
-        Edit::prepend(bench.alloc(), name, text)?
-    } else {
-        return Ok(false);
-    };
-    bench.tries(&[edit], aim)
-}
-
-// The words of a value.
-fn words(alloc: Global, value: &[u8]) -> Result<Vec<&[u8]>, AllocError> {
-    let mut words = Vec::new(alloc);
-    for word in WordTexts::new(value) {
-        words.push(word)?;
+/// Words as a list.
+pub(crate) fn listed<'a>(alloc: Global, words: WordTexts<'a>) -> Result<Vec<&'a [u8]>, AllocError> {
+    let mut list = Vec::new(alloc);
+    for word in words {
+        list.push(word)?;
     }
-    Ok(words)
+    Ok(list)
 }
 
 // Beside what a new word is put, where it may be put there.

@@ -105,8 +105,17 @@ fn tries_line(bench: &mut Bench, spot: Spot<'_>) -> Result<bool, DeriveError> {
     ) else {
         return Ok(false);
     };
-    if let (Some(old), Some(new)) = (old.line.assignment(), new.line.assignment()) {
-        return tries_value(bench, &old, &new, aim);
+    match (old.line.assignment(), new.line.assignment()) {
+        (Some(old), Some(new)) => return tries_value(bench, &old, &new, aim),
+        (Some(old), None) => {
+            let edit = Edit::comment_out(bench.alloc(), old.name())?;
+            return bench.tries(&[edit], aim);
+        }
+        (None, Some(new)) => {
+            let edit = Edit::uncomment(bench.alloc(), new.name())?;
+            return bench.tries(&[edit], aim);
+        }
+        (None, None) => {}
     }
     if let (Some(old), Some(new)) = (old.line.rule(), new.line.rule()) {
         return tries_prereqs(bench, &old, &new, aim);
@@ -122,8 +131,11 @@ fn tries_gone(bench: &mut Bench, spot: Spot<'_>) -> Result<bool, DeriveError> {
     if let [first, ..] = lines
         && let Some(target) = first.target()
     {
-        edits.push(Edit::unrule(alloc, target)?)?;
-        return bench.tries(edits.as_slice(), spot.aim());
+        let edits = [Edit::unrule(alloc, target)?];
+        return Ok(
+            bench.tries(&edits, spot.aim())?
+                || bench.tries(&[Edit::rule_remove(alloc, target)?], spot.aim())?,
+        );
     }
     for line in lines {
         if let Some(name) = line.name() {

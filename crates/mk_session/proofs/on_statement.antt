@@ -6,6 +6,8 @@ pub mod RecipePlaces
 pub mod ValuesStated
 pub mod LinesStated
 pub mod RulesStated
+pub mod NamedComments
+pub mod CommentsStated
 pub mod NewRulesStated
 pub mod RuleGoesStated
 pub mod ReplacedTexts

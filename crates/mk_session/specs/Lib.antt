@@ -14,5 +14,13 @@ pub mod Groups
 pub mod Calls
 pub mod SessionLaws
 pub mod CallerLaws
+-- Lookups
+pub mod Lookups
+pub mod LookupLaws
+pub mod Indices
 -- What a session does, in bytes and lines alone
 pub mod Statement
+-- # Vocabulary of private contracts
+-- What lookups see
+pub mod ValuesSeen
+pub mod LineCauses

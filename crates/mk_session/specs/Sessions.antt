@@ -9,7 +9,7 @@ use Rattle.mk_edit_language.specs.Edits.{Edit}
 use Rattle.mk_edit_language.specs.Refusals.{spans}
 use Rattle.mk_edit_language.specs.declared.refusal.Refusal.{Refusal}
 use Rattle.mk_edit_language.specs.declared.refusal.Refusal.TheVariants.{NoMemory, Misread, Leans, NothingToUndo, NothingToRedo, GroupOpen, NoGroup}
-use Rattle.mk_edit.specs.Planned.{IsOfWholeLines}
+use Rattle.mk_edit.specs.Planned.{LeansAsRead}
 use Rattle.mk_lines.specs.declared.fault.Fault as fault
 use Rattle.mk_lines.specs.declared.fault.Fault.TheVariants.{TooLong, TooDeep, BadDepth}
 use Rattle.mk_history.specs.Machine as machine
@@ -46,17 +46,17 @@ seen_opened d t = record { shown = shown_opened d t; rereads = 0 }
 
 -- ---- refusals and faults
 
--- a call makes an edit of whole lines
-abbrev EditsWholeLines : Command Edit → Type 0
-EditsWholeLines (Apply e) = IsOfWholeLines e
-EditsWholeLines c = ⊥
+-- a call makes an edit of which the lines below may lean on what its new lines read as
+abbrev MayLeanAsRead : Command Edit → Type 0
+MayLeanAsRead (Apply e) = LeansAsRead e
+MayLeanAsRead c = ⊥
 
 -- An answer to a call is no refusal, or that of an edit for a cause that its new lines decide: that
--- they are misread, or of an edit of whole lines, that the lines below lean on them.
+-- they are misread, or that the lines below lean on what they read as.
 abbrev pub IsUnrefused : Command Edit → Result (Shown (List ℕ)) (machine.Refusal Refusal) → Type 0
 IsUnrefused c a =
     ((new : Shown (List ℕ)) × (a ≡ Ok new))
-    ⊎ ((a ≡ Err (EditRefused Misread)) ⊎ (EditsWholeLines c × (a ≡ Err (EditRefused Leans))))
+    ⊎ ((a ≡ Err (EditRefused Misread)) ⊎ (MayLeanAsRead c × (a ≡ Err (EditRefused Leans))))
 
 -- A refusal of an edit: that of the machine; or NoMemory, if a growth was refused, and the machine
 -- accepts the edit or refuses it for a cause that needs the new lines.

@@ -10,10 +10,10 @@ use Rattle.mk_class.specs.OperatorTexts.{operator_text}
 use Rattle.mk_history.specs.Shown.{Shown, shown_opened, shown_edited, shown_ended}
 use Rattle.mk_edit_language.specs.declared.edit.LineChange.{LineChange}
 use Rattle.mk_edit_language.specs.declared.edit.LineChange.TheVariants.{Prepend, ReplaceWord, InsertWord, Substitute, SetOperator}
-use Rattle.mk_edit_language.specs.declared.edit.Site.TheVariants.{OfLines}
+use Rattle.mk_edit_language.specs.declared.edit.Site.TheVariants.{OfLines, OfRule}
 use Rattle.mk_edit_language.specs.declared.edit.EachEdit.TheVariants.{ChangeEach, SubstValues, SubstRecipe, SubstRecipes}
 use Rattle.mk_edit_language.specs.declared.edit.Edit.{Edit}
-use Rattle.mk_edit_language.specs.declared.edit.Edit.TheVariants.{SetValue, AppendValue, AddWord, RemoveWord, ChangeValues, ChangeLine, AddAssign, RemoveAssign, AddRule, RemoveRule, AddPrereq, RemovePrereq, AddRecipe, SetRecipe, RemoveRecipe, InsertRecipe, SetRecipeByText, RemoveRecipeByText, RenameTarget, ExchangeLines, EachLine}
+use Rattle.mk_edit_language.specs.declared.edit.Edit.TheVariants.{SetValue, SetValueIf, AppendValue, AddWord, RemoveWord, ChangeValues, ChangeLine, AddAssign, RemoveAssign, CommentOut, Uncomment, AddRule, RemoveRule, AddPrereq, RemovePrereq, ReplacePrereq, AddRecipe, SetRecipe, RemoveRecipe, InsertRecipe, SetRecipeByText, RemoveRecipeByText, RenameTarget, ExchangeLines, EachLine}
 use Rattle.mk_edit_language.specs.declared.command.Command.{Command}
 use Rattle.mk_edit_language.specs.declared.command.Command.TheVariants.{Apply, Undo, Redo, Begin, End, Cancel}
 
@@ -48,6 +48,14 @@ Line w s t up ls = (l : List ℕ) × (ls ≡ l ∷ []) × Names w s l × Has t l
 -- one recipe line with a text, somewhere below the line of a rule for the target
 abbrev pub Recipe : (target text : List ℕ) → (above lines : Lines) → Type 0
 Recipe g t up ls = (l : List ℕ) × (ls ≡ l ∷ []) × IsRecipe up l × Has t l × Any (Names g 58) up
+
+-- one line with a word behind a `#`; nothing is said of a word with a blank in it
+abbrev pub Comment : (word : List ℕ) → (above lines : Lines) → Type 0
+Comment w up ls = (a b : List ℕ) × (ls ≡ (a ++ 35 ∷ b) ∷ []) × (All (λ b. 32 < b) w → Has w b)
+
+-- the line of a rule for the target, and lines below it
+abbrev pub Headed : (target : List ℕ) → (above lines : Lines) → Type 0
+Headed g up ls = (l : List ℕ) × (rs : Lines) × (ls ≡ l ∷ rs) × Names g 58 l
 
 -- the line of a rule for the target, and below it recipe lines, lines with a comment, and lines of
 -- blanks and backslashes
@@ -92,6 +100,7 @@ put_in (SetOperator f) = operator_text f
 -- what an edit that is accepted does to the lines of a makefile
 abbrev pub Does : {A : _} → Edit A → (before after : Lines) → Type 0
 Does (SetValue k n v) = Become (Line n.items 61 []) (Line n.items 61 v.items)
+Does (SetValueIf k n o v) = Become (Line n.items 61 []) (Line n.items 61 v.items)
 Does (AppendValue k n v) = Become (Line n.items 61 []) (Line n.items 61 v.items)
 Does (AddWord k n w) = Become (Line n.items 61 []) (Line n.items 61 w.items)
 Does (RemoveWord k n w) = Become (Line n.items 61 []) (Line n.items 61 [])
@@ -103,11 +112,14 @@ Does (EachLine (SubstValues f t)) = Each (λ l m. Has (61 ∷ []) l × Has (61 �
 Does (EachLine (SubstRecipe k g f t)) = λ ls ms. Any (Names g.items 58) ls × Recipes f.items t.items ls ms
 Does (EachLine (SubstRecipes f t)) = Recipes f.items t.items
 Does (AddAssign p n f v) = Become (λ up ls. ls ≡ []) (Line n.items 61 v.items)
+Does (CommentOut k n) = Become (Line n.items 61 []) (Comment n.items)
+Does (Uncomment k n) = Become (Comment n.items) (Line n.items 61 [])
 Does (RemoveAssign k n) = Become (Line n.items 61 []) (λ up ls. ls ≡ [])
 Does (AddRule p gs s ws) = Become (λ up ls. ls ≡ []) (Line gs.items 58 [])
 Does (RemoveRule k g) = Become (Rule g.items) (λ up ls. ls ≡ [])
 Does (AddPrereq o k g w) = Become (Line g.items 58 []) (Line g.items 58 w.items)
 Does (RemovePrereq k g w) = Become (Line g.items 58 []) (Line g.items 58 [])
+Does (ReplacePrereq k g o w) = Become (Line g.items 58 []) (Line g.items 58 w.items)
 Does (AddRecipe k g c) = Become (λ up ls. ls ≡ []) (Recipe g.items c.items)
 Does (SetRecipe k g i c) = Become (Recipe g.items []) (Recipe g.items c.items)
 Does (RemoveRecipe k g i) = Become (Recipe g.items []) (λ up ls. ls ≡ [])
@@ -117,6 +129,8 @@ Does (RemoveRecipeByText k g o) = Become (Recipe g.items o.items) (λ up ls. ls 
 Does (RenameTarget o n) = λ ls ms. All (λ b. 32 < b) o.items → AllZip (Replaces o.items n.items) ls ms
 Does (ExchangeLines (OfLines k o) (Some n)) = Become (Say o.items) (Say n.items)
 Does (ExchangeLines (OfLines k o) None) = Become (Say o.items) (λ up ls. ls ≡ [])
+Does (ExchangeLines (OfRule k g) (Some n)) = Become (Headed g.items) (Say n.items)
+Does (ExchangeLines (OfRule k g) None) = Become (Headed g.items) (λ up ls. ls ≡ [])
 Does (ExchangeLines s (Some n)) = Become (λ up ls. ls ≡ []) (Say n.items)
 Does (ExchangeLines s None) = λ ls ms. ⊥
 

@@ -1,6 +1,7 @@
 //! A session: a makefile that is edited, with undo, redo and groups of edits.
 //!
 //! - [`command`]: the calls of a session as values, which `mk_edit_language` has, done.
+//! - [`lookup`]: the value of a variable and the places of lines, of a document, without a session.
 //! - [`laws`]: what holds for a session over any list of calls.
 //! - [`session`]: the session; its module `edits` has the calls that make one edit each, `group` the call
 //!   that makes edits as one, `dry_run` the one that tells whether they can be made, `finding` those that
@@ -12,6 +13,7 @@
 
 pub mod command;
 pub mod laws;
+pub mod lookup;
 pub mod session;
 
 pub use command::Command;

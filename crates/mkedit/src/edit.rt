@@ -9,14 +9,13 @@ ghost use Rattle.mk_session.specs.Sessions.{IsBadDepth};
 use crate::destination::{Makefile, open_makefile};
 use crate::ending::{BAD_COMMAND_LINE, Effect, End, UNWANTED_CHANGE, ended};
 use crate::exchanged::{tell_script, with_exchanged};
-use crate::input::{open_script, script_name};
+use crate::input::{open_script, script_name, text_of};
 use crate::run::{Run, run_over, run_with_notes};
 use crate::several::edit_each;
 use mk_cli::{EditWords, Input, Report, Summary, script_mistake};
-use mk_fs::{Stream, WithError};
+use mk_fs::Stream;
 use mk_history::history::is_bad_depth;
 use mk_lines::sink::write_all;
-use mk_lines::source::read_all;
 use mk_lines::{StdSink, StdSource};
 use mk_run::{Outcome, Step, read_script, status};
 use std::alloc::Global;
@@ -52,20 +51,8 @@ fn read_steps<'a>(
     if is_bad_depth(words.depth) {
         return Err(End::of(Outcome::BadDepth));
     }
-    let alloc = rt.alloc();
-    let mut device = WithError::new(script);
-    let text = match read_all(alloc, &mut StdSource::new(&mut device)) {
-        Ok(text) => text,
-        Err(fault) => {
-            let name = script_name(&words.script);
-            return Err(
-                End::from(fault)
-                    .with_fault(device.fault(name))
-                    .with_limit(name),
-            );
-        }
-    };
-    match read_script(alloc, &mut StdSource::new(text.as_slice())) {
+    let text = text_of(rt, script, script_name(&words.script))?;
+    match read_script(rt.alloc(), &mut StdSource::new(text.as_slice())) {
         Ok(steps) => Ok(steps),
         Err(outcome) => Err(end_of_script(rt, words, text.as_slice(), outcome)),
     }

@@ -2,8 +2,11 @@
 ghost use Rattle.std.specs.Prelude.{◌≡◌};
 ghost use Rattle.mkedit.specs.Destinations.{input_name, name_of};
 
+use crate::ending::End;
 use mk_cli::{COMMAND_LINES, EditWords, Input, Report, Script};
-use mk_fs::{STANDARD_INPUT, Stream, SystemFault, open};
+use mk_fs::{STANDARD_INPUT, Stream, SystemFault, WithError, open};
+use mk_lines::StdSource;
+use mk_lines::source::read_all;
 use mk_notes::Names;
 
 /// Opens an input to be read.
@@ -31,6 +34,28 @@ pub fn open_script<'s, 'a>(
         Script::From(Input::File(name)) => Ok(Stream::File(open(rt, name)?)),
         Script::From(Input::Standard) => Ok(Stream::Standard(rt.stdin())),
         Script::Lines(lines) => Ok(Stream::Text(lines.as_bytes())),
+    }
+}
+
+/// The text of a stream that is read to its end and has this name.
+///
+/// # Errors
+///
+/// How a run ends that cannot read it.
+pub fn text_of<'a>(
+    rt: &HostRuntime,
+    stream: Stream<'_>,
+    name: &'a str,
+) -> Result<Vec<u8>, End<'a>> {
+    let mut device = WithError::new(stream);
+    let read = read_all(rt.alloc(), &mut StdSource::new(&mut device));
+    match read {
+        Ok(text) => Ok(text),
+        Err(fault) => Err(
+            End::from(fault)
+                .with_fault(device.fault(name))
+                .with_limit(name),
+        ),
     }
 }
 

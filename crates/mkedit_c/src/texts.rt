@@ -12,8 +12,8 @@ ghost use Rattle.mkedit_c.specs.Answers.{number_of};
 
 use mk_diff::diff;
 use mk_escape::TextSink;
-use mk_json::{check_json, recipes_json, rules_json, vars_json};
 use mk_lines::{Fault, StdSource};
+use mk_queries::{check_json, recipes_json, rules_json, vars_json};
 use mk_run::{Outcome, run};
 use mk_tree::Doc;
 use std::alloc::{AllocError, Global};

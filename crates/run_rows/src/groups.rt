@@ -1,6 +1,6 @@
 //! Groups of edits that are one call, and their dry runs.
 
-use crate::sessions::{commands_of, edit_of, executed, text_of};
+use crate::sessions::{edit_of, session_after, text_of};
 use bstr::ByteSlice;
 use mk_lines::Fault;
 use mk_session::{Edit, Refusal, Session};
@@ -16,11 +16,18 @@ pub fn answered(
     edits: &[u8],
     is_dry: bool,
 ) -> Result<Vec<u8>, Fault> {
-    let before = commands_of(case.alloc, case.heap, before)?;
-    let edits = edits_of(case, edits)?;
-    let mut session = Session::open(case.heap, makefile, 100)?;
-    executed(case.alloc, &mut session, &before)?;
-    answer(case, &mut session, &edits, is_dry)
+    let mut session = session_after(case, makefile, before)?;
+    answer_lines(case, &mut session, edits, is_dry)
+}
+
+fn answer_lines<'h>(
+    case: &Case<'h>,
+    session: &mut Session<&'h Heap>,
+    lines: &[u8],
+    is_dry: bool,
+) -> Result<Vec<u8>, Fault> {
+    let edits = edits_of(case, lines)?;
+    answer(case, session, &edits, is_dry)
 }
 
 /// The edits of lines.

@@ -30,6 +30,7 @@ pub fn told(case: &Case<'_>, makefile: &[u8], name: &[u8]) -> Result<Vec<u8>, Fa
         names: true,
         targets: true,
         prerequisites: false,
+        lines: false,
     };
     let doc = document(case.alloc, makefile)?;
     let mut index = Index::new(case.alloc, &doc, scope)?;
@@ -47,12 +48,13 @@ fn count_of(sought: Option<Sought>) -> Option<usize> {
 }
 
 /// Whether an index of what some letters list tells of the variable `A`, the rule `all`, and a rename of
-/// `lib`: `n` lists names, `t` targets, and `p` prerequisites.
+/// `lib`: `n` lists names, `t` targets, `p` prerequisites, and `l` what lines say.
 pub fn tells(case: &Case<'_>, makefile: &[u8], listed: &[u8]) -> Result<Vec<u8>, Fault> {
     let scope = Scope {
         names: listed.contains(&b'n'),
         targets: listed.contains(&b't'),
         prerequisites: listed.contains(&b'p'),
+        lines: listed.contains(&b'l'),
     };
     let doc = document(case.alloc, makefile)?;
     let mut index = Index::new(case.alloc, &doc, scope)?;
@@ -89,6 +91,7 @@ fn is_known(alloc: Global, indexed: &mut IndexedDoc, line: &[u8]) -> Result<bool
 /// Edits besides renames are expected.
 const OTHERS: Expected = Expected {
     renames: false,
+    lines: false,
     others: true,
 };
 
@@ -103,6 +106,7 @@ pub fn known(case: &Case<'_>, makefile: &[u8], edits: &[u8]) -> Result<Vec<u8>, 
     if expects {
         indexed.expect_edits(Expected {
             renames: true,
+            lines: false,
             others: false,
         });
     }
@@ -182,6 +186,14 @@ pub fn first_growths(
 /// the growth of the copy of a name for each of the two: it makes an index and asks it.
 pub fn found_lines(case: &Case<'_>, makefile: &[u8], name: &[u8]) -> Result<Vec<u8>, Fault> {
     let mut session = Session::open(case.heap, makefile, 100)?;
+    found_by(case, &mut session, name)
+}
+
+fn found_by<'h>(
+    case: &Case<'h>,
+    session: &mut Session<&'h Heap>,
+    name: &[u8],
+) -> Result<Vec<u8>, Fault> {
     session.expect_edits(OTHERS);
     case.heap.refuse_none();
     let assignment = session.find_assignment(None, name);

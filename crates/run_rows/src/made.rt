@@ -55,13 +55,14 @@ fn edit_at(heap: &Heap, number: u64) -> Result<Edit<&Heap>, AllocError> {
         31 => Edit::operator(heap, b"A", Flavor::Simple),
         32 => Edit::add_before(heap, b"A", b"b", b"c"),
         33 => Edit::add_after(heap, b"A", b"b", b"c"),
-        34 => Site::Top.insert(heap, b"b"),
+        34 => Site::AtPlace(Place::Top).insert(heap, b"b"),
         35 => Edit::line_replace(heap, b"A", b"b"),
         36 => Edit::line_remove(heap, b"A"),
         37 => Site::AtPlace(place_at(heap, 24)?).insert(heap, b"b"),
         38 => Ok(lines_before(heap)?.insert(heap, b"b")?.nth(2)),
         39..=46 => each_line_at(heap, number),
-        47 => Site::Top.insert(heap, b"b\nc"),
+        47 => Site::AtPlace(Place::Top).insert(heap, b"b\nc"),
+        48..=54 => further_at(heap, number),
         place => place_at(heap, place)?.assign(heap, b"A", Flavor::Simple, b"b"),
     }
 }
@@ -77,6 +78,19 @@ fn each_line_at(heap: &Heap, number: u64) -> Result<Edit<&Heap>, AllocError> {
         44 => Edit::recipe_substitute(heap, b"A", b"b", b"c"),
         45 => Edit::recipes_substitute(heap, b"A", b"b"),
         _ => Ok(Edit::recipe_substitute(heap, b"A", b"b", b"c")?.nth(2)),
+    }
+}
+
+/// The edit of one of the further commands of a number.
+fn further_at(heap: &Heap, number: u64) -> Result<Edit<&Heap>, AllocError> {
+    match number {
+        48 => Edit::set_if(heap, b"A", b"b", b"c"),
+        49 => Edit::all_set_if(heap, b"A", b"b", b"c"),
+        50 => Edit::comment_out(heap, b"A"),
+        51 => Edit::uncomment(heap, b"A"),
+        52 => Edit::depend_replace(heap, b"A", b"b", b"c"),
+        53 => Edit::rule_replace(heap, b"A", b"b"),
+        _ => Edit::rule_remove(heap, b"A"),
     }
 }
 
@@ -97,6 +111,9 @@ fn place_of(heap: &Heap, number: u64) -> Result<Place<&Heap>, AllocError> {
         24 => Place::after_var(heap, b"A"),
         25 => Place::before_rule(heap, b"A"),
         26 => Ok(Place::before_rule(heap, b"A")?.nth(2)),
+        55 => Place::after_last_var(heap, b"A"),
+        56 => Place::after_rule(heap, b"A"),
+        57 => Ok(Place::Top),
         _ => Ok(Place::Bottom),
     }
 }
@@ -137,7 +154,10 @@ fn apply_at(session: &mut Session<&Heap>, number: u64) -> Result<(), Refusal> {
         14..=16 => write_recipe(session, number),
         17..=19 => change_recipe(session, number),
         28..=30 => change_lines(session, number),
-        _ => change_recipes(session, number),
+        36 | 37 => change_recipes(session, number),
+        38..=40 => change_named(session, number),
+        41 | 42 => switch_line(session, number),
+        _ => change_whole_rule(session, number),
     }
 }
 
@@ -231,7 +251,7 @@ fn change_recipe(session: &mut Session<&Heap>, number: u64) -> Result<(), Refusa
 
 fn change_lines(session: &mut Session<&Heap>, number: u64) -> Result<(), Refusal> {
     match number {
-        28 => session.insert(Site::Top, b"A"),
+        28 => session.insert(Site::AtPlace(Place::Top), b"A"),
         29 => session.line_replace(b"ifdef B", b"ifndef B"),
         _ => session.line_remove(b"A=b"),
     }
@@ -241,5 +261,27 @@ fn change_recipes(session: &mut Session<&Heap>, number: u64) -> Result<(), Refus
     match number {
         36 => session.recipe_substitute(b"A", b"b", b"c"),
         _ => session.recipes_substitute(b"A", b"b"),
+    }
+}
+
+fn change_named(session: &mut Session<&Heap>, number: u64) -> Result<(), Refusal> {
+    match number {
+        38 => session.set_if(b"A", b"b", b"c"),
+        39 => session.all_set_if(b"A", b"b", b"c"),
+        _ => session.depend_replace(b"A", b"b", b"c"),
+    }
+}
+
+fn switch_line(session: &mut Session<&Heap>, number: u64) -> Result<(), Refusal> {
+    match number {
+        41 => session.comment_out(b"A"),
+        _ => session.uncomment(b"A"),
+    }
+}
+
+fn change_whole_rule(session: &mut Session<&Heap>, number: u64) -> Result<(), Refusal> {
+    match number {
+        43 => session.rule_replace(b"A", b"b:"),
+        _ => session.rule_remove(b"A"),
     }
 }

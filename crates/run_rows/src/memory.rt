@@ -8,7 +8,7 @@ use mk_session::{Expected, Session};
 use mk_tree::Doc;
 use std::alloc::Global;
 use test_support::text::number;
-use test_support::{Case, Heap};
+use test_support::{Case, Growths, Heap};
 
 /// The bytes that an edit of short lines takes at most: so many by itself, and so many for each line that
 /// it changes.
@@ -75,10 +75,18 @@ pub fn of_parse(case: &Case<'_>, makefile: &[u8], bytes: &[u8]) -> Result<Vec<u8
 pub fn first_of_group(case: &Case<'_>, makefile: &[u8], edit: &[u8]) -> Result<Vec<u8>, Fault> {
     let alone = first_growths(case.heap, makefile, edit, false)?;
     let mut session = Session::open(case.heap, makefile, 100)?;
-    execute(case.heap, &mut session, b"begin")?;
-    let grouped = growths_of(case.heap, &mut session, edit)?;
+    let grouped = grouped_growths(case.heap, &mut session, edit)?;
     let is_less = grouped.count < alone.count;
     Ok(is_less.to_string(case.alloc)?.into_bytes())
+}
+
+fn grouped_growths<'h>(
+    heap: &'h Heap,
+    session: &mut Session<&'h Heap>,
+    edit: &[u8],
+) -> Result<Growths, Fault> {
+    execute(heap, session, b"begin")?;
+    growths_of(heap, session, edit)
 }
 
 /// Whether an edit takes the same memory in two texts.
@@ -114,6 +122,7 @@ fn indexed_bytes<'h>(
 ) -> Result<u64, Fault> {
     session.expect_edits(Expected {
         renames: true,
+        lines: false,
         others: true,
     });
     execute(heap, session, b"set A 2")?;

@@ -3,8 +3,8 @@
 use crate::index::document;
 use bstr::ByteSlice;
 use mk_lines::Fault;
-use mk_lookup::{find_assignment, find_rule, get};
 use mk_script::{Step, parse_script};
+use mk_session::lookup::{find_assignment, find_rule, get};
 use mk_session::{Command, Edit, Refusal, Session};
 use std::alloc::{AllocError, Allocator, Global};
 use test_support::text::{joined, number};
@@ -30,7 +30,7 @@ pub fn edit_of<A: Allocator + Copy>(alloc: A, line: &[u8]) -> Result<Edit<A>, Fa
 }
 
 /// The commands of the lines of a script.
-pub fn commands_of<'h>(
+fn commands_of<'h>(
     alloc: Global,
     heap: &'h Heap,
     script: &[u8],
@@ -45,7 +45,7 @@ pub fn commands_of<'h>(
 }
 
 /// The replies of a session to commands in turn: `done`, or the name of a refusal.
-pub fn executed<'h>(
+fn executed<'h>(
     alloc: Global,
     session: &mut Session<&'h Heap>,
     commands: &[Command<&'h Heap>],
@@ -66,6 +66,27 @@ fn push_refusal(replies: &mut String, refusal: Refusal) -> Result<(), Fault> {
     }
     replies.push_str(refusal.name())?;
     replies.push_str(" ")?;
+    Ok(())
+}
+
+/// A session that has executed a script, whatever it has replied.
+pub fn session_after<'h>(
+    case: &Case<'h>,
+    makefile: &[u8],
+    script: &[u8],
+) -> Result<Session<&'h Heap>, Fault> {
+    let mut session = Session::open(case.heap, makefile, 100)?;
+    execute_script(case, &mut session, script)?;
+    Ok(session)
+}
+
+fn execute_script<'h>(
+    case: &Case<'h>,
+    session: &mut Session<&'h Heap>,
+    script: &[u8],
+) -> Result<(), Fault> {
+    let commands = commands_of(case.alloc, case.heap, script)?;
+    executed(case.alloc, session, &commands)?;
     Ok(())
 }
 
@@ -169,10 +190,8 @@ pub fn without_memory(
     script: &[u8],
 ) -> Result<Vec<u8>, Fault> {
     case.heap.refuse_none();
-    let before = commands_of(case.alloc, case.heap, before)?;
+    let mut session = session_after(case, makefile, before)?;
     let commands = commands_of(case.alloc, case.heap, script)?;
-    let mut session = Session::open(case.heap, makefile, 100)?;
-    executed(case.alloc, &mut session, &before)?;
     execute_without_memory(case, &mut session, &commands)
 }
 

@@ -4,7 +4,7 @@ use Rattle.std.proofs.lemmas.Bool.Decides.{Decides-eqb}
 use Rattle.std.proofs.lemmas.Slice.Eq.{slice_eq-Decides}
 use Rattle.mk_class.specs.ClassedLines.{classed_lines}
 use Rattle.mk_history.specs.Shown.{Shown}
-use Rattle.mk_lookup.specs.Lookups.{looked_up}
+use Rattle.mk_session.specs.Lookups.{looked_up}
 use Rattle.caller_example.specs.Migrated.{AreMigrated}
 use Rattle.caller_example.proofs.MigrationLemmas.{set-migrates}
 use Rattle.caller_example.proofs.migrate_nth.Goals as goal

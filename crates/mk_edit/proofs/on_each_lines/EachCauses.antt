@@ -1,7 +1,6 @@
 -- The causes of an edit of several lines in their order, and what decides each.
-use Rattle.std.proofs.Common.{◌≡◌, refl, sym, ap, ◌∙◌, subst, arith, ℕ, ◌+◌, ◌-◌, ◌^◌, ◌<◌, ◌≤◌, Bool, true, false, not, List, [], ◌∷◌, ◌++◌, length, filter, Option, Some, None}
-use Rattle.std.specs.Prelude.{min, nat_lt, ◌==◌, ◌||◌}
-use Rattle.std.specs.List.{list_any}
+use Rattle.std.proofs.Common.{◌≡◌, refl, sym, ap, ◌∙◌, arith, ℕ, ◌+◌, ◌-◌, ◌^◌, ◌≤◌, Bool, true, false, List, [], ◌∷◌, ◌++◌, length, filter, Option, Some, None}
+use Rattle.std.specs.Prelude.{min, nat_lt, ◌==◌}
 use Rattle.std.proofs.lemmas.Bool.{le-ltb, lt-ltb, ltb-false, ltb-true}
 use Rattle.mk_lines.specs.Limits.{max_text}
 use Rattle.mk_class.specs.ClassedLines.{ClassedLine, classed_lines}
@@ -10,10 +9,10 @@ use Rattle.mk_tree.specs.Documents.{IsFaithful}
 use Rattle.mk_tree.specs.LocatedLines.{LocatedLine, located_lines, located_text, size_of}
 use Rattle.mk_tree.proofs.on_changes.Sizes.{size_of-text}
 use Rattle.mk_edit_language.specs.Addresses.{Address, candidates, each_address, nth_meant}
-use Rattle.mk_edit_language.specs.AddressCauses.{ambiguous, no_such, no_such_line, prefix_led, unread_prefix}
+use Rattle.mk_edit_language.specs.AddressCauses.{ambiguous, no_such, no_such_line, misplaced, unread_prefix}
 use Rattle.mk_edit_language.specs.ArgumentCauses.{bad_argument, reserved}
 use Rattle.mk_edit_language.specs.Causes.{where_holds}
-use Rattle.mk_edit_language.specs.EachLine.{EachChange, MarkedLine, each_change, is_each_changed, marked}
+use Rattle.mk_edit_language.specs.EachLine.{each_change, is_each_changed, marked}
 use Rattle.mk_edit_language.specs.Edits.{Edit, EachEdit, EachLine}
 use Rattle.mk_edit_language.specs.EditSpans.{spans_of}
 use Rattle.mk_edit_language.specs.Lengths.{bytes_put, bytes_taken}
@@ -23,7 +22,7 @@ use Rattle.mk_edit_language.specs.RuleCauses.{absent, already, shared_rule, stra
 use Rattle.mk_edit_language.specs.declared.refusal.Refusal.{Refusal}
 use Rattle.mk_edit_language.specs.declared.refusal.Refusal.TheVariants.{Absent, NoSuch, RecipePrefix, TooLong}
 use Rattle.mk_edit_language.proofs.on_each_line.EachLineSpans.{unmarked}
-use Rattle.mk_edit_parts.specs.EachLineWalks.{is_missing_among, no_reach, reach_of}
+use Rattle.mk_edit_parts.specs.EachLineWalks.{is_missing_among}
 use Rattle.mk_edit_parts.specs.Seeking.{candidates_of}
 use Rattle.mk_edit_parts.proofs.CauseLemmas.{passed}
 use Rattle.mk_edit_parts.proofs.on_each_line.LinesSeen.{count-reached, missing-told}
@@ -57,8 +56,8 @@ causes-are t ls e b r =
     let behind = already ls E ∷ taken ls E ∷ shared_rule ls E ∷ straddles ls E ∷ open_value ls E ∷ open_line ls E ∷ open_define ls E ∷ leaning ls E ∷ not_exchanged t ls E ∷ last in
     passed (bad_argument E) _ (first_cause (line_causes t ls E ++ misread ls E ∷ [])) b
     (passed (reserved E) _ (first_cause (line_causes t ls E ++ misread ls E ∷ [])) r
-    (after-cause (unread_prefix ls) (no_such ls E ∷ ambiguous ls E ∷ prefix_led ls E ∷ absent ls E ∷ behind) (no_such ls E ∷ absent ls E ∷ last)
-    (after-cause (no_such ls E) (ambiguous ls E ∷ prefix_led ls E ∷ absent ls E ∷ behind) (absent ls E ∷ last) (after-cause (absent ls E) behind last refl))))
+    (after-cause (unread_prefix ls) (no_such ls E ∷ ambiguous ls E ∷ misplaced ls E ∷ absent ls E ∷ behind) (no_such ls E ∷ absent ls E ∷ last)
+    (after-cause (no_such ls E) (ambiguous ls E ∷ misplaced ls E ∷ absent ls E ∷ behind) (absent ls E ∷ last) (after-cause (absent ls E) behind last refl))))
 
 -- ---- by what is found
 

@@ -1,8 +1,7 @@
 -- The walk of one turn of an edit of several lines over its notes: the steps that were added so far, and then those of the notes
 -- ahead, are the steps of all notes; and no line of the notes so far was misread.
 use Rattle.std.proofs.Common.{◌≡◌, refl, sym, ap, ◌∙◌, subst, arith, ℕ, suc, ◌+◌, ◌<◌, ◌≤◌, Bool, true, false, not, List, [], ◌∷◌, ◌++◌, append-nil, append_assoc, drop, get_or, length, length-append, map, inl, inr}
-use Rattle.std.specs.Prelude.{Ok, Err, IsErrAnd, Result, if◌then◌else◌, ◌⊎◌, ◌&&◌, ◌||◌}
-use Rattle.std.specs.List.{list_any}
+use Rattle.std.specs.Prelude.{Ok, Err, IsErrAnd, Result, ◌⊎◌, ◌&&◌, ◌||◌}
 use Rattle.std.proofs.lemmas.List.{drop_all}
 use Rattle.std.proofs.lemmas.Option.{slice_get_read}
 use Rattle.mk_tree.specs.Counting.{AreCounted}
@@ -12,7 +11,7 @@ use Rattle.mk_edit_language.specs.EachLine.{EachChange}
 use Rattle.mk_edit_language.specs.declared.refusal.Refusal.{Refusal}
 use Rattle.mk_edit_language.specs.declared.refusal.Refusal.TheVariants.{Misread, NoMemory}
 use Rattle.mk_patch.specs.Moves.{Move, Exchange, MovesWithRoom}
-use Rattle.mk_edit.specs.EachLinePatches.{AreChangeable, any_misread, each_moves, is_note_misread, is_of_turn, line_after, misread_in, turn_moves}
+use Rattle.mk_edit.specs.EachLinePatches.{AreChangeable, any_misread, is_note_misread, is_of_turn, line_after, misread_in, turn_moves}
 use Rattle.mk_edit.specs.EachLineSurveys.{NotedLine, noted_view}
 use Rattle.mk_edit.specs.LineChangePlans.{AreRead}
 use Rattle.mk_edit.specs.RenameTargetPatches.{before_moves}

@@ -1,26 +1,21 @@
 -- What the walk over a document finds is what an edit of several lines does to the marked lines.
-use Rattle.std.proofs.Common.{◌≡◌, refl, sym, ap, ◌∙◌, subst, arith, ℕ, ◌+◌, ◌*◌, ◌-◌, ◌^◌, ◌≤◌, Bool, true, false, List, [], ◌∷◌, ◌++◌, length, filter, map}
-use Rattle.std.specs.Prelude.{if◌then◌else◌, ◌||◌, min, nat_lt}
+use Rattle.std.proofs.Common.{◌≡◌, refl, sym, ap, ◌∙◌, arith, ℕ, ◌+◌, ◌*◌, ◌-◌, ◌^◌, ◌≤◌, Bool, true, false, List, [], ◌∷◌, ◌++◌, length, filter}
+use Rattle.std.specs.Prelude.{if◌then◌else◌, ◌||◌, min}
 use Rattle.std.specs.List.{list_any}
 use Rattle.std.proofs.Math.Bool.{or-false, or_assoc}
-use Rattle.mk_lines.specs.Pieces.{Replacement, replacements}
-use Rattle.mk_class.specs.Contexts.{Context, start, context_after}
-use Rattle.mk_tree.specs.Documents.{IsFaithful}
+use Rattle.mk_lines.specs.Pieces.{replacements}
+use Rattle.mk_class.specs.Contexts.{Context, context_after}
 use Rattle.mk_tree.specs.LocatedLines.{LocatedLine, located_line, located_lines}
 use Rattle.mk_tree.proofs.on_documents.LinesInText.{AreClassed, AreClassed-class, AreClassed-tail}
 use Rattle.mk_edit_language.specs.EachLine.{EachChange, MarkedLine, each_change, is_each_changed, marked_pieces, marked_spans}
 use Rattle.mk_edit_language.specs.Edits.{EachEdit}
 use Rattle.mk_edit_language.specs.Lengths.{bytes_put, bytes_taken}
 use Rattle.mk_edit_language.proofs.on_each_line.EachLineSpans.{unmarked}
-use Rattle.mk_edit_parts.specs.EachLineWalks.{reach_after, reach_along}
+use Rattle.mk_edit_parts.specs.EachLineWalks.{reach_along}
 use Rattle.mk_edit_parts.specs.LocatedParts.{is_unread_located}
-use Rattle.mk_edit_parts.specs.declared.each_line.Reach.{Reach}
 use Rattle.mk_edit.specs.EachLineSurveys.{IsOfLines, found_by, found_with, places_meant}
-use Rattle.mk_edit.specs.declared.each_line_count.PlaceCount.{PlaceCount}
 use Rattle.mk_edit.specs.declared.each_line_survey.Findings.{Findings}
-use Rattle.mk_edit.proofs.on_renaming.PatchPlans.{filter-step}
 use Rattle.mk_edit.proofs.on_renaming.SizesOfTexts.{put-append, put-moved, taken-append, taken-moved}
-use Rattle.mk_edit.proofs.on_each_lines.LinesCounted.{IsToldBy}
 use Rattle.mk_edit.proofs.on_each_lines.NotesTold.{AreSeen, line-told, seen-first, seen-rest}
 
 -- what does not depend on the edit's lines

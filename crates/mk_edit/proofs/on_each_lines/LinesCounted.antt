@@ -6,9 +6,9 @@ use Rattle.std.specs.List.{list_any}
 use Rattle.std.proofs.Math.Dec.{eqb-suc-zero}
 use Rattle.std.proofs.lemmas.Bool.{lt-ltb, le-ltb, ltb-true, ltb-false}
 use Rattle.memchr.specs.Find.{matches}
-use Rattle.mk_lines.specs.Cells.{Cell, joined_byte, line_cells}
+use Rattle.mk_lines.specs.Cells.{Cell, line_cells}
 use Rattle.mk_lines.specs.Limits.{max_text}
-use Rattle.mk_lines.specs.Pieces.{Replacement, Piece, replaced, replacements}
+use Rattle.mk_lines.specs.Pieces.{Piece, replacements}
 use Rattle.mk_lines.specs.declared.split.Span.{Span}
 use Rattle.mk_class.specs.Assignments.{Assignment}
 use Rattle.mk_class.specs.Classes.{Class}
@@ -16,9 +16,8 @@ use Rattle.mk_class.specs.Classes.Class.{Assign, Recipe}
 use Rattle.mk_class.specs.ClassTable.{class_of}
 use Rattle.mk_class.specs.ClassedLines.{ClassedLine}
 use Rattle.mk_class.specs.Contexts.{Context}
-use Rattle.mk_class.specs.LocatedClasses.{located_assignment, located_class}
+use Rattle.mk_class.specs.LocatedClasses.{located_assignment}
 use Rattle.mk_class.specs.declared.assignment.Assignment as offsets
-use Rattle.mk_class.specs.declared.class.Class as class
 use Rattle.mk_tree.specs.LineTexts.{line_in}
 use Rattle.mk_tree.specs.LocatedLines.{LocatedLine, located_line, text_of_line}
 use Rattle.mk_edit_language.specs.EachLine.{EachChange, InAssignment, InRecipe, MarkedLine, change_pieces, each_bytes, is_each_changed, marked_pieces, recipe_pieces, recipe_text}
@@ -37,10 +36,10 @@ use Rattle.mk_edit_parts.proofs.on_recipes.RecipesChanged.{recipe-apart, recipe-
 use Rattle.mk_edit_parts.proofs.on_renaming.PieceRanges.{replacing}
 use Rattle.mk_edit_parts.proofs.on_renaming.WrittenLemmas.{apart-bytes, replaced-some, replacing-number}
 use Rattle.mk_edit.specs.EachLineSurveys.{IsCountable, IsOfSeveral, IsOwnLine, assignment_counted, gets_longer, no_places, places_counted}
-use Rattle.mk_edit.specs.LineChangePlans.{IsAssigning, IsAssignmentIn, IsSought, first_of_words, meant_in}
+use Rattle.mk_edit.specs.LineChangePlans.{IsAssignmentIn, IsSought, first_of_words, meant_in}
 use Rattle.mk_edit.specs.ValueChangeLines.{value_text_located}
 use Rattle.mk_edit.specs.declared.each_line_count.PlaceCount.{PlaceCount}
-use Rattle.mk_edit.proofs.on_line_changes.LinesMade.{HasPlaces, IsWritten, has-places, is-written}
+use Rattle.mk_edit.proofs.on_line_changes.LinesMade.{HasPlaces, has-places, is-written}
 use Rattle.mk_edit.proofs.on_renaming.SizesOfWords.{put-replacing, taken-replacing}
 
 -- a change of several lines looks for a text that is not empty

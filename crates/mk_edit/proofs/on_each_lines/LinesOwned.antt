@@ -1,10 +1,10 @@
 -- A line that an edit of several lines means, in a document: the line of an assignment that sets no recipe prefix, or a recipe line.
-use Rattle.std.proofs.Common.{◌≡◌, refl, sym, ap, ◌∙◌, subst, arith, ℕ, ◌≤◌, List, [], ◌∷◌, length, Bool, true, false, not, ◌&&◌, ◌||◌, Option, Some, None}
+use Rattle.std.proofs.Common.{◌≡◌, refl, sym, ap, ◌∙◌, arith, ℕ, ◌≤◌, List, [], ◌∷◌, length, Bool, true, false, not, ◌&&◌, ◌||◌, None}
 use Rattle.std.specs.Prelude.{nat_lt}
 use Rattle.std.specs.List.{list_any}
 use Rattle.std.proofs.lemmas.Bool.{and_parts, not-true}
 use Rattle.mk_lines.specs.Cells.{Cell, joined_byte}
-use Rattle.mk_class.specs.Arguments.{is_clean, is_name, is_target, is_value}
+use Rattle.mk_class.specs.Arguments.{is_clean, is_name, is_target}
 use Rattle.mk_class.specs.Assignments.{Assignment}
 use Rattle.mk_class.specs.Classes.{Class, is_recipe}
 use Rattle.mk_class.specs.Classes.Class.{Endef, Body, Recipe, Opaque, Blank, Comment, Assign, DefineHead, If, Else, Endif, Directive, TargetAssign, Rough, Header}
@@ -15,8 +15,7 @@ use Rattle.mk_class.specs.ListTests.{is_empty}
 use Rattle.mk_class.specs.LocatedClasses.{located_class}
 use Rattle.mk_class.specs.RecipePrefix.{is_prefix_name}
 use Rattle.mk_class.specs.Texts.{unit_text}
-use Rattle.mk_tree.specs.LocatedLines.{LocatedLine, located_line}
-use Rattle.mk_edit_language.specs.Addresses.{assigns}
+use Rattle.mk_tree.specs.LocatedLines.{located_line}
 use Rattle.mk_edit_language.specs.ArgumentCauses.{Tested, bad_argument, line_change_tests, reserved}
 use Rattle.mk_edit_language.specs.EachLine.{assigns_other, each_change}
 use Rattle.mk_edit_language.specs.Edits.{LineChange, Prepend, ReplaceWord, InsertWord, Substitute, SetOperator, EachEdit, ChangeEach, SubstValues, SubstRecipe, SubstRecipes, EachLine}

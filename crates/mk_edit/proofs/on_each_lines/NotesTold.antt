@@ -1,18 +1,17 @@
 -- What the walk over a document notes of its lines is what is to be noted of the marked lines; and each line that is noted can be
 -- changed where it stands.
 use Rattle.std.proofs.Common.{◌≡◌, refl, sym, ap, ◌∙◌, subst, arith, ℕ, suc, ◌+◌, ◌≤◌, Bool, true, false, List, [], ◌∷◌, length, map}
-use Rattle.std.specs.Prelude.{IfOk, Result, nat_lt, if◌then◌else◌}
+use Rattle.std.specs.Prelude.{IfOk, Result, if◌then◌else◌}
 use Rattle.mk_lines.specs.Limits.{max_text}
 use Rattle.mk_lines.specs.Cells.{Cell}
 use Rattle.mk_class.specs.Classes.{Class}
 use Rattle.mk_class.specs.ClassTable.{class_of}
-use Rattle.mk_class.specs.ClassedLines.{ClassedLine, classed_lines}
-use Rattle.mk_class.specs.Contexts.{Context, start, context_after, context_after_located}
+use Rattle.mk_class.specs.ClassedLines.{classed_lines}
+use Rattle.mk_class.specs.Contexts.{Context, start, context_after}
 use Rattle.mk_tree.specs.Documents.{IsFaithful}
-use Rattle.mk_tree.specs.LineTexts.{line_in}
 use Rattle.mk_tree.specs.LocatedLines.{LocatedLine, located_line, located_lines, located_text, size_of}
 use Rattle.mk_tree.proofs.AdmissionLemmas.{defines_after-few}
-use Rattle.mk_tree.proofs.on_documents.LinesInText.{AreClassed, AreClassed-class, AreClassed-tail, AreClassed-lines}
+use Rattle.mk_tree.proofs.on_documents.LinesInText.{AreClassed, AreClassed-class, AreClassed-tail}
 use Rattle.mk_edit_language.specs.EachLine.{EachChange, MarkedLine, each_change, is_each_changed, lines_meant, marked}
 use Rattle.mk_edit_language.specs.Edits.{EachEdit, EachLine}
 use Rattle.mk_edit_language.specs.declared.refusal.Refusal.{Refusal}
@@ -22,11 +21,10 @@ use Rattle.mk_edit_parts.specs.declared.each_line.Reach.{Reach}
 use Rattle.mk_edit_parts.proofs.on_each_line.LinesSeen.{lines-seen}
 use Rattle.mk_patch.specs.Moves.{Move}
 use Rattle.mk_edit.specs.EachLinePatches.{AreChangeable, IsChangeable, any_misread, each_moves}
-use Rattle.mk_edit.specs.EachLineSurveys.{IsOfLines, NotedLine, gets_longer, no_places, noted_from, noted_line, noted_lines, places_counted, places_meant}
-use Rattle.mk_edit.specs.declared.each_line_count.PlaceCount.{PlaceCount}
+use Rattle.mk_edit.specs.EachLineSurveys.{IsOfLines, NotedLine, no_places, noted_from, noted_line, noted_lines, places_counted, places_meant}
 use Rattle.mk_edit.specs.LineChangePlans.{AreRead}
 use Rattle.mk_edit.specs.Planned.{Plans}
-use Rattle.mk_edit.proofs.on_each_lines.EachTurns.{longer, marked_line, meant-again, note_of, notes_of}
+use Rattle.mk_edit.proofs.on_each_lines.EachTurns.{marked_line, meant-again, note_of, notes_of}
 use Rattle.mk_edit.proofs.on_each_lines.LinesCounted.{IsToldBy, none-told, own-told}
 use Rattle.mk_edit.proofs.on_each_lines.LinesOwned.{meant-own}
 use Rattle.mk_edit.proofs.on_each_lines.EachPlans.{IsDecided, each-plans, marked-classed, notes_in}

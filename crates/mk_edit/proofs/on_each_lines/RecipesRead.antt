@@ -1,6 +1,5 @@
 -- A recipe line that is changed and read again: whether it reads as stated.
-use Rattle.std.proofs.Common.{◌≡◌, refl, sym, ap, ◌∙◌, subst, arith, ℕ, zero, suc, ◌+◌, ◌-◌, ◌*◌, ◌<◌, ◌≤◌, Bool, true, false, not, ◌&&◌, List, [], ◌∷◌, ◌++◌, map, drop, length, length-append}
-use Rattle.std.specs.Prelude.{nat_lt}
+use Rattle.std.proofs.Common.{◌≡◌, refl, sym, ap, ◌∙◌, subst, arith, ℕ, zero, suc, ◌+◌, ◌*◌, ◌<◌, ◌≤◌, Bool, true, not, ◌&&◌, List, [], ◌∷◌, map, length, length-append}
 use Rattle.std.specs.List.{list_any}
 use Rattle.std.specs.Str.{bytes_eq}
 use Rattle.std.proofs.lemmas.Bool.{ltb-true}
@@ -12,13 +11,13 @@ use Rattle.mk_lines.proofs.on_cells.CellLemmas.{raw_text-bytes}
 use Rattle.mk_lines.proofs.on_lines.LineEndLemmas.{without_line_end-line_end}
 use Rattle.mk_lines.proofs.on_lists.PieceLemmas.{raw_text-old_cells}
 use Rattle.mk_class.specs.Classes.{Class, is_recipe}
-use Rattle.mk_class.specs.Classes.Class.{If, Recipe}
+use Rattle.mk_class.specs.Classes.Class.{Recipe}
 use Rattle.mk_class.specs.ClassTable.{class_of}
 use Rattle.mk_class.specs.Contexts.{Context}
 use Rattle.mk_tree.specs.LineTexts.{line_in}
 use Rattle.mk_tree.specs.LocatedLines.{located_line}
 use Rattle.mk_edit_language.specs.EachLine.{InRecipe, change_pieces, each_bytes, is_each_changed, reads_as_recipe, recipe_after, recipe_pieces, recipe_text, recipe_text_pieces}
-use Rattle.mk_edit_language.specs.Lengths.{bytes_taken, bytes_put}
+use Rattle.mk_edit_language.specs.Lengths.{bytes_taken}
 use Rattle.mk_edit_language.specs.LineChanges.{fits_line}
 use Rattle.mk_edit_language.specs.RisingSpans.{Rise}
 use Rattle.mk_edit_language.specs.WordPieces.{is_replaced}
@@ -30,7 +29,6 @@ use Rattle.mk_edit_parts.specs.RenamedRanges.{bytes_in}
 use Rattle.mk_edit_parts.proofs.on_finding.LeanLemmas.{asked}
 use Rattle.mk_edit_parts.proofs.on_line_changes.WordsAndTexts.{texts-old}
 use Rattle.mk_edit_parts.proofs.on_recipes.RecipesChanged.{recipe-changed, recipe-pieces, stated-made}
-use Rattle.mk_edit_parts.proofs.on_renaming.PieceRanges.{replacing}
 use Rattle.mk_edit_parts.proofs.on_renaming.WrittenLemmas.{apart-bytes, apart-rise}
 use Rattle.mk_edit.specs.LineChangePlans.{is_changed_misread, meant_in}
 use Rattle.mk_edit.proofs.on_renaming.SizesOfWords.{taken-replacing}

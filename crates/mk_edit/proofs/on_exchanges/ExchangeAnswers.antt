@@ -1,10 +1,9 @@
 -- What the calls of the plan of an exchange of whole lines answer, and what follows for the plan.
-use Rattle.std.proofs.Common.{◌≡◌, refl, sym, ap, ◌∙◌, subst, arith, ℕ, ◌+◌, ◌≤◌, ◌&&◌, ◌==◌, Bool, true, false, not, List, [], ◌∷◌, ◌++◌, drop, length, length-append, replicate, Some, None, inl, inr}
+use Rattle.std.proofs.Common.{◌≡◌, sym, ap, ◌∙◌, subst, arith, ℕ, ◌+◌, ◌≤◌, ◌&&◌, ◌==◌, Bool, true, false, not, List, ◌++◌, length, length-append, replicate, Some, inl, inr}
 use Rattle.std.specs.Prelude.{◌⊎◌, nat_lt, Ok, Err}
 use Rattle.std.proofs.lemmas.List.{length-replicate}
 use Rattle.mk_lines.specs.Limits.{max_text}
 use Rattle.mk_lines.specs.LogicalLines.{logical_lines}
-use Rattle.mk_class.specs.ClassedLines.{classed_lines}
 use Rattle.mk_class.specs.Contexts.{Context}
 use Rattle.mk_class.specs.declared.context.RuleFlag.{RuleFlag}
 use Rattle.mk_tree.specs.Counting.{AreCounted}
@@ -15,7 +14,6 @@ use Rattle.mk_tree.specs.Origins.{lines_between}
 use Rattle.mk_edit_language.specs.Edits.{Site, ExchangeLines}
 use Rattle.mk_edit_language.specs.Causes.{where_holds}
 use Rattle.mk_edit_language.specs.Costs.{cost}
-use Rattle.mk_edit_language.specs.EditSpans.{spans_of}
 use Rattle.mk_edit_language.specs.ExchangeCauses.{is_exchange_misread, exchange_leans}
 use Rattle.mk_edit_language.specs.LineExchanges.{block_text, with_line_ends}
 use Rattle.mk_edit_language.specs.Refusals.{spans}
@@ -28,7 +26,7 @@ use Rattle.mk_patch.specs.Moves.{Move, MovesWithRoom, TakeOut}
 use Rattle.mk_edit.specs.Insertions.{is_open_line}
 use Rattle.mk_edit.specs.Planned.{IsRefusal, Plans}
 use Rattle.mk_edit.specs.PlannedMoves.{ending_moves, follows_unended}
-use Rattle.mk_edit.specs.ExchangePlans.{AreReadInto, AreTooDeepIn, clearing_moves, ending_length, ends_for, is_bottom_site, lines_in, putting_moves, window_stretch}
+use Rattle.mk_edit.specs.ExchangePlans.{AreTooDeepIn, clearing_moves, ending_length, ends_for, is_bottom_site, lines_in, putting_moves, window_stretch}
 use Rattle.mk_edit.specs.declared.new_lines.LineEnds.{LineEnds}
 use Rattle.mk_edit.proofs.on_exchanges.ExchangeCauses.{IsClear, clear-unrefused, deep-refused, exchange-accepted, lines-there, long-told, open_define-cause, open_line-cause}
 use Rattle.mk_edit.proofs.on_exchanges.ExchangePlans.{exchange-cost, exchange-planned}

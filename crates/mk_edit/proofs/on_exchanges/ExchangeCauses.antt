@@ -1,5 +1,5 @@
 -- The causes of an exchange of whole lines that the lines around its site and the new lines decide, by their tests on a document.
-use Rattle.std.proofs.Common.{◌≡◌, refl, sym, ap, ◌∙◌, subst, arith, ℕ, ◌+◌, ◌-◌, ◌<◌, ◌≤◌, ◌==◌, ◌&&◌, ◌||◌, Bool, true, false, not, cond, List, [], ◌∷◌, ◌++◌, append_assoc, length, length-append, take, drop, Option, Some, None, inl, inr}
+use Rattle.std.proofs.Common.{◌≡◌, refl, sym, ap, ◌∙◌, subst, arith, ℕ, ◌+◌, ◌<◌, ◌==◌, ◌&&◌, ◌||◌, Bool, true, false, not, List, [], ◌∷◌, ◌++◌, length, length-append, take, drop, Option, Some, None, inl, inr}
 use Rattle.std.specs.Prelude.{nat_lt, if◌then◌else◌, Ok, Err}
 use Rattle.std.specs.List.{list_any}
 use Rattle.std.proofs.lemmas.Bool.{lt-ltb, ltb-true}
@@ -9,21 +9,19 @@ use Rattle.std.proofs.Math.Seq.{take-append_seam, drop-append_seam, drop-append-
 use Rattle.mk_lines.specs.Limits.{max_text}
 use Rattle.mk_lines.specs.LogicalLines.{logical_lines, is_open, is_continued, has_no_line_end, ends_line, is_open}
 use Rattle.mk_lines.specs.PhysicalLines.{line_end, line_end_bytes, file_line_end, ends_with_carriage_return}
-use Rattle.mk_lines.specs.Pieces.{Replacement}
 use Rattle.mk_lines.proofs.on_lines.LineEndLemmas.{Ends-ends_line}
 use Rattle.mk_lines.proofs.on_cells.LineCells.{one_line-not_empty}
-use Rattle.mk_class.specs.ListTests.{is_empty, last_passes}
+use Rattle.mk_class.specs.ListTests.{last_passes}
 use Rattle.mk_class.specs.Contexts.{Context, max_conditionals}
-use Rattle.mk_class.specs.ClassedLines.{ClassedLine, classed, classed_lines, context_after_lines, is_led_first}
-use Rattle.mk_class.specs.declared.context.RuleFlag.{RuleFlag}
+use Rattle.mk_class.specs.ClassedLines.{ClassedLine, classed_lines, context_after_lines, is_led_first}
 use Rattle.mk_tree.specs.Documents.{IsFaithful, text_of, context_of, most_conditionals}
 use Rattle.mk_tree.specs.Leaning.{is_same_flag}
-use Rattle.mk_tree.specs.NewLineEnds.{lacks_line_end, missing_line_end}
+use Rattle.mk_tree.specs.NewLineEnds.{missing_line_end}
 use Rattle.mk_tree.specs.LocatedLines.{LocatedLine, located_line, located_lines, located_text, size_of, last_line}
 use Rattle.mk_tree.specs.Origins.{lines_between}
 use Rattle.mk_tree.proofs.on_changes.Sizes.{size_of-text}
 use Rattle.mk_tree.proofs.on_documents.LinesInText.{AreClassed-classed, line-in_text, run-in_text}
-use Rattle.mk_edit_language.specs.Edits.{Site, Top, AtPlace, BeforeRun, AfterRun, OfRun, Place, Bottom, BeforeVar, AfterVar, BeforeRule, Edit, ExchangeLines}
+use Rattle.mk_edit_language.specs.Edits.{Site, AtPlace, BeforeRun, AfterRun, OfRun, OfRuleRun, Top, Bottom, BeforeVar, AfterVar, AfterLastVar, BeforeRule, AfterRule, Edit, ExchangeLines}
 use Rattle.mk_edit_language.specs.Causes.{where_holds}
 use Rattle.mk_edit_language.specs.EditSpans.{spans_of, where_found}
 use Rattle.mk_edit_language.specs.ExchangeCauses.{agree_but_for_flag, is_exchange_misread, exchange_leans}
@@ -50,7 +48,7 @@ use Rattle.mk_edit.specs.ExchangePlans.{AreReadInto, AreTooDeepIn, ending_length
 use Rattle.mk_edit.specs.declared.lines_end.LinesEnd.{LinesEnd}
 use Rattle.mk_edit.specs.declared.new_lines.LineEnds.{LineEnds}
 use Rattle.mk_edit.proofs.on_plans.CausePlans.{long-said}
-use Rattle.mk_edit.proofs.on_plans.NewLinePlans.{LastApart, last-apart, last_passes-last}
+use Rattle.mk_edit.proofs.on_plans.NewLinePlans.{last-apart, last_passes-last}
 use Rattle.mk_edit.proofs.on_plans.RemovalPlans.{stretch-is}
 use Rattle.mk_edit.proofs.on_exchanges.ExchangeMoves.{follows-stretch, unended-told}
 use Rattle.mk_edit.proofs.on_exchanges.LinesLeft.{is_of_prefix, end-told}
@@ -121,13 +119,16 @@ second (c ∷ d ∷ cs) = d
 
 define-told : (t : List ℕ) (s : Site) (ts : List (List ℕ)) (r : Stretch) (c : Context) (b : Bool) → site_found (classed_lines t) s ≡ Some r → context_of r.above ≡ c → b ≡ (is_bottom_site s && nat_lt 0 c.defines)
     → second (causes_of_lines t s ts) ≡ where_holds b OpenDefine
-define-told t Top ts r c b found k h = ap (λ z. where_holds z OpenDefine) (sym h)
+define-told t (AtPlace Top) ts r c b found k h = ap (λ z. where_holds z OpenDefine) (sym h)
 define-told t (AtPlace Bottom) ts r c b found k h =
     let e : bottom (classed_lines t) ≡ r = cc in
     let same : (context_of (classed_lines t)).defines ≡ c.defines = ap (λ (z : Stretch). (context_of z.above).defines) e ∙ ap (λ (z : Context). z.defines) k in
     ap (λ n. where_holds (nat_lt 0 n) OpenDefine) same ∙ ap (λ z. where_holds z OpenDefine) (sym h)
 define-told t (AtPlace (BeforeVar nth n)) ts r c b found k h = ap (λ z. where_holds z OpenDefine) (sym h)
 define-told t (AtPlace (AfterVar nth n)) ts r c b found k h = ap (λ z. where_holds z OpenDefine) (sym h)
+define-told t (AtPlace (AfterLastVar n)) ts r c b found k h = ap (λ z. where_holds z OpenDefine) (sym h)
+define-told t (AtPlace (AfterRule nth g)) ts r c b found k h = ap (λ z. where_holds z OpenDefine) (sym h)
+define-told t (OfRuleRun nth g) ts r c b found k h = ap (λ z. where_holds z OpenDefine) (sym h)
 define-told t (AtPlace (BeforeRule nth g)) ts r c b found k h = ap (λ z. where_holds z OpenDefine) (sym h)
 define-told t (BeforeRun nth o) ts r c b found k h = ap (λ z. where_holds z OpenDefine) (sym h)
 define-told t (AfterRun nth o) ts r c b found k h = ap (λ z. where_holds z OpenDefine) (sym h)

@@ -1,9 +1,8 @@
 -- The moves of an exchange of whole lines: a last line gets its line end, lines go, and new ones are put in. Each fits where it is
 -- made, and they lead to the lines after the exchange.
-use Rattle.std.proofs.Common.{◌≡◌, refl, sym, ap, ◌∙◌, subst, arith, ℕ, zero, suc, ◌+◌, ◌<◌, ◌≤◌, ◌==◌, ◌&&◌, Bool, true, false, cond, List, [], ◌∷◌, ◌++◌, append_assoc, append-nil, length, length-append, take, drop, replicate, Option, Some, None}
+use Rattle.std.proofs.Common.{◌≡◌, refl, sym, ap, ◌∙◌, subst, arith, ℕ, suc, ◌+◌, ◌<◌, ◌≤◌, ◌==◌, ◌&&◌, Bool, true, false, List, [], ◌∷◌, ◌++◌, append-nil, length, length-append, replicate, Option, Some, None}
 use Rattle.std.specs.Prelude.{if◌then◌else◌}
 use Rattle.std.proofs.lemmas.List.{length-map, map-append}
-use Rattle.std.proofs.Math.Seq.{take-append_seam, drop-append_seam, drop-append-add}
 use Rattle.mk_lines.specs.Limits.{max_text}
 use Rattle.mk_lines.specs.PhysicalLines.{line_end_bytes, file_line_end, without_line_end}
 use Rattle.mk_lines.specs.LogicalLines.{is_open}
@@ -16,14 +15,14 @@ use Rattle.mk_tree.proofs.Indices.{size_of-append}
 use Rattle.mk_tree.proofs.on_changes.NewLineLemmas.{file_line_end-some}
 use Rattle.mk_tree.proofs.on_changes.EndedLast.{end-put, ended-already, located-last}
 use Rattle.mk_edit_language.proofs.on_line_runs.LinesAbove.{last-has_end}
-use Rattle.mk_patch.specs.Moves.{Move, PutIn, TakeOut, SwapEnd, FitInTurn, after_move, after_moves, held_by, taken_by}
+use Rattle.mk_patch.specs.Moves.{Move, TakeOut, SwapEnd, FitInTurn, after_move, after_moves, held_by, taken_by}
 use Rattle.mk_patch.proofs.on_moves.MoveLemmas.{held_by-append, taken_by-append}
 use Rattle.mk_patch.proofs.on_moves.ExchangeLemmas.{append-one}
 use Rattle.mk_patch.proofs.on_moves.ShapeLemmas.{put-between, taken-between, run-held, run-taken}
 use Rattle.mk_edit.specs.PlannedMoves.{is_unended, follows_unended, last_bytes_ended, ending_moves}
 use Rattle.mk_edit.specs.ExchangePlans.{clearing_moves, putting_moves}
 use Rattle.mk_edit.proofs.on_new_lines.InsertionLemmas.{follows-last}
-use Rattle.mk_edit.proofs.on_plans.NewLinePlans.{LastApart, last-apart, last_passes-last, some-end}
+use Rattle.mk_edit.proofs.on_plans.NewLinePlans.{last-apart, last_passes-last, some-end}
 
 -- moves that each fit the lines that those before them leave, and lead to other lines
 pub record LeadInTurn (ms : List Move) (before after : List LocatedLine) : Type 0 where

@@ -1,22 +1,21 @@
 -- The plan of an exchange of whole lines.
-use Rattle.std.proofs.Common.{◌≡◌, ◌||◌, refl, sym, ap, ◌∙◌, subst, arith, ℕ, suc, ◌+◌, ◌<◌, ◌≤◌, Bool, true, false, List, [], ◌∷◌, ◌++◌, append_assoc, append-nil, length, length-append, Option, Some, None, inl, inr}
-use Rattle.std.specs.Prelude.{◌⊎◌, Ok, Err, if◌then◌else◌, nat_lt}
+use Rattle.std.proofs.Common.{◌≡◌, ◌||◌, refl, sym, ap, ◌∙◌, subst, arith, ℕ, suc, ◌+◌, ◌<◌, ◌≤◌, Bool, true, false, List, [], ◌∷◌, ◌++◌, append_assoc, append-nil, length, length-append, Some, None}
+use Rattle.std.specs.Prelude.{Ok, if◌then◌else◌, nat_lt}
 use Rattle.std.proofs.lemmas.Bool.{ltb-false, ltb-true}
 use Rattle.std.proofs.lemmas.List.{length-map, map-append}
 use Rattle.mk_lines.specs.Limits.{max_text}
 use Rattle.mk_lines.specs.Lists.{concat}
-use Rattle.mk_lines.specs.LogicalLines.{logical_lines, is_open}
+use Rattle.mk_lines.specs.LogicalLines.{logical_lines}
 use Rattle.mk_lines.specs.PhysicalLines.{file_line_end}
 use Rattle.mk_lines.specs.Pieces.{Replacement}
 use Rattle.mk_lines.proofs.on_lines.LineLemmas.{among, concat-logical_lines, OneLine-logical}
-use Rattle.mk_lines.proofs.on_lists.BoolLemmas.{or-left_false}
-use Rattle.mk_class.specs.ListTests.{is_empty, last_passes}
+use Rattle.mk_class.specs.ListTests.{is_empty}
 use Rattle.mk_class.specs.Classes.Class.{If}
 use Rattle.mk_class.specs.ClassTable.{class_of}
 use Rattle.mk_class.specs.Contexts.{Context, start, conditionals_after, context_after, max_conditionals}
 use Rattle.mk_class.specs.ClassedLines.{ClassedLine, classed, classed_lines}
 use Rattle.mk_class.proofs.on_contexts.StepLemmas.{class_of-admits}
-use Rattle.mk_tree.specs.Documents.{IsFaithful, document_lines, most_conditionals, text_of, context_of}
+use Rattle.mk_tree.specs.Documents.{IsFaithful, document_lines, most_conditionals, context_of}
 use Rattle.mk_tree.specs.NewLineEnds.{above_ended}
 use Rattle.mk_tree.specs.LocatedLines.{LocatedLine, located_line, located_lines, located_text, size_of, AreConditionalsFit}
 use Rattle.mk_tree.specs.Origins.{lines_between}
@@ -24,25 +23,26 @@ use Rattle.mk_tree.proofs.Indices.{size_of-append}
 use Rattle.mk_tree.proofs.AdmissionLemmas.{defines_after-few}
 use Rattle.mk_tree.proofs.Reading.{shallow, size_of-document}
 use Rattle.mk_tree.proofs.on_documents.LinesInText.{bytes_of, run-in_text, text_of-bytes}
-use Rattle.mk_edit_language.specs.Edits.{Site, Top, AtPlace, BeforeRun, AfterRun, OfRun, Edit, ExchangeLines}
+use Rattle.mk_edit_language.specs.Edits.{Site, AtPlace, BeforeRun, AfterRun, OfRun, OfRuleRun, ExchangeLines}
 use Rattle.mk_edit_language.specs.ArgumentCauses.{bad_argument, is_place}
+use Rattle.mk_class.specs.Arguments.{is_target}
 use Rattle.mk_edit_language.specs.Causes.{where_holds}
-use Rattle.mk_edit_language.specs.Costs.{cost, size, line_count}
-use Rattle.mk_edit_language.specs.LineExchanges.{block_text, new_lines, with_line_ends}
+use Rattle.mk_edit_language.specs.Costs.{cost, size}
+use Rattle.mk_edit_language.specs.LineExchanges.{block_text, new_lines}
 use Rattle.mk_edit_language.specs.LineCauses.{follows_open_line}
 use Rattle.mk_edit_language.specs.LineRuns.{is_block, site_found}
 use Rattle.mk_edit_language.specs.Refusals.{first_cause, spans, text_after}
 use Rattle.mk_edit_language.specs.Stretches.{Stretch}
 use Rattle.mk_edit_language.specs.declared.refusal.Field.TheVariants as field
-use Rattle.mk_edit_language.proofs.on_edits.Accepted.{first-passed, no-cause, two-passed, where_holds-none}
-use Rattle.mk_edit_language.proofs.on_line_runs.BlockNumbers.{block-number, length-classed}
+use Rattle.mk_edit_language.proofs.on_edits.Accepted.{no-cause, two-passed, where_holds-none}
+use Rattle.mk_edit_language.proofs.on_line_runs.BlockNumbers.{block-number}
 use Rattle.mk_edit_language.proofs.on_line_runs.LinesExchanged.{lines-exchanged}
 use Rattle.mk_edit_parts.specs.SitesFound.{IsSited, causes_of_site}
 use Rattle.mk_edit_parts.specs.declared.window.Window.{Window}
 use Rattle.mk_patch.proofs.on_moves.ShapeLemmas.{LeadTo}
 use Rattle.mk_edit.specs.Planned.{IsPlanned, ended_by, ended_lines}
 use Rattle.mk_edit.specs.PlannedMoves.{follows_unended}
-use Rattle.mk_edit.specs.ExchangePlans.{clearing_moves, ending_length, lines_in, putting_moves}
+use Rattle.mk_edit.specs.ExchangePlans.{clearing_moves, lines_in, putting_moves}
 use Rattle.mk_edit.proofs.on_plans.DocumentPlaces.{defines-few, some-line}
 use Rattle.mk_edit.proofs.on_plans.PlanLemmas.{after-fits, lead-planned}
 use Rattle.mk_edit.proofs.on_exchanges.ExchangeCauses.{lines-there, size-lines}
@@ -92,11 +92,11 @@ allowed-block t s ts h = go s (no-cause (causes_of_site t s ts) h).0
     right false b h = h
 
     go : (s : Site) → bad_argument (ExchangeLines s ts) ≡ None → (is_empty ts || is_block ts) ≡ true
-    go Top h = right (is_empty ts) (is_block ts) (first-passed field.Block (is_block ts) [] h).0
     go (AtPlace p) h = right (is_empty ts) (is_block ts) (two-passed field.Place field.Block (is_place p) (is_block ts) h).1
     go (BeforeRun nth o) h = right (is_empty ts) (is_block ts) (two-passed field.Place field.Block (is_block o) (is_block ts) h).1
     go (AfterRun nth o) h = right (is_empty ts) (is_block ts) (two-passed field.Place field.Block (is_block o) (is_block ts) h).1
     go (OfRun nth o) h = (two-passed field.Old field.Block (is_block o) (is_empty ts || is_block ts) h).1
+    go (OfRuleRun nth g) h = (two-passed field.Target field.Block (is_target g) (is_empty ts || is_block ts) h).1
 
 -- as many lines are read as the edit costs
 pub exchange-cost : (s : Site) (ts : List (List ℕ)) (ls : List LocatedLine) (w : Window) → (S : IsSited s ts ls w) → length (logical_lines (block_text (located_text ls) ts S.stretch)) ≡ cost (located_text ls) (ExchangeLines s ts)

@@ -1,5 +1,5 @@
 -- The line ends of new lines, by the last line that goes.
-use Rattle.std.proofs.Common.{◌≡◌, refl, sym, ap, ◌∙◌, arith, ℕ, zero, suc, ◌+◌, ◌-◌, ◌<◌, ◌≤◌, ◌==◌, ◌&&◌, suc-add, Bool, true, false, not, List, [], ◌∷◌, ◌++◌, length, take, drop, Option, Some, None}
+use Rattle.std.proofs.Common.{◌≡◌, refl, sym, ap, ◌∙◌, arith, ℕ, zero, suc, ◌+◌, ◌<◌, ◌&&◌, suc-add, Bool, false, not, List, [], ◌∷◌, ◌++◌, take, drop, Some}
 use Rattle.std.specs.Prelude.{slice_get, if◌then◌else◌}
 use Rattle.mk_lines.specs.PhysicalLines.{line_end, file_line_end}
 use Rattle.mk_lines.specs.LogicalLines.{has_no_line_end}
@@ -16,7 +16,6 @@ use Rattle.mk_edit_language.proofs.on_line_runs.BlockEnds.{last_line_end-some}
 use Rattle.mk_edit_language.specs.Stretches.{Stretch}
 use Rattle.mk_edit.specs.ExchangePlans.{ends_by, ends_for}
 use Rattle.mk_edit.specs.PlannedMoves.{stretch_at}
-use Rattle.mk_edit.specs.declared.new_lines.LineEnds.{LineEnds}
 use Rattle.mk_edit.proofs.on_plans.NewLinePlans.{last_passes-last}
 
 -- some lines whose last has these bytes

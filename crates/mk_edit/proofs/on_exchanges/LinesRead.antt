@@ -1,12 +1,11 @@
 -- New lines, read one after the other below the lines above them.
-use Rattle.std.proofs.Common.{◌≡◌, refl, sym, ap, ◌∙◌, subst, arith, ℕ, suc, ◌+◌, ◌-◌, ◌^◌, ◌<◌, ◌≤◌, Bool, List, [], ◌∷◌, ◌++◌, append_assoc, append-nil, length, length-append}
+use Rattle.std.proofs.Common.{◌≡◌, refl, sym, ap, ◌∙◌, subst, arith, ℕ, suc, ◌+◌, ◌-◌, ◌^◌, ◌<◌, ◌≤◌, List, [], ◌∷◌, ◌++◌, append_assoc, append-nil, length, length-append}
 use Rattle.std.proofs.Common.{inl, inr}
 use Rattle.std.specs.Prelude.{◌⊎◌, min, max, Result, Ok, Err, IfErr, IsErrAnd}
 use Rattle.mk_lines.specs.Limits.{max_text}
 use Rattle.mk_lines.specs.LogicalLines.{logical_lines}
 use Rattle.mk_lines.proofs.on_lines.LineLemmas.{among, OneLine-logical}
-use Rattle.mk_lines.specs.Cells.{Cell, joined_byte}
-use Rattle.mk_class.specs.Classes.{Class}
+use Rattle.mk_lines.specs.Cells.{joined_byte}
 use Rattle.mk_class.specs.Classes.Class.{If}
 use Rattle.mk_class.specs.Contexts.{Admits, Context, conditionals_after, context_after, max_conditionals}
 use Rattle.mk_class.specs.LineReads.{OpensTooDeep}

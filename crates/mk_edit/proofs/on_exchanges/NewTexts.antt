@@ -1,11 +1,11 @@
 -- The text of new lines: the lines of a block with their line ends, and its length.
-use Rattle.std.proofs.Common.{◌≡◌, refl, sym, ap, ◌∙◌, arith, ℕ, zero, suc, suc-add, ◌+◌, ◌<◌, ◌≤◌, List, [], ◌∷◌, ◌++◌, append_assoc, Bool, true, false, cond, drop, get_or, length, reverse, length-append, Option, Some, None}
+use Rattle.std.proofs.Common.{◌≡◌, refl, sym, ap, ◌∙◌, arith, ℕ, zero, suc, suc-add, ◌+◌, ◌<◌, ◌≤◌, List, [], ◌∷◌, ◌++◌, append_assoc, Bool, true, false, cond, drop, get_or, length, reverse}
 use Rattle.std.specs.Prelude.{◌==◌, count_by, if◌then◌else◌}
 use Rattle.std.proofs.lemmas.List.{length-reverse, reverse-append}
 use Rattle.std.proofs.lemmas.List.Recursion.{is_count_by}
-use Rattle.mk_lines.specs.Lists.{onto_first, concat}
+use Rattle.mk_lines.specs.Lists.{onto_first}
 use Rattle.mk_lines.specs.PhysicalLines.{line_end_bytes}
-use Rattle.mk_lines.specs.LogicalLines.{has_no_line_end, logical_lines}
+use Rattle.mk_lines.specs.LogicalLines.{has_no_line_end}
 use Rattle.mk_lines.specs.declared.ends.End.{End}
 use Rattle.mk_lines.specs.declared.ends.End.TheVariants as ends
 use Rattle.mk_class.specs.ListTests.{is_empty, last_passes}

@@ -2,7 +2,6 @@
 use Rattle.std.proofs.Common.{◌≡◌, refl, sym, ap, ◌∙◌, subst, arith, ℕ, zero, suc, ◌+◌, ◌*◌, ◌<◌, ◌≤◌, Bool, true, false, not, ◌&&◌, List, [], ◌∷◌, length, Option, Some, None, option_map, inl, inr}
 use Rattle.std.specs.List.{list_any}
 use Rattle.std.specs.Prelude.{◌==◌, nat_lt, ◌⊎◌, if◌then◌else◌, slice_get, Ok, Err, Result, IfOk, OnOk, IsErrAnd, IsOkUnless}
-use Rattle.std.proofs.lemmas.Bool.{and_parts}
 use Rattle.std.proofs.lemmas.Grind.{common_steps}
 use Rattle.std.proofs.lemmas.List.{append-nil, length-map}
 use Rattle.mk_lines.specs.Limits.{max_text}
@@ -67,7 +66,7 @@ use Rattle.mk_edit_parts.proofs.on_renaming.WrittenLemmas.{apart-bytes, replaced
 use Rattle.mk_edit.proofs.on_renaming.SizesOfTexts.{put-moved, taken-moved}
 use Rattle.mk_edit.proofs.on_renaming.SizesOfWords.{put-replacing, taken-replacing}
 use Rattle.mk_edit_language.proofs.on_edits.MadeEdits.{line_change-by_itself}
-use Rattle.mk_edit.proofs.on_values.ValuePlaces.{IsValuePlace, IsVariablePlace, value-place, variable-place}
+use Rattle.mk_edit.proofs.on_values.ValuePlaces.{IsValuePlace, IsVariablePlace, value-place, variable-found, variable-place}
 use Rattle.mk_edit.proofs.on_line_changes.LinesMade.{HasPlaces, IsWritten, has-places, is-written, words-told}
 use Rattle.mk_edit.proofs.on_line_changes.MisreadLines.{bytes-in, misread-in}
 
@@ -111,7 +110,7 @@ sought-there nth n (Substitute f v) h = some f (first-passed field.From (is_clea
         go false k = cc
     some (b ∷ f) k = omega arith
 
-module _ (ls : List LocatedLine) (nth : Option ℕ) (n : List ℕ) (c : LineChange) (f : Found) (l : LocatedLine) (h : IsFaithful ls) (A : IsAddressed (ChangeLine nth n c) ls f) (P : IsValuePlace ls nth n f l) where
+module _ (ls : List LocatedLine) (nth : Option ℕ) (n : List ℕ) (c : LineChange) (f : Found) (l : LocatedLine) (h : IsFaithful ls) (A : IsAddressed (ChangeLine nth n c) ls f) (P : IsValuePlace ls (Variable nth n) f l) where
   abbrev text : List ℕ
   text = located_text ls
 
@@ -312,10 +311,10 @@ change_line nth n c ls f h A = record {
 }
   where
     V : IsVariablePlace ls f
-    V = variable-place (ChangeLine nth n c) ls f nth n h refl A
+    V = variable-place (ChangeLine nth n c) ls f (Variable nth n) h refl A
 
-    there : (l : LocatedLine) → Some l ≡ slice_get ls f.at → IsValuePlace ls nth n f l
-    there l g = value-place ls nth n f l h A.is_there A.is_one (not_prefix n A.not_reserved) A.meant g
+    there : (l : LocatedLine) → Some l ≡ slice_get ls f.at → IsValuePlace ls (Variable nth n) f l
+    there l g = value-place ls (Variable nth n) f l h (variable-found (located_text ls) n nth A.is_there A.is_one (not_prefix n A.not_reserved)) A.meant g
 
 pub change_line-of : (c : LineChange) (e : Edit) (ls : List LocatedLine) (f : Found) → IsFaithful ls → IsLineChange c e → IsAddressed e ls f → IsLineChangeOf c e ls f
 change_line-of c e ls f h K A = subst (λ z. IsLineChangeOf c z ls f) (sym K.is) (change_line K.nth K.name c ls f h (subst (λ z. IsAddressed z ls f) K.is A))

@@ -1,5 +1,5 @@
 -- Whether the line of an assignment after a change reads as stated: by its bytes, its value and its operator.
-use Rattle.std.proofs.Common.{◌≡◌, refl, sym, ap, ◌∙◌, ℕ, Bool, true, false, not, ◌&&◌, List, [], ◌∷◌, None}
+use Rattle.std.proofs.Common.{◌≡◌, sym, ap, ◌∙◌, ℕ, Bool, true, false, not, ◌&&◌, List, [], ◌∷◌, None}
 use Rattle.std.proofs.lemmas.Bool.{and_parts}
 use Rattle.std.proofs.lemmas.List.{append-nil}
 use Rattle.mk_lines.specs.Lists.{concat}
@@ -12,12 +12,11 @@ use Rattle.mk_class.specs.Classes.{Class}
 use Rattle.mk_class.specs.Classes.Class.{Assign}
 use Rattle.mk_class.specs.ClassTable.{class_of}
 use Rattle.mk_class.specs.Contexts.{Context}
-use Rattle.mk_class.specs.declared.assignment.Flavor.{Flavor}
 use Rattle.mk_tree.specs.LocatedLines.{LocatedLine}
 use Rattle.mk_edit_language.specs.EachLine.{InAssignment, change_pieces, each_bytes}
 use Rattle.mk_edit_language.specs.Edits.{LineChange}
-use Rattle.mk_edit_language.specs.LineChanges.{assigned_after, fits_line, flavor_after, is_misread, is_one, line_after, reads_as, value_after}
-use Rattle.mk_edit.specs.LineChangePlans.{IsAssignmentIn, is_changed_misread, meant_in, with_parts}
+use Rattle.mk_edit_language.specs.LineChanges.{assigned_after, fits_line, is_misread, is_one, line_after, reads_as}
+use Rattle.mk_edit.specs.LineChangePlans.{IsAssignmentIn, is_changed_misread, meant_in}
 
 -- a line that fits is one line
 only-line : (ks : List (List ℕ)) (m : List ℕ) → is_one ks ≡ true → concat ks ≡ m → ks ≡ m ∷ []

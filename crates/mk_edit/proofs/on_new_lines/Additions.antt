@@ -10,7 +10,8 @@ use Rattle.mk_edit_language.specs.NewLines.{new_text}
 use Rattle.mk_edit_language.specs.Refusals.{first_cause}
 use Rattle.mk_edit_language.specs.EditSpans.{spans_of}
 use Rattle.mk_edit_language.specs.Stretches.{insertion}
-use Rattle.mk_edit.specs.Insertions.{IsDecidedByPlace, IsInsertedAt, place_causes}
+use Rattle.mk_edit.specs.Insertions.{IsDecidedByPlace, place_causes}
+use Rattle.mk_edit_parts.specs.NewPlaces.{IsInsertedAt}
 use Rattle.mk_edit_parts.specs.declared.seek.Found.{Found}
 use Rattle.mk_edit_parts.proofs.CauseLemmas.{unrefused}
 use Rattle.mk_edit.proofs.on_plans.NewLinePlans.{IsPutIn, line-put_in}

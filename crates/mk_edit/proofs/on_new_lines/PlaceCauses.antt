@@ -1,6 +1,6 @@
 -- The causes of refusal that the place of a new line decides, by their tests on a document.
-use Rattle.std.proofs.Common.{◌≡◌, refl, sym, ap, ◌∙◌, arith, ℕ, ◌+◌, ◌-◌, ◌==◌, ◌&&◌, ◌||◌, Bool, true, false, not, cond, List, [], ◌∷◌, ◌++◌, length, take, drop, length-append, Option, Some, None}
-use Rattle.std.specs.Prelude.{nat_lt}
+use Rattle.std.proofs.Common.{◌≡◌, refl, sym, ap, ◌∙◌, arith, ℕ, ◌+◌, ◌-◌, ◌==◌, ◌&&◌, ◌||◌, Bool, true, false, not, cond, List, [], ◌∷◌, ◌++◌, subst, length, take, drop, length-append, Option, Some, None}
+use Rattle.std.specs.Prelude.{nat_lt, Err}
 use Rattle.std.proofs.lemmas.List.{take-append-drop}
 use Rattle.std.proofs.Math.Bool.{or-false}
 use Rattle.mk_lines.specs.Limits.{max_text}
@@ -17,35 +17,64 @@ use Rattle.mk_tree.specs.Leaning.{is_same_flag, leans}
 use Rattle.mk_tree.specs.NewLineEnds.{missing_line_end, lacks_line_end}
 use Rattle.mk_tree.specs.LocatedLines.{LocatedLine, located_text, size_of, last_line}
 use Rattle.mk_tree.proofs.on_changes.Sizes.{size_of-text}
-use Rattle.mk_edit_language.specs.AddressCauses.{begins_new_line, prefix_led}
-use Rattle.mk_edit_language.specs.Causes.{where_holds}
-use Rattle.mk_edit_language.specs.Edits.{Place, Bottom, BeforeVar, AfterVar, BeforeRule, Edit, AddLine, AddRecipe}
-use Rattle.mk_edit_language.specs.LineCauses.{follows_open_line, open_line, open_define, open_define_at, flag_below_new, new_line_leans, removal_leans, leaning, too_long}
+use Rattle.mk_edit_language.specs.AddressCauses.{begins_new_line, misplaced}
+use Rattle.mk_edit_language.specs.Addresses.{address, place_address}
+use Rattle.mk_edit_language.specs.Causes.{or_else, where_holds}
+use Rattle.mk_edit_language.specs.Edits.{Place, Top, Bottom, BeforeVar, AfterVar, AfterLastVar, BeforeRule, AfterRule, NewLine, Edit, AddLine, AddRecipe}
+use Rattle.mk_edit_language.specs.LineCauses.{follows_open_line, open_line, open_define, open_define_at, flag_below_new, new_line_leans, removal_leans, switched_leans, leaning, too_long}
 use Rattle.mk_edit_language.specs.NewLines.{new_text, new_line_span}
 use Rattle.mk_edit_language.specs.EditSpans.{spans_of, where_found}
 use Rattle.mk_edit_language.specs.Stretches.{Stretch, bottom, insertion, removal, place_found}
-use Rattle.mk_edit_language.specs.declared.refusal.Refusal.TheVariants.{RecipePrefix, OpenLine, OpenDefine, Leans, TooLong}
-use Rattle.mk_edit.specs.Insertions.{IsDecidedByPlace, IsInsertedAt, IsOfNewLine, IsOfPlace, is_bottom, is_at_bottom, is_open_line, ends_length}
+use Rattle.mk_edit_language.specs.Refusals.{spans}
+use Rattle.mk_edit_language.specs.RuleCauses.{straddles_at}
+use Rattle.mk_edit_language.specs.declared.refusal.Refusal.{Refusal}
+use Rattle.mk_edit_language.specs.declared.refusal.Refusal.TheVariants.{RecipePrefix, Straddles, OpenLine, OpenDefine, Leans, TooLong}
+use Rattle.mk_edit.specs.Insertions.{IsDecidedByPlace, IsOfNewLine, IsOfPlace, is_bottom, is_at_bottom, is_open_line, ends_length}
+use Rattle.mk_edit_parts.specs.NewPlaces.{IsInsertedAt}
 use Rattle.mk_edit_parts.specs.LineRanges.{is_led_first_located}
 use Rattle.mk_edit.specs.PlannedMoves.{is_unended, follows_unended}
 use Rattle.mk_edit_parts.specs.declared.seek.Found.{Found}
-use Rattle.mk_edit_parts.specs.Found.{IsAddressed}
-use Rattle.mk_edit_parts.proofs.CauseLemmas.{passed}
+use Rattle.mk_edit_parts.specs.Found.{IsAddressed, IsMeant}
+use Rattle.mk_edit_parts.proofs.CauseLemmas.{holds, passed}
 use Rattle.mk_edit_parts.proofs.on_finding.LeanLemmas.{led_first-located}
 use Rattle.mk_edit.proofs.on_new_lines.InsertionLemmas.{place-in, follows-last}
 use Rattle.mk_edit.proofs.on_plans.CausePlans.{addressed-own}
+use Rattle.mk_edit.proofs.on_recipes.OwnCauses.{own-refused}
 
 -- if the new line of a place does not begin with the prefix, its place decides
-pub decided-there : (e : Edit) (ls : List LocatedLine) (f place : Found) → IsOfPlace e → IsAddressed e ls f → IsInsertedAt ls (insertion (classed_lines (located_text ls)) e) place
-    → is_prefix_led place.context.prefix (new_text place.context.prefix e) ≡ false → IsDecidedByPlace (located_text ls) e
-decided-there (AddLine p l) ls f place o A I k =
+decided-line : (p : Place) (l : NewLine) (ls : List LocatedLine) (f place : Found) → straddles_at (classed_lines (located_text ls)) p ≡ None → IsAddressed (AddLine p l) ls f
+    → IsInsertedAt ls (insertion (classed_lines (located_text ls)) (AddLine p l)) place → is_prefix_led place.context.prefix (new_text place.context.prefix (AddLine p l)) ≡ false → IsDecidedByPlace (located_text ls) (AddLine p l)
+decided-line p l ls f place o A I k =
     let cs = classed_lines (located_text ls) in
     let e = AddLine p l in
-    let led : prefix_led cs e ≡ None =
-    ap (λ (o : Option Stretch). where_holds (begins_new_line e o) RecipePrefix) I.stretch_is
-    ∙ (ap (λ (c : Context). where_holds (is_prefix_led c.prefix (new_text c.prefix e)) RecipePrefix) I.context_is ∙ ap (λ b. where_holds b RecipePrefix) k) in
-    addressed-own e ls f _ A refl (passed (prefix_led cs e) _ _ led refl)
-decided-there e ls f place o A I k = absurd o
+    let led : misplaced cs e ≡ None =
+    ap (λ c. or_else c (where_holds (begins_new_line e (insertion cs e)) RecipePrefix)) o
+    ∙ (ap (λ (o : Option Stretch). where_holds (begins_new_line e o) RecipePrefix) I.stretch_is
+    ∙ (ap (λ (c : Context). where_holds (is_prefix_led c.prefix (new_text c.prefix e)) RecipePrefix) I.context_is ∙ ap (λ b. where_holds b RecipePrefix) k)) in
+    addressed-own e ls f _ A refl (passed (misplaced cs e) _ _ led refl)
+
+pub decided-there : (p : Place) (e : Edit) (ls : List LocatedLine) (f place : Found) → IsOfPlace p e → straddles_at (classed_lines (located_text ls)) p ≡ None → IsAddressed e ls f → IsInsertedAt ls (insertion (classed_lines (located_text ls)) e) place
+    → is_prefix_led place.context.prefix (new_text place.context.prefix e) ≡ false → IsDecidedByPlace (located_text ls) e
+decided-there p e ls f place o s A I k =
+    subst (λ z. IsDecidedByPlace (located_text ls) z) (sym o.is)
+    (decided-line p o.line ls f place s (subst (λ z. IsAddressed z ls f) o.is A) (subst (λ z. IsInsertedAt ls (insertion (classed_lines (located_text ls)) z) place) o.is I)
+    (ap (λ z. is_prefix_led place.context.prefix (new_text place.context.prefix z)) (sym o.is) ∙ k))
+
+-- where an edit applies that puts a line in at a place, and where its line goes
+pub placed : {p : Place} {e : Edit} {ls : List LocatedLine} {f : Found} → IsOfPlace p e → IsAddressed e ls f → IsMeant (classed_lines (located_text ls)) (place_address p) f
+placed {ls = ls} {f = f} o A = subst (λ z. IsMeant (classed_lines (located_text ls)) (address z) f) o.is A.meant
+
+pub placed-in : {p : Place} {e : Edit} {ls : List LocatedLine} {g : Found} → IsOfPlace p e → IsInsertedAt ls (place_found (classed_lines (located_text ls)) p) g → IsInsertedAt ls (insertion (classed_lines (located_text ls)) e) g
+placed-in {ls = ls} {g = g} o I = subst (λ z. IsInsertedAt ls (insertion (classed_lines (located_text ls)) z) g) (sym o.is) I
+
+-- a rule is split after which the new line would go, or its line begins with the prefix
+misplaced-first : (e : Edit) (ls : List LocatedLine) (f : Found) (r : Refusal) → IsAddressed e ls f → misplaced (classed_lines (located_text ls)) e ≡ Some r → spans (located_text ls) e ≡ Err r
+misplaced-first e ls f r A h = own-refused e ls f r A (holds (misplaced (classed_lines (located_text ls)) e) _ r h)
+
+pub split-there : (p : Place) (e : Edit) (ls : List LocatedLine) (f : Found) → IsOfPlace p e → straddles_at (classed_lines (located_text ls)) p ≡ Some Straddles → IsAddressed e ls f → spans (located_text ls) e ≡ Err Straddles
+split-there p e ls f o s A =
+    let cs = classed_lines (located_text ls) in
+    misplaced-first e ls f Straddles A (ap (misplaced cs) o.is ∙ ap (λ c. or_else c (where_holds (begins_new_line (AddLine p o.line) (insertion cs (AddLine p o.line))) RecipePrefix)) s)
 
 -- ---- OpenLine
 
@@ -67,12 +96,18 @@ bottom-context ls Bottom s b h = let k : bottom ls ≡ s = cc in ap (λ (z : Str
 bottom-context ls (BeforeVar nth n) s b h = absurd (cc)
 bottom-context ls (AfterVar nth n) s b h = absurd (cc)
 bottom-context ls (BeforeRule nth g) s b h = absurd (cc)
+bottom-context ls Top s b h = absurd (cc)
+bottom-context ls (AfterLastVar n) s b h = absurd (cc)
+bottom-context ls (AfterRule nth g) s b h = absurd (cc)
 
 define-at : (ls : List ClassedLine) (p : Place) (n : ℕ) → (is_bottom p ≡ true → (context_of ls).defines ≡ n) → open_define_at ls p ≡ where_holds (is_bottom p && nat_lt 0 n) OpenDefine
 define-at ls Bottom n h = ap (λ m. where_holds (nat_lt 0 m) OpenDefine) (h refl)
 define-at ls (BeforeVar nth x) n h = refl
 define-at ls (AfterVar nth x) n h = refl
 define-at ls (BeforeRule nth g) n h = refl
+define-at ls Top n h = refl
+define-at ls (AfterLastVar x) n h = refl
+define-at ls (AfterRule nth g) n h = refl
 
 place-defines : (ls : List LocatedLine) (p : Place) (f : Found) → IsInsertedAt ls (place_found (classed_lines (located_text ls)) p) f → is_bottom p ≡ true
     → (context_of (classed_lines (located_text ls))).defines ≡ f.context.defines
@@ -93,6 +128,11 @@ none-removed ls (AddLine p l) u = refl
 none-removed ls (AddRecipe nth g p c) u = refl
 none-removed ls e u = absurd u
 
+none-switched : (ls : List ClassedLine) (e : Edit) → IsOfNewLine e → switched_leans ls e ≡ false
+none-switched ls (AddLine p l) u = refl
+none-switched ls (AddRecipe nth g p c) u = refl
+none-switched ls e u = absurd u
+
 pub leaning-at : (ls : List LocatedLine) (e : Edit) (f : Found) (b : Bool) → IsFaithful ls → IsOfNewLine e → IsInsertedAt ls (insertion (classed_lines (located_text ls)) e) f
     → b ≡ (not (is_same_flag (flag_below_new e) f.context.flag) && is_led_first_located f.context.prefix (drop f.at ls))
     → leaning (classed_lines (located_text ls)) e ≡ where_holds b Leans
@@ -104,8 +144,9 @@ leaning-at ls e f b h u N k =
     let new : new_line_leans e (insertion cls e) ≡ leans f.context.prefix (flag_below_new e) f.context.flag s.below =
     ap (new_line_leans e) N.stretch_is ∙ ap (λ c. leans c.prefix (flag_below_new e) c.flag s.below) N.context_is in
     let same : b ≡ leans f.context.prefix (flag_below_new e) f.context.flag s.below = k ∙ ap (λ z. not (is_same_flag (flag_below_new e) f.context.flag) && z) led in
-    ap (λ o. where_holds (new_line_leans e (insertion cls e) || removal_leans o) Leans) (none-removed cls e u)
-    ∙ (ap (λ z. where_holds z Leans) (or-false (new_line_leans e (insertion cls e))) ∙ ap (λ z. where_holds z Leans) (new ∙ sym same))
+    ap (λ b. where_holds (b || (new_line_leans e (insertion cls e) || removal_leans (removal cls e))) Leans) (none-switched cls e u)
+    ∙ (ap (λ o. where_holds (new_line_leans e (insertion cls e) || removal_leans o) Leans) (none-removed cls e u)
+    ∙ (ap (λ z. where_holds z Leans) (or-false (new_line_leans e (insertion cls e))) ∙ ap (λ z. where_holds z Leans) (new ∙ sym same)))
 
 -- ---- TooLong
 

@@ -1,19 +1,19 @@
 -- The causes of an edit that come after those that find its line, and what decides them.
-use Rattle.std.proofs.Common.{◌≡◌, refl, sym, ap, ◌∙◌, arith, ℕ, ◌+◌, ◌<◌, ◌≤◌, List, [], ◌∷◌, ◌++◌, ◌||◌, Bool, true, false, length, Option, Some, None}
+use Rattle.std.proofs.Common.{◌≡◌, refl, sym, ap, ◌∙◌, arith, ℕ, ◌+◌, ◌*◌, ◌<◌, ◌≤◌, List, [], ◌∷◌, ◌++◌, ◌||◌, Bool, true, false, length, Option, Some, None}
 use Rattle.std.specs.Prelude.{nat_lt}
 use Rattle.std.proofs.lemmas.Bool.{lt-ltb, le-ltb, ltb-true, ltb-false}
 use Rattle.mk_lines.specs.Limits.{max_text}
 use Rattle.mk_lines.specs.Pieces.{Replacement, replaced}
 use Rattle.mk_class.specs.ClassedLines.{ClassedLine, classed_lines}
 use Rattle.mk_tree.specs.LocatedLines.{LocatedLine, located_text}
-use Rattle.mk_edit_language.specs.Edits.{Edit, ChangeValue, ChangeLine, ChangePrereqs, AddLine, AddRecipe, SetRecipe, RemoveLines, RenameTarget, ExchangeLines, EachLine}
+use Rattle.mk_edit_language.specs.Edits.{Edit, ChangeValue, ChangeLine, ChangePrereqs, AddLine, AddRecipe, SetRecipe, RemoveLines, RenameTarget, SwitchLine, ExchangeLines, EachLine}
 use Rattle.mk_edit_language.specs.EditSpans.{spans_of}
 use Rattle.mk_edit_language.specs.Stretches.{Stretch, insertion, removal}
 use Rattle.mk_edit_language.specs.Causes.{where_holds}
 use Rattle.mk_edit_language.specs.ArgumentCauses.{bad_argument, reserved}
-use Rattle.mk_edit_language.specs.AddressCauses.{unread_prefix, no_such, ambiguous, prefix_led}
+use Rattle.mk_edit_language.specs.AddressCauses.{unread_prefix, no_such, ambiguous, misplaced}
 use Rattle.mk_edit_language.specs.RuleCauses.{absent, already, taken, shared_rule, straddles}
-use Rattle.mk_edit_language.specs.LineCauses.{open_value, open_line, open_define, leaning, new_line_leans, removal_leans, too_long, misread}
+use Rattle.mk_edit_language.specs.LineCauses.{open_value, open_line, open_define, leaning, new_line_leans, removal_leans, switched_leans, too_long, misread}
 use Rattle.mk_edit_language.specs.Lengths.{bytes_taken, bytes_put}
 use Rattle.mk_edit_language.specs.Refusals.{first_cause, causes, not_exchanged}
 use Rattle.mk_edit_language.specs.declared.refusal.Refusal.{Refusal}
@@ -29,7 +29,7 @@ use Rattle.mk_edit_parts.proofs.CauseLemmas.{passed}
 
 abbrev pub own_causes : (text : List ℕ) → List ClassedLine → Edit → List (Option Refusal)
 own_causes t ls e =
-    prefix_led ls e
+    misplaced ls e
     ∷ absent ls e
     ∷ already ls e
     ∷ taken ls e
@@ -56,7 +56,7 @@ addressed-all e ls f r A h =
     let cs = classed_lines (located_text ls) in
     let t = located_text ls in
     let places =
-    prefix_led cs e
+    misplaced cs e
     ∷ absent cs e
     ∷ already cs e
     ∷ taken cs e
@@ -108,13 +108,20 @@ removal-read ls (AddRecipe nth g p c) s h = refl
 removal-read ls (SetRecipe nth g w c) s h = refl
 removal-read ls (RemoveLines r) s h = refl
 removal-read ls (RenameTarget o n) s h = refl
+removal-read ls (SwitchLine w nth n) s h = absurd (cc)
 removal-read ls (ExchangeLines x ts) s h = refl
 removal-read ls (EachLine e) s h = absurd (cc)
 
+-- and switches no line
+removal-unswitched : (ls : List ClassedLine) (e : Edit) (s : Stretch) → removal ls e ≡ Some s → switched_leans ls e ≡ false
+removal-unswitched ls (SwitchLine w nth n) s h = absurd (cc)
+removal-unswitched ls e s h = refl
+
 pub removal-leaning : (ls : List ClassedLine) (e : Edit) (s : Stretch) (b : Bool) → insertion ls e ≡ None → removal ls e ≡ Some s → b ≡ removal_leans (Some s) → leaning ls e ≡ where_holds b Leans
 removal-leaning ls e s b i h k =
-    ap (λ o. where_holds (new_line_leans e o || removal_leans (removal ls e)) Leans) i
-    ∙ (ap (λ (o : Option Stretch). where_holds (removal_leans o) Leans) h ∙ ap (λ q. where_holds q Leans) (sym k))
+    ap (λ b. where_holds (b || (new_line_leans e (insertion ls e) || removal_leans (removal ls e))) Leans) (removal-unswitched ls e s h)
+    ∙ (ap (λ o. where_holds (new_line_leans e o || removal_leans (removal ls e)) Leans) i
+    ∙ (ap (λ (o : Option Stretch). where_holds (removal_leans o) Leans) h ∙ ap (λ q. where_holds q Leans) (sym k)))
 
 -- ---- TooLong, by how many bytes the spans put in and take out
 
@@ -140,6 +147,11 @@ long-by t e spared put h =
 pub long-said : (t : List ℕ) (e : Edit) (taken put : ℕ) → bytes_taken (spans_of t (classed_lines t) e) ≡ taken → bytes_put (spans_of t (classed_lines t) e) ≡ put
     → too_long t (spans_of t (classed_lines t) e) ≡ where_holds (nat_lt (max_text + taken) (length t + put)) TooLong
 long-said t e taken put h k = long-by t e taken put (omega (arith, h, k))
+
+-- whether a text would be too long, by numbers that are equal
+pub long-as : (r o : Bool) (k b n s K B N S : ℕ) → r ≡ nat_lt (max_text + b) (s + k * n) → k ≡ K → b ≡ B → n ≡ N → s ≡ S → r ≡ o → nat_lt (max_text + B) (S + K * N) ≡ o
+long-as r o k b n s K B N S h k-is b-is n-is s-is e =
+    sym (h ∙ (ap (λ z. nat_lt (max_text + b) (s + z * n)) k-is ∙ (ap (λ z. nat_lt (max_text + z) (s + K * n)) b-is ∙ (ap (λ z. nat_lt (max_text + B) (s + K * z)) n-is ∙ ap (λ z. nat_lt (max_text + B) (z + K * N)) s-is)))) ∙ e
 
 -- an edit that puts no bytes in makes no text too long
 pub never-long : (t : List ℕ) (e : Edit) → bytes_put (spans_of t (classed_lines t) e) ≡ 0 → length t ≤ max_text → too_long t (spans_of t (classed_lines t) e) ≡ None

@@ -10,7 +10,7 @@ use Rattle.mk_tree.specs.Documents.{IsFaithful, document_lines, context_of}
 use Rattle.mk_tree.specs.LineTexts.{line_in}
 use Rattle.mk_tree.specs.LocatedLines.{LocatedLine, located_line, located_lines, located_text, size_of}
 use Rattle.mk_tree.proofs.on_documents.DocumentLemmas.{faithful-own}
-use Rattle.mk_edit_language.specs.Edits.{One, Every, Edit, ChangeValue, ChangeLine, ChangePrereqs, AddLine, AddRecipe, SetRecipe, RemoveLines, RenameTarget, ExchangeLines, EachLine}
+use Rattle.mk_edit_language.specs.Edits.{One, Every, Edit, ChangeValue, ChangeLine, ChangePrereqs, AddLine, AddRecipe, SetRecipe, RemoveLines, RenameTarget, SwitchLine, ExchangeLines, EachLine}
 use Rattle.mk_edit_language.specs.Stretches.{Stretch, between, insertion, touched_by}
 use Rattle.mk_edit_language.specs.Costs.{cost, size}
 use Rattle.mk_edit_language.specs.KeptLines.{edited_bytes, new_line_bytes}
@@ -100,6 +100,7 @@ changes-one t (ChangeValue Every n c) rs s m h few k = absurd (cc)
 changes-one t (ChangeLine nth n c) rs s m h few k = record { cost_is = refl; size_is = refl }
 changes-one t (ChangePrereqs nth g c) rs s m h few k = record { cost_is = refl; size_is = refl }
 changes-one t (SetRecipe nth g w c) rs s m h few k = record { cost_is = refl; size_is = refl }
+changes-one t (SwitchLine w nth n) rs s m h few k = record { cost_is = refl; size_is = refl }
 changes-one t (AddLine p l) rs s m h few k = absurd (touched-some (insertion (classed_lines t) (AddLine p l)) s h few)
 changes-one t (AddRecipe nth g p c) rs s m h few k = absurd (touched-some (insertion (classed_lines t) (AddRecipe nth g p c)) s h few)
 changes-one t (RemoveLines r) rs s m h few k = absurd (cc)

@@ -14,7 +14,7 @@ use Rattle.mk_tree.proofs.on_changes.Sizes.{size_of-text}
 use Rattle.mk_edit_language.specs.Edits.{OfAssign, Edit, RemoveLines}
 use Rattle.mk_edit_language.specs.EditSpans.{spans_of, removed_span, where_found}
 use Rattle.mk_edit_language.specs.Stretches.{Stretch, this_line, insertion, removal, touched_by}
-use Rattle.mk_edit_language.specs.Addresses.{Address, Variable}
+use Rattle.mk_edit_language.specs.Addresses.{Variable}
 use Rattle.mk_edit_language.specs.Causes.{where_holds}
 use Rattle.mk_edit_language.specs.Costs.{cost, size}
 use Rattle.mk_edit_language.specs.LineCauses.{leaning, removal_leans, too_long}
@@ -30,6 +30,7 @@ use Rattle.mk_edit.specs.PlannedMoves.{stretch_at}
 use Rattle.mk_edit_parts.specs.declared.seek.Found.{Found}
 use Rattle.mk_edit_parts.proofs.CauseLemmas.{passed, holds, refused, unrefused}
 use Rattle.mk_edit_parts.proofs.on_finding.LeanLemmas.{led_first-located}
+use Rattle.mk_edit_parts.proofs.on_new_lines.NewLinePlaces.{found-place}
 use Rattle.mk_edit.proofs.on_plans.PlanLemmas.{faithful-length}
 use Rattle.mk_edit.proofs.on_plans.LinePlans.{IsTakenOut, lines-taken_out}
 use Rattle.mk_edit.proofs.on_plans.CausePlans.{own_causes, addressed-own, removal-read, removal-leaning, never-long}
@@ -73,17 +74,6 @@ leans-said ls place after count b f p q n h =
     h
     ∙ (ap (λ z. not (is_same_flag place.context.flag after.context.flag) && z) led
     ∙ (ap (λ (c : Context). leans c.prefix c.flag after.context.flag s.below) (sym p) ∙ ap (λ (c : Context). leans (context_of s.above).prefix (context_of s.above).flag c.flag s.below) (sym both)))
-
--- ---- where an edit applies
-
--- the place of the line that an address means
-pub place-found : (ls : List LocatedLine) (a : Address) (f : Found) → IsFoundAt (classed_lines (located_text ls)) a f → IsPlaceOf ls f
-place-found ls a f F =
-    let s = F.spot in
-    let cs = classed_lines (located_text ls) in
-    let w : cs ≡ s.above ++ s.line ∷ s.below = found-spot cs a s F.found_is in
-    let above : take f.at cs ≡ s.above = ap (take f.at) w ∙ (ap (λ k. take k (s.above ++ s.line ∷ s.below)) (sym F.place_is) ∙ take-append_seam s.above (s.line ∷ s.below)) in
-    ap context_of above ∙ F.context_is
 
 -- ---- edits that take out a number of lines from a place on
 
@@ -143,7 +133,7 @@ remove_assign-at (RemoveLines (OfAssign nth n)) ls f u g A =
     let removed : removal cs e ≡ Some (this_line s) = ap (option_map this_line) F.found_is in
     let at : removal cs e ≡ Some (stretch_at cs f.at 1) = removed ∙ ap Some (sym here) in
     record {
-      place = place-found ls (Variable nth n) f F;
+      place = found-place ls (Variable nth n) f F;
       takes = record {
         removal_is = at;
         touched_is = at;

@@ -41,12 +41,12 @@ use Rattle.mk_edit_parts.specs.declared.seek.Found.{Found}
 use Rattle.mk_edit_parts.proofs.CauseLemmas.{passed, holds}
 use Rattle.mk_edit.proofs.on_plans.CausePlans.{long-said}
 use Rattle.mk_edit.proofs.on_plans.LinePlans.{IsReplaced}
-use Rattle.mk_edit.proofs.on_plans.RemovalPlans.{place-found}
+use Rattle.mk_edit_parts.proofs.on_new_lines.NewLinePlaces.{found-place}
 use Rattle.mk_edit_parts.proofs.on_prerequisites.HeaderBytes.{header-with, new-within, raw-front}
 use Rattle.mk_edit.proofs.on_prerequisites.HeaderPlaces.{rule-line, rule-class, header-seen}
 use Rattle.mk_edit.proofs.on_prerequisites.WordPlans.{IsWordEdit, words-replaced, pieces-whole, pieces-length}
 use Rattle.mk_edit.proofs.on_recipes.OwnCauses.{own-refused, own-accepted}
-use Rattle.mk_edit.proofs.on_recipes.RulePlaces.{IsRuleAt, rule-at}
+use Rattle.mk_edit_parts.proofs.on_recipes.RulePlaces.{IsRuleAt, rule-at}
 
 -- ---- the pieces
 
@@ -130,7 +130,7 @@ add_prereq : (order : Bool) (nth : Option ℕ) (g w : List ℕ) (ls : List Locat
 add_prereq order nth g w ls f h A = record {
   parts = x;
   within = R.line.within;
-  place = place-found ls (Rule nth g) f A.meant;
+  place = found-place ls (Rule nth g) f A.meant;
   rule = λ l k. rule-class ls nth g f l R k;
   seen = λ l at k p. header-seen ls nth g f l at R k p;
   listed = λ q. own-refused e ls f Already A (holds (already lines e) _ Already (already-asked order nth g w ls f true R q));

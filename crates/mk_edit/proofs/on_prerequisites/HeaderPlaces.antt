@@ -14,7 +14,7 @@ use Rattle.mk_tree.specs.LocatedLines.{LocatedLine, located_line}
 use Rattle.mk_edit_language.proofs.on_lines.HeaderChanges.{header-here}
 use Rattle.mk_edit_parts.specs.SeenHeaders.{IsHeaderSeen, IsHeaderAt, IsRuleLine}
 use Rattle.mk_edit_parts.specs.declared.seek.Found.{Found}
-use Rattle.mk_edit.proofs.on_recipes.RulePlaces.{IsRuleAt}
+use Rattle.mk_edit_parts.proofs.on_recipes.RulePlaces.{IsRuleAt}
 
 -- the line of a document where the header of a rule stands
 pub rule-line : (ls : List LocatedLine) (nth : Option ℕ) (g : List ℕ) (f : Found) (l : LocatedLine) → (R : IsRuleAt ls nth g f) → Some l ≡ slice_get ls f.at → l ≡ located_line R.spot.line

@@ -36,11 +36,11 @@ use Rattle.mk_edit_parts.specs.declared.seek.Found.{Found}
 use Rattle.mk_edit_parts.proofs.CauseLemmas.{passed, holds}
 use Rattle.mk_edit.proofs.on_plans.CausePlans.{never-long}
 use Rattle.mk_edit.proofs.on_plans.LinePlans.{IsReplaced}
-use Rattle.mk_edit.proofs.on_plans.RemovalPlans.{place-found}
+use Rattle.mk_edit_parts.proofs.on_new_lines.NewLinePlaces.{found-place}
 use Rattle.mk_edit.proofs.on_prerequisites.HeaderPlaces.{rule-line, rule-class, header-seen}
 use Rattle.mk_edit.proofs.on_prerequisites.WordPlans.{IsWordEdit, words-replaced, pieces-whole, PutNothing, nothing-put, nothing-append}
 use Rattle.mk_edit.proofs.on_recipes.OwnCauses.{own-refused, own-accepted}
-use Rattle.mk_edit.proofs.on_recipes.RulePlaces.{IsRuleAt, rule-at}
+use Rattle.mk_edit_parts.proofs.on_recipes.RulePlaces.{IsRuleAt, rule-at}
 
 -- ---- no bytes are put in
 
@@ -75,7 +75,7 @@ remove_prereq : (nth : Option ℕ) (g w : List ℕ) (ls : List LocatedLine) (f :
 remove_prereq nth g w ls f h A = record {
   parts = x;
   within = R.line.within;
-  place = place-found ls (Rule nth g) f A.meant;
+  place = found-place ls (Rule nth g) f A.meant;
   rule = λ l k. rule-class ls nth g f l R k;
   seen = λ l at k p. header-seen ls nth g f l at R k p;
   missing = λ q. own-refused e ls f Absent A (holds (absent lines e) _ Absent (asked false q));

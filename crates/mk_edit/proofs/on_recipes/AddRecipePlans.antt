@@ -26,14 +26,14 @@ use Rattle.mk_edit_parts.specs.declared.seek.Found.{Found}
 use Rattle.mk_edit_parts.proofs.CauseLemmas.{passed, holds}
 use Rattle.mk_edit_parts.proofs.on_finding.SeekLemmas.{nth-map}
 use Rattle.mk_edit_parts.proofs.on_recipes.GapLemmas.{offset_of}
-use Rattle.mk_edit.specs.Insertions.{IsDecidedByPlace, IsInsertedAt, place_causes}
+use Rattle.mk_edit.specs.Insertions.{IsDecidedByPlace, place_causes}
+use Rattle.mk_edit_parts.specs.NewPlaces.{IsInsertedAt}
 use Rattle.mk_edit.specs.RecipeEdits.{IsAddRecipe, place_index}
-use Rattle.mk_edit.proofs.on_new_lines.InsertionLemmas.{inserted-between}
 use Rattle.mk_edit.proofs.on_plans.CausePlans.{addressed-own}
 use Rattle.mk_edit.proofs.on_plans.PlanLemmas.{faithful-length}
-use Rattle.mk_edit.proofs.on_plans.RemovalPlans.{place-found}
+use Rattle.mk_edit_parts.proofs.on_new_lines.NewLinePlaces.{found-place, inserted-between}
 use Rattle.mk_edit.proofs.on_recipes.OwnCauses.{own-refused}
-use Rattle.mk_edit.proofs.on_recipes.RulePlaces.{IsRuleAt, rule-at}
+use Rattle.mk_edit_parts.proofs.on_recipes.RulePlaces.{IsRuleAt, rule-at}
 use Rattle.mk_edit.proofs.on_recipes.RemoveRulePlans.{straddles-is}
 
 -- where the code puts a new recipe line of the rule whose header stands there
@@ -155,7 +155,7 @@ pub record IsAddRecipeOf (p : RecipePlace) (e : Edit) (ls : List LocatedLine) (f
 
 add_recipe : (nth : Option ℕ) (t : List ℕ) (p : RecipePlace) (c : List ℕ) (ls : List LocatedLine) (f : Found) → IsFaithful ls → IsAddressed (AddRecipe nth t p c) ls f → IsAddRecipeOf p (AddRecipe nth t p c) ls f
 add_recipe nth t p c ls f h A = record {
-  place = place-found ls (Rule nth t) f A.meant;
+  place = found-place ls (Rule nth t) f A.meant;
   within = R.line.within;
   missing = λ m. own-refused e ls f Absent A (holds (absent cls e) _ Absent (absent-missing ls nth t f p c R m));
   below = λ at m. omega (arith, index-below p (f.at + 1) at (lines_from ls (f.at + 1)) m);

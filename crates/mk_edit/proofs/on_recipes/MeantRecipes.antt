@@ -18,7 +18,7 @@ use Rattle.mk_edit_parts.specs.RecipeWalks.{lines_from, recipe_spots_in}
 use Rattle.mk_edit_parts.specs.declared.seek.Found.{Found}
 use Rattle.mk_edit_parts.proofs.on_recipes.TextWalks.{filter-text}
 use Rattle.mk_edit.specs.RecipeEdits.{index_or_absent, line_index, meant_recipe, only_index}
-use Rattle.mk_edit.proofs.on_recipes.RulePlaces.{IsRuleAt}
+use Rattle.mk_edit_parts.proofs.on_recipes.RulePlaces.{IsRuleAt}
 use Rattle.mk_edit.proofs.on_recipes.RecipePlaces.{found-none, found-some, index_in_rule}
 
 -- the index of the recipe line that an edit means, whose header stands at this place

@@ -19,7 +19,7 @@ use Rattle.mk_edit_parts.specs.RecipeWalks.{lines_from, recipe_spots_in}
 use Rattle.mk_edit_parts.specs.declared.seek.Found.{Found}
 use Rattle.mk_edit_parts.proofs.on_finding.SeekLemmas.{nth-map}
 use Rattle.mk_edit_parts.proofs.on_recipes.TextWalks.{filter-text}
-use Rattle.mk_edit.proofs.on_recipes.RulePlaces.{IsRuleAt}
+use Rattle.mk_edit_parts.proofs.on_recipes.RulePlaces.{IsRuleAt}
 
 -- the recipe line that is meant, among those of its rule
 abbrev pub spot_in : RecipeLine → List StandingLine → Option StandingLine

@@ -27,7 +27,7 @@ use Rattle.mk_edit_parts.proofs.CauseLemmas.{passed, holds}
 use Rattle.mk_edit.proofs.on_plans.CausePlans.{never-long}
 use Rattle.mk_edit.proofs.on_plans.LinePlans.{IsTakenOut, lines-taken_out}
 use Rattle.mk_edit.proofs.on_recipes.OwnCauses.{own-refused, own-accepted}
-use Rattle.mk_edit.proofs.on_recipes.RulePlaces.{IsRuleAt, rule-at}
+use Rattle.mk_edit_parts.proofs.on_recipes.RulePlaces.{IsRuleAt, rule-at}
 use Rattle.mk_edit.proofs.on_recipes.MeantRecipes.{meant_index, recipe-meant, recipe-missing}
 use Rattle.mk_edit.proofs.on_recipes.RecipePlaces.{IsRecipeAt, found-some}
 

@@ -1,63 +1,39 @@
 -- The removal of a rule: its causes by what the code asks, and its plan.
 use Rattle.std.proofs.Common.{◌≡◌, refl, sym, ap, ◌∙◌, arith, ℕ, ◌+◌, ◌-◌, ◌<◌, ◌≤◌, true, false, Bool, List, [], length, Option, Some, None, option_map}
 use Rattle.std.specs.List.{list_any}
-use Rattle.std.specs.Prelude.{Err, nat_lt, slice_get}
+use Rattle.std.specs.Prelude.{Err, slice_get}
 use Rattle.std.proofs.lemmas.Bool.{lt-ltb, le-ltb}
 use Rattle.mk_lines.specs.Limits.{max_text}
-use Rattle.mk_lines.specs.Cells.{Cell, joined_byte, joined_text, line_cells}
-use Rattle.mk_class.specs.Headers
 use Rattle.mk_class.specs.Classes.{is_conditional}
-use Rattle.mk_class.specs.Classes.Class.{Header}
-use Rattle.mk_class.specs.LocatedClasses.{located_class}
-use Rattle.mk_class.specs.Contexts.{Context}
-use Rattle.mk_class.specs.ClassTable.{class_of}
 use Rattle.mk_class.specs.ClassedLines.{ClassedLine, classed_lines}
-use Rattle.mk_class.proofs.on_classes.LinePartLemmas.{line-parts_located}
 use Rattle.mk_tree.specs.Documents.{IsFaithful}
-use Rattle.mk_tree.specs.LocatedLines.{LocatedLine, located_line, located_text, size_of}
+use Rattle.mk_tree.specs.LocatedLines.{LocatedLine, located_text, size_of}
 use Rattle.mk_tree.specs.RecipeLines.{recipe_run}
 use Rattle.mk_tree.proofs.on_changes.Sizes.{size_of-text}
 use Rattle.mk_tree.specs.LineTexts.{StandingLine}
 use Rattle.mk_edit_language.specs.Edits.{OfRule, Edit, RemoveLines}
-use Rattle.mk_edit_language.specs.Addresses.{Rule, targets_of, found}
+use Rattle.mk_edit_language.specs.Addresses.{Rule, found}
 use Rattle.mk_edit_language.specs.Stretches.{whole_rule}
 use Rattle.mk_edit_language.specs.EditSpans.{removed_span, spans_of, where_found}
 use Rattle.mk_edit_language.specs.Causes.{where_holds}
 use Rattle.mk_edit_language.specs.Costs.{line_count}
-use Rattle.mk_edit_language.specs.RuleCauses.{class_found, targets_found, shared_by, shared_rule, has_conditional, straddles}
+use Rattle.mk_edit_language.specs.RuleCauses.{shared_rule, has_conditional, straddles}
 use Rattle.mk_edit_language.specs.LineCauses.{leaning, too_long}
 use Rattle.mk_edit_language.specs.Lengths.{bytes_put}
 use Rattle.mk_edit_language.specs.Refusals.{spans}
 use Rattle.mk_edit_language.specs.declared.refusal.Refusal.TheVariants.{SharedRule, Straddles}
 use Rattle.mk_edit_parts.specs.Found.{IsAddressed}
 use Rattle.mk_edit.specs.RecipeEdits.{IsRemoveRule}
-use Rattle.mk_edit_parts.specs.RecipeWalks.{lines_from, header_targets_in, header_targets_located}
+use Rattle.mk_edit_parts.specs.RecipeWalks.{lines_from, header_targets_located}
 use Rattle.mk_edit_parts.specs.declared.seek.Found.{Found}
 use Rattle.mk_edit_parts.proofs.CauseLemmas.{passed, holds}
-use Rattle.mk_edit_parts.proofs.on_finding.PartLemmas.{words-part}
 use Rattle.mk_edit.proofs.on_plans.CausePlans.{never-long}
 use Rattle.mk_edit.proofs.on_plans.LinePlans.{IsTakenOut, lines-taken_out}
 use Rattle.mk_edit.proofs.on_recipes.OwnCauses.{own-refused, own-accepted}
 use Rattle.mk_edit.proofs.on_recipes.RuleEnds.{removal-never_leans}
-use Rattle.mk_edit.proofs.on_recipes.RulePlaces.{IsRuleAt, rule-at, rule-within}
-
--- ---- the targets of a header
-
-header-targets : (c : Context) (l : ClassedLine) (x : Headers.Header Cell) → class_of c l.bytes ≡ l.class → l.class ≡ Header x → header_targets_located (located_line l) ≡ targets_of l.class
-header-targets c l x h k =
-    let P = line-parts_located c l.bytes (located_class joined_byte (Header x)) (ap (located_class joined_byte) (sym (h ∙ k))) in
-    ap (header_targets_in (joined_text (line_cells l.bytes))) (ap (located_class joined_byte) k) ∙ (words-part (line_cells l.bytes) _ [] P.0.targets P.2.targets ∙ ap targets_of (sym P.1 ∙ h))
+use Rattle.mk_edit_parts.proofs.on_recipes.RulePlaces.{IsRuleAt, rule-at, rule-within, shared-told}
 
 -- ---- causes
-
-shared-is : (ls : List LocatedLine) (nth : Option ℕ) (g : List ℕ) (f : Found) (l : LocatedLine) (n : ℕ) → IsRuleAt ls nth g f → Some l ≡ slice_get ls f.at → n ≡ length (header_targets_located l)
-    → shared_rule (classed_lines (located_text ls)) (RemoveLines (OfRule nth g)) ≡ where_holds (nat_lt 1 n) (SharedRule n)
-shared-is ls nth g f l n R h k =
-    let s = R.spot in
-    let q : Some l ≡ Some (located_line s.line) = h ∙ R.line.line_is in
-    let same : l ≡ located_line s.line = cc in
-    let m : n ≡ length (targets_of s.line.class) = k ∙ (ap (λ (z : LocatedLine). length (header_targets_located z)) same ∙ ap length (header-targets f.context s.line R.header R.line.class_is R.class_is)) in
-    ap (λ (o : Option StandingLine). shared_by (targets_found (class_found o))) R.found_is ∙ ap (λ n. where_holds (nat_lt 1 n) (SharedRule n)) (sym m)
 
 pub straddles-is : (ls : List LocatedLine) (nth : Option ℕ) (g : List ℕ) (f : Found) (b : Bool) → IsRuleAt ls nth g f → b ≡ list_any (λ l. is_conditional l.class) (recipe_run (lines_from ls (f.at + 1)))
     → where_holds (has_conditional (found (classed_lines (located_text ls)) (Rule nth g))) Straddles ≡ where_holds b Straddles
@@ -91,7 +67,7 @@ remove_rule : (nth : Option ℕ) (g : List ℕ) (ls : List LocatedLine) (f : Fou
 remove_rule nth g ls f h A = record {
   within = R.line.within;
   end_within = rule-within ls nth g f h R;
-  shared = λ l n i k m. own-refused e ls f (SharedRule n) A (holds (shared_rule lines e) _ (SharedRule n) (shared-is ls nth g f l n R i k ∙ ap (λ b. where_holds b (SharedRule n)) (lt-ltb 1 n m)));
+  shared = λ l n i k m. own-refused e ls f (SharedRule n) A (holds (shared_rule lines e) _ (SharedRule n) (shared-told ls nth g f l n R i k ∙ ap (λ b. where_holds b (SharedRule n)) (lt-ltb 1 n m)));
   straddling = λ l n i k m b. own-refused e ls f Straddles A
       (passed (shared_rule lines e) _ (Some Straddles) (one l n i k m) (holds (straddles lines e) _ Straddles (straddles-is ls nth g f true R b)));
   accepted = λ l n end z i k m b p.
@@ -119,7 +95,7 @@ remove_rule nth g ls f h A = record {
     s = R.spot
 
     one : (l : LocatedLine) (n : ℕ) → Some l ≡ slice_get ls f.at → n ≡ length (header_targets_located l) → n ≤ 1 → shared_rule lines e ≡ None
-    one l n i k m = shared-is ls nth g f l n R i k ∙ ap (λ b. where_holds b (SharedRule n)) (le-ltb 1 n m)
+    one l n i k m = shared-told ls nth g f l n R i k ∙ ap (λ b. where_holds b (SharedRule n)) (le-ltb 1 n m)
 
 pub remove_rule-of : (e : Edit) (ls : List LocatedLine) (f : Found) → IsFaithful ls → IsRemoveRule e → IsAddressed e ls f → IsRemoveRuleOf e ls f
 remove_rule-of (RemoveLines (OfRule nth g)) ls f h k A = remove_rule nth g ls f h A

@@ -24,7 +24,7 @@ use Rattle.mk_edit_language.specs.Stretches.{whole_rule}
 use Rattle.mk_edit_language.specs.declared.refusal.Refusal.TheVariants.{Leans}
 use Rattle.mk_edit_language.proofs.on_removals.RuleTakenLemmas.{after_recipe-ends}
 use Rattle.mk_edit_parts.specs.declared.seek.Found.{Found}
-use Rattle.mk_edit.proofs.on_recipes.RulePlaces.{IsRuleAt}
+use Rattle.mk_edit_parts.proofs.on_recipes.RulePlaces.{IsRuleAt}
 
 -- a line that begins with the prefix where a rule is open is a recipe line
 led-recipe : (c : Context) (line : List ℕ) → c.flag ≡ Rule → c.defines ≡ 0 → is_prefix_led c.prefix line ≡ true → class_of c line ≡ Recipe

@@ -29,9 +29,9 @@ use Rattle.mk_edit_parts.specs.declared.seek.Found.{Found}
 use Rattle.mk_edit_parts.proofs.CauseLemmas.{passed, holds}
 use Rattle.mk_edit.proofs.on_plans.CausePlans.{addressed-own}
 use Rattle.mk_edit.proofs.on_plans.RangePlans.{IsRangeEdit}
-use Rattle.mk_edit.proofs.on_plans.RemovalPlans.{place-found}
+use Rattle.mk_edit_parts.proofs.on_new_lines.NewLinePlaces.{found-place}
 use Rattle.mk_edit.proofs.on_recipes.OwnCauses.{own-refused}
-use Rattle.mk_edit.proofs.on_recipes.RulePlaces.{IsRuleAt, rule-at}
+use Rattle.mk_edit_parts.proofs.on_recipes.RulePlaces.{IsRuleAt, rule-at}
 use Rattle.mk_edit.proofs.on_recipes.MeantRecipes.{meant_index, recipe-meant, recipe-missing}
 use Rattle.mk_edit.proofs.on_recipes.RecipePlaces.{index_in_rule, IsRecipeAt, found-some, spot_in}
 
@@ -94,7 +94,7 @@ pub record IsSetRecipeOf (c : List ℕ) (e : Edit) (ls : List LocatedLine) (f : 
 set_recipe : (nth : Option ℕ) (g : List ℕ) (w : RecipeLine) (c : List ℕ) (ls : List LocatedLine) (f : Found) → IsFaithful ls → IsAddressed (SetRecipe nth g w c) ls f → IsSetRecipeOf c (SetRecipe nth g w c) ls f
 set_recipe nth g w c ls f h A = record {
   within = R.line.within;
-  place = place-found ls (Rule nth g) f A.meant;
+  place = found-place ls (Rule nth g) f A.meant;
   missing = λ r m. own-refused e ls f r A (holds (absent cs e) _ r (recipe-missing ls nth g w f r R m));
   below = λ at m. omega (arith, place-below ls (f.at + 1) w at (recipe-meant ls nth g w f at h R m).index);
   in_range = λ at m. (found-some ls nth g f w at h R (recipe-meant ls nth g w f at h R m).index).within;

@@ -16,7 +16,7 @@ use Rattle.mk_tree.proofs.on_changes.Sizes.{size_of-text}
 use Rattle.mk_edit_language.specs.Edits.{Edit, RenameTarget}
 use Rattle.mk_edit_language.specs.Addresses.{is_a_target, targets_of}
 use Rattle.mk_edit_language.specs.ArgumentCauses.{bad_argument, reserved}
-use Rattle.mk_edit_language.specs.AddressCauses.{ambiguous, begins_some_renamed_line, is_unread_prefix, no_such, prefix_led, unread_prefix}
+use Rattle.mk_edit_language.specs.AddressCauses.{ambiguous, begins_some_renamed_line, is_unread_prefix, no_such, misplaced, unread_prefix}
 use Rattle.mk_edit_language.specs.RuleCauses.{absent, already, shared_rule, straddles, taken}
 use Rattle.mk_edit_language.specs.Causes.{where_holds}
 use Rattle.mk_edit_language.specs.LineCauses.{leaning, open_define, open_line, open_value, too_long, misread}
@@ -58,7 +58,7 @@ after_fields ls e long =
     unread_prefix ls
     ∷ no_such ls e
     ∷ ambiguous ls e
-    ∷ prefix_led ls e
+    ∷ misplaced ls e
     ∷ absent ls e
     ∷ already ls e
     ∷ taken ls e
@@ -93,16 +93,16 @@ after-cause (Some r) cs ds h = refl
 
 -- the other causes do not hold of a rename
 only-these : (t : List ℕ) (ls : List ClassedLine) (o n : List ℕ) (long : Option Refusal)
-    → first_cause (after_fields ls (RenameTarget o n) long) ≡ first_cause (unread_prefix ls ∷ no_such ls (RenameTarget o n) ∷ prefix_led ls (RenameTarget o n) ∷ taken ls (RenameTarget o n) ∷ long ∷ [])
+    → first_cause (after_fields ls (RenameTarget o n) long) ≡ first_cause (unread_prefix ls ∷ no_such ls (RenameTarget o n) ∷ misplaced ls (RenameTarget o n) ∷ taken ls (RenameTarget o n) ∷ long ∷ [])
 only-these t ls o n long =
     let e = RenameTarget o n in
     let last = None ∷ long ∷ None ∷ [] in
     let end = long ∷ [] in
     let others = shared_rule ls e ∷ straddles ls e ∷ open_value ls e ∷ open_line ls e ∷ open_define ls e ∷ leaning ls e ∷ last in
     let from_taken = absent ls e ∷ already ls e ∷ taken ls e ∷ others in
-    after-cause (unread_prefix ls) (no_such ls e ∷ ambiguous ls e ∷ prefix_led ls e ∷ from_taken) (no_such ls e ∷ prefix_led ls e ∷ taken ls e ∷ end)
-    (after-cause (no_such ls e) (ambiguous ls e ∷ prefix_led ls e ∷ from_taken) (prefix_led ls e ∷ taken ls e ∷ end)
-    (after-cause (prefix_led ls e) from_taken (taken ls e ∷ end) (after-cause (taken ls e) others end (after-cause long (None ∷ []) [] refl))))
+    after-cause (unread_prefix ls) (no_such ls e ∷ ambiguous ls e ∷ misplaced ls e ∷ from_taken) (no_such ls e ∷ misplaced ls e ∷ taken ls e ∷ end)
+    (after-cause (no_such ls e) (ambiguous ls e ∷ misplaced ls e ∷ from_taken) (misplaced ls e ∷ taken ls e ∷ end)
+    (after-cause (misplaced ls e) from_taken (taken ls e ∷ end) (after-cause (taken ls e) others end (after-cause long (None ∷ []) [] refl))))
 
 -- if the fields of a rename are not bad, the first cause is one of five
 causes-are : (t : List ℕ) (ls : List ClassedLine) (o n : List ℕ) (l g : Bool) → bad_argument (RenameTarget o n) ≡ None → reserved (RenameTarget o n) ≡ None

@@ -1,28 +1,21 @@
 -- One line after a rename: its bytes, by its pieces; where the words stand in it, and how many words there are; and its length.
-use Rattle.std.proofs.Common.{◌≡◌, refl, sym, ap, ◌∙◌, subst, arith, ℕ, ◌+◌, ◌-◌, ◌*◌, ◌≤◌, List, [], ◌∷◌, ◌++◌, drop, length, length-append, append_assoc}
-use Rattle.std.specs.List.{list_any}
-use Rattle.std.specs.Prelude.{slice_range, nat_lt}
-use Rattle.std.proofs.lemmas.List.{length-drop, length-take-le, drop-drop}
-use Rattle.std.proofs.lemmas.Bool.{lt-ltb}
-use Rattle.mk_lines.specs.Cells.{raw_text}
-use Rattle.mk_lines.specs.Pieces.{Piece, Keep, Replace, old_bytes, new_bytes, replaced, replacements}
-use Rattle.mk_lines.specs.declared.split.Span.{Span}
+use Rattle.std.proofs.Common.{◌≡◌, sym, ap, ◌∙◌, subst, arith, ℕ, ◌+◌, ◌*◌, ◌≤◌, List, [], ◌++◌, length, length-append}
+use Rattle.std.specs.Prelude.{nat_lt}
+use Rattle.mk_lines.specs.Pieces.{old_bytes, new_bytes, replaced, replacements}
 use Rattle.mk_lines.proofs.on_lists.PieceLemmas.{replaced-pieces}
 use Rattle.mk_class.specs.Contexts.{Context}
 use Rattle.mk_class.specs.ClassTable.{class_of}
 use Rattle.mk_class.specs.ClassedLines.{ClassedLine}
 use Rattle.mk_tree.specs.LocatedLines.{LocatedLine, located_line}
-use Rattle.mk_edit_language.specs.WordPieces.{renamed_pieces, is_replaced}
+use Rattle.mk_edit_language.specs.WordPieces.{renamed_pieces}
 use Rattle.mk_edit_language.specs.Costs.{is_renamed}
 use Rattle.mk_edit_language.specs.RisingSpans.{Rise}
 use Rattle.mk_edit_language.proofs.on_edits.RisingSpanLemmas.{Rise-until, Rise-pieces}
 use Rattle.mk_edit_parts.specs.RenamedRanges.{renamed_ranges, bytes_in}
-use Rattle.mk_edit_parts.specs.RenamedTexts.{AreApart, written, renamed_text}
+use Rattle.mk_edit_parts.specs.RenamedTexts.{AreApart, renamed_text}
 use Rattle.mk_edit.specs.RenameTargetPatches.{holds_word}
-use Rattle.mk_edit_parts.proofs.on_renaming.PieceRanges.{replacing}
 use Rattle.mk_edit_parts.proofs.on_renaming.LinePieces.{line-pieces}
 use Rattle.mk_edit_parts.proofs.on_renaming.WrittenLemmas.{apart-rise, written-replaced, written-length, replacing-number, replaced-some}
-use Rattle.mk_edit_parts.specs.WordCuts.{last_end}
 
 -- ---- the words of a line
 

@@ -46,9 +46,13 @@ ranges-count cs at o (w ∷ ws) = omega (arith, before-count (range_in cs at o w
 part-short : (t : List ℕ) (p : Span) → length (text_at t p) ≤ length t
 part-short t p = omega (arith, length-take (p.end - p.start) (drop p.start t), length-drop p.start t)
 
-part-count : (cs : List Cell) (o : List ℕ) (p : Span) → length (part_ranges cs o p) ≤ length cs
+pub part-count : (cs : List Cell) (o : List ℕ) (p : Span) → length (part_ranges cs o p) ≤ length cs
 part-count cs o p =
     omega (arith, ranges-count cs p.start o (word_ranges (text_at (joined_text cs) p)), words-count (text_at (joined_text cs) p), part-short (joined_text cs) p, length-map cs joined_byte)
+
+-- a line has no more cells than bytes
+pub cells-few : (l : List ℕ) → length (line_cells l) ≤ length l
+cells-few l = let cs = line_cells l in omega (arith, length-raw_text cs (cells-are_cells (without_line_end l)), cells-within l)
 
 -- each of the three parts of a line has no more words than the line has bytes
 pub renamed-few : (o : List ℕ) (l : LocatedLine) → length (renamed_ranges o l) ≤ 3 * length l.bytes
@@ -58,13 +62,13 @@ renamed-few o l =
     let T = part_ranges cs o p.targets in
     let N = part_ranges cs o p.normal in
     let O = part_ranges cs o p.order_only in
-    let n : length cs ≤ length l.bytes = omega (arith, length-raw_text cs (cells-are_cells (without_line_end l.bytes)), cells-within l.bytes) in
+    let n = cells-few l.bytes in
     omega (arith, n, length-append T (N ++ O), length-append N O, part-count cs o p.targets, part-count cs o p.normal, part-count cs o p.order_only)
 
 -- ---- how many bytes they have
 
 -- replacements that rise take out no more than stands between
-taken-within : (a b : ℕ) (rs : List Replacement) → Rise a b rs → a + bytes_taken rs ≤ b
+pub taken-within : (a b : ℕ) (rs : List Replacement) → Rise a b rs → a + bytes_taken rs ≤ b
 taken-within a b [] h = omega (arith, h)
 taken-within a b (r ∷ rs) h = omega (arith, h.0, h.1, taken-within r.end b rs h.2)
 

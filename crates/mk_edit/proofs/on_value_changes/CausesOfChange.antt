@@ -7,11 +7,11 @@ use Rattle.mk_class.specs.ClassedLines.{ClassedLine, classed_lines}
 use Rattle.mk_class.specs.RecipePrefix.{is_prefix_name}
 use Rattle.mk_tree.specs.Documents.{IsFaithful}
 use Rattle.mk_tree.specs.LocatedLines.{LocatedLine, located_text, size_of}
-use Rattle.mk_edit_language.specs.AddressCauses.{ambiguous, is_unread_prefix, no_such, prefix_led, unread_prefix}
+use Rattle.mk_edit_language.specs.AddressCauses.{ambiguous, is_unread_prefix, no_such, misplaced, unread_prefix}
 use Rattle.mk_edit_language.specs.Addresses.{assigns}
 use Rattle.mk_edit_language.specs.ArgumentCauses.{bad_argument, reserved}
 use Rattle.mk_edit_language.specs.Causes.{where_holds}
-use Rattle.mk_edit_language.specs.Edits.{Which, Every, ValueChange, Set, Append, Add, Remove, Edit, ChangeValue}
+use Rattle.mk_edit_language.specs.Edits.{Which, Every, ValueChange, Set, SetIf, Append, Add, Remove, Edit, ChangeValue}
 use Rattle.mk_edit_language.specs.EditSpans.{spans_of}
 use Rattle.mk_edit_language.specs.LineCauses.{is_open_to, leaning, open_define, open_line, open_value, too_long}
 use Rattle.mk_edit_language.specs.Refusals.{causes, first_cause}
@@ -37,6 +37,7 @@ use Rattle.mk_edit.proofs.on_value_changes.SizesOfChanges.{change-long, found-li
 -- the cause of a change that does nothing to any value
 abbrev pub idle_cause : List ClassedLine → Which → (name : List ℕ) → ValueChange → Option Refusal
 idle_cause ls k n (Set v) = None
+idle_cause ls k n (SetIf o v) = absent ls (ChangeValue k n (SetIf o v))
 idle_cause ls k n (Append v) = None
 idle_cause ls k n (Add w) = already ls (ChangeValue k n (Add w))
 idle_cause ls k n (Remove w) = absent ls (ChangeValue k n (Remove w))
@@ -55,6 +56,9 @@ few-own ls k n c g = go c
 
     go : (c : ValueChange) → first_cause (from_absent ls (ChangeValue k n c) g) ≡ first_cause (idle_cause ls k n c ∷ open_value ls (ChangeValue k n c) ∷ g ∷ [])
     go (Set v) = let e = ChangeValue k n (Set v) in after-cause (open_value ls e) (last e) (g ∷ []) refl
+    go (SetIf o v) =
+        let e = ChangeValue k n (SetIf o v) in
+        after-cause (absent ls e) (already ls e ∷ taken ls e ∷ shared_rule ls e ∷ straddles ls e ∷ open_value ls e ∷ last e) (open_value ls e ∷ g ∷ []) (after-cause (open_value ls e) (last e) (g ∷ []) refl)
     go (Append v) = let e = ChangeValue k n (Append v) in after-cause (open_value ls e) (last e) (g ∷ []) refl
     go (Add w) =
         let e = ChangeValue k n (Add w) in
@@ -77,8 +81,8 @@ causes-are t ls n c i g b r j k =
     let whole : Option Refusal → Option Refusal → Option Refusal = λ y z. first_cause (unread_prefix ls ∷ no_such ls e ∷ y ∷ open_value ls e ∷ z ∷ []) in
     passed (bad_argument e) _ (whole i (where_holds g TooLong)) b
     (passed (reserved e) _ (whole i (where_holds g TooLong)) r
-    (after-cause (unread_prefix ls) (no_such ls e ∷ ambiguous ls e ∷ prefix_led ls e ∷ tail) (no_such ls e ∷ short)
-    (after-cause (no_such ls e) (ambiguous ls e ∷ prefix_led ls e ∷ tail) short (dropped front None (long ∷ None ∷ []) refl ∙ (last-none (from_absent ls e long) None refl ∙ few-own ls Every n c long)))
+    (after-cause (unread_prefix ls) (no_such ls e ∷ ambiguous ls e ∷ misplaced ls e ∷ tail) (no_such ls e ∷ short)
+    (after-cause (no_such ls e) (ambiguous ls e ∷ misplaced ls e ∷ tail) short (dropped front None (long ∷ None ∷ []) refl ∙ (last-none (from_absent ls e long) None refl ∙ few-own ls Every n c long)))
     ∙ (ap (λ z. whole z long) j ∙ ap (whole i) k)))
 
 -- ---- by what is found
@@ -86,6 +90,8 @@ causes-are t ls n c i g b r j k =
 -- the cause of a change of nothing
 idle-told : (ls : List LocatedLine) (n : List ℕ) (c : ValueChange) → IsFaithful ls → is_prefix_name n ≡ false → idle c (length (filter (is_changed_located n c) ls)) ≡ idle_cause (classed_lines (located_text ls)) Every n c
 idle-told ls n (Set v) h p = refl
+idle-told ls n (SetIf o v) h p =
+    ap (λ b. where_holds b Absent) (none-pass (is_changed_located n (SetIf o v)) ls ∙ ap not (any-told (is_changed_located n (SetIf o v)) (is_changed n (SetIf o v)) (changed-told n (SetIf o v) p) ls h))
 idle-told ls n (Append v) h p = refl
 idle-told ls n (Add w) h p =
     ap (λ b. where_holds b Already) (none-pass (is_changed_located n (Add w)) ls ∙ ap not (any-told (is_changed_located n (Add w)) (is_changed n (Add w)) (changed-told n (Add w) p) ls h))

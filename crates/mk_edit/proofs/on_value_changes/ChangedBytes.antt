@@ -19,7 +19,7 @@ use Rattle.mk_class.specs.LocatedClasses.{located_class}
 use Rattle.mk_class.specs.declared.assignment.Assignment as assignment
 use Rattle.mk_class.specs.declared.class.Class as class
 use Rattle.mk_tree.specs.LocatedLines.{LocatedLine}
-use Rattle.mk_edit_language.specs.Edits.{ValueChange, Set, Append, Add, Remove}
+use Rattle.mk_edit_language.specs.Edits.{ValueChange, Set, SetIf, Append, Add, Remove}
 use Rattle.mk_edit_language.specs.LineCauses.{bares_end}
 use Rattle.mk_edit_language.specs.ValueChanges.{change_spans, assignment_spans, append_value_span, set_value_span}
 use Rattle.mk_edit_parts.specs.LineRanges.{value_range_located}
@@ -74,6 +74,10 @@ set-bytes : (x : Context) (l : LocatedLine) (v : List ℕ) (r : Span) → IsOwnL
 set-bytes x l v r O k =
     let s : set_value_span v 0 O.assigned ≡ record { start = 0 + r.start; end = 0 + r.end; new = v } = set_value_span-range l.bytes O.assigned v 0 r (set-range x l v r O k) in
     bytes-own (Set v) x l O ∙ (ap (λ (z : Replacement). replaced 0 l.bytes (z ∷ [])) s ∙ one-replaced l.bytes v (0 + r.start) (0 + r.end) r.start r.end (omega arith) (omega arith))
+
+-- a value that is set in the place of another is set as any other
+pub own-set : (x : Context) (l : LocatedLine) (o v : List ℕ) → IsOwnLine (SetIf o v) x l → IsOwnLine (Set v) x l
+own-set x l o v O = record { assigned = O.assigned; here = O.here; class_is = O.class_is; not_open = refl }
 
 -- what the code asks of the range
 pub record IsSetRange (l : LocatedLine) (r : Span) : Type 0 where
@@ -185,12 +189,14 @@ remove-length x l w O =
 -- a line that does not get longer gets no longer
 pub no-longer : (c : ValueChange) (x : Context) (l : LocatedLine) → IsOwnLine c x l → is_longer c l ≡ false → length (bytes_changed c x l) ≤ length l.bytes
 no-longer (Set v) x l O h = omega (arith, set-length x l v O, ltb-false (spared_by (Set v) l) (length v) h)
+no-longer (SetIf o v) x l O h = omega (arith, set-length x l v (own-set x l o v O), ltb-false (spared_by (Set v) l) (length v) h)
 no-longer (Append v) x l O h = absurd (cc)
 no-longer (Add w) x l O h = absurd (cc)
 no-longer (Remove w) x l O h = remove-length x l w O
 
 pub longer : (c : ValueChange) (x : Context) (l : LocatedLine) → IsOwnLine c x l → is_longer c l ≡ true → length l.bytes ≤ length (bytes_changed c x l)
 longer (Set v) x l O h = omega (arith, set-length x l v O, ltb-true (spared_by (Set v) l) (length v) h)
+longer (SetIf o v) x l O h = omega (arith, set-length x l v (own-set x l o v O), ltb-true (spared_by (Set v) l) (length v) h)
 longer (Append v) x l O h = put-length (Append v) x l v (λ a. refl) O
 longer (Add w) x l O h = put-length (Add w) x l w (λ a. refl) O
 longer (Remove w) x l O h = absurd (cc)

@@ -1,6 +1,7 @@
 -- What the code asks of a line of a document, told of the line as it is defined: whether a change changes it, and whether the
 -- value is open to the change.
 use Rattle.std.proofs.Common.{◌≡◌, refl, sym, ap, ◌∙◌, ℕ, ◌&&◌, ◌||◌, Bool, true, false, not, List, Some, None}
+use Rattle.std.specs.Str.{bytes_eq}
 use Rattle.mk_lines.specs.Lists.{concat}
 use Rattle.mk_lines.specs.Cells.{Cell, joined_byte}
 use Rattle.mk_lines.specs.Units.{is_closed}
@@ -15,7 +16,7 @@ use Rattle.mk_class.specs.Contexts.{Context}
 use Rattle.mk_class.specs.LocatedClasses.{located_class}
 use Rattle.mk_class.specs.RecipePrefix.{is_prefix_name}
 use Rattle.mk_tree.specs.LocatedLines.{located_line}
-use Rattle.mk_edit_language.specs.Edits.{ValueChange, Set, Append, Add, Remove}
+use Rattle.mk_edit_language.specs.Edits.{ValueChange, Set, SetIf, Append, Add, Remove}
 use Rattle.mk_edit_language.specs.Addresses.{assigns}
 use Rattle.mk_edit_language.specs.LineCauses.{bares_end_among, ends_in_fold, is_open_to}
 use Rattle.mk_edit_language.specs.ValueChanges.{has_effect, is_changed}
@@ -43,6 +44,9 @@ named-line x n k h t f =
 -- whether the change does something to its value
 pub effect-told : (c : ValueChange) (x : Context) (k : ClassedLine) → IsNamedLine x k → has_effect_located c (located_line k) ≡ has_effect c (Some k.class)
 effect-told (Set v) x k N = refl
+effect-told (SetIf o v) x k N =
+    let T = line-text x (located_line k) N.assigned (value_text_located (located_line k)) N.here N.located refl in
+    ap (λ t. bytes_eq t o) T.text_is ∙ ap (λ (q : Class Cell). has_effect (SetIf o v) (Some q)) (sym N.class_is)
 effect-told (Append v) x k N = refl
 effect-told (Add w) x k N =
     let T = line-text x (located_line k) N.assigned (value_text_located (located_line k)) N.here N.located refl in
@@ -54,6 +58,7 @@ effect-told (Remove w) x k N =
 -- whether its value is open to the change
 pub open-told : (c : ValueChange) (x : Context) (k : ClassedLine) → IsNamedLine x k → is_open_located c (located_line k) ≡ is_open_to c (Some k.class)
 open-told (Set v) x k N = refl
+open-told (SetIf o v) x k N = refl
 open-told (Append v) x k N =
     let T = line-text x (located_line k) N.assigned (value_text_located (located_line k)) N.here N.located refl in
     ap not T.closed_is ∙ ap (λ (q : Class Cell). is_open_to (Append v) (Some q)) (sym N.class_is)

@@ -1,7 +1,7 @@
 -- A change of the value of one assignment: its causes by what the code finds in the line, and its plan.
 use Rattle.std.proofs.Common.{◌≡◌, refl, sym, ap, ◌∙◌, subst, arith, ℕ, ◌+◌, ◌*◌, ◌<◌, ◌≤◌, Bool, true, false, not, if◌then◌else◌, List, [], ◌∷◌, length, Option, Some, None, option_map}
-use Rattle.std.specs.Prelude.{◌==◌, nat_lt, slice_get}
-use Rattle.std.proofs.lemmas.Bool.{le-ltb}
+use Rattle.std.specs.Prelude.{◌&&◌, ◌==◌, nat_lt, slice_get}
+use Rattle.std.proofs.lemmas.Bool.{and_parts, le-ltb}
 use Rattle.std.proofs.lemmas.List.{append-nil}
 use Rattle.mk_lines.specs.Limits.{max_text}
 use Rattle.mk_lines.specs.Cells.{Cell, joined_byte}
@@ -13,9 +13,10 @@ use Rattle.mk_class.specs.ClassedLines.{ClassedLine, classed_lines}
 use Rattle.mk_tree.specs.Documents.{IsFaithful, text_of}
 use Rattle.mk_tree.specs.LocatedLines.{LocatedLine, located_line, located_text, size_of}
 use Rattle.mk_tree.proofs.on_changes.Sizes.{size_of-text}
-use Rattle.mk_edit_language.specs.Addresses.{Variable, found}
+use Rattle.mk_edit_language.specs.AddressCauses.{ambiguous, no_such}
+use Rattle.mk_edit_language.specs.Addresses.{Valued, assigns, found, has_value, value_address}
 use Rattle.mk_edit_language.specs.Causes.{where_holds}
-use Rattle.mk_edit_language.specs.Edits.{One, ValueChange, Set, Append, Add, Remove, Edit, ChangeValue}
+use Rattle.mk_edit_language.specs.Edits.{One, ValueChange, Set, SetIf, Append, Add, Remove, Edit, ChangeValue}
 use Rattle.mk_edit_language.specs.EditSpans.{spans_of, where_found}
 use Rattle.mk_edit_language.specs.KeptLines.{respanned_bytes}
 use Rattle.mk_edit_language.specs.Lengths.{bytes_put}
@@ -28,8 +29,10 @@ use Rattle.mk_edit_language.specs.declared.refusal.Refusal.{Refusal}
 use Rattle.mk_edit_language.specs.declared.refusal.Refusal.TheVariants.{Absent, Already, OpenValue, TooLong}
 use Rattle.mk_edit_language.proofs.on_changes.SpansShifted.{change-by_itself}
 use Rattle.mk_edit_language.proofs.on_edits.Accepted.{accepted, where_holds-none}
+use Rattle.mk_edit_language.proofs.on_lines.SpotLemmas.{picked-is}
+use Rattle.mk_edit_language.proofs.on_values.FoundAssignments.{FoundAssignment, named-found}
 use Rattle.mk_edit_language.proofs.on_values.SetValueLemmas.{not_prefix}
-use Rattle.mk_edit_parts.specs.Found.{IsAddressed, IsPlaceOf}
+use Rattle.mk_edit_parts.specs.Found.{IsAddressed, IsFoundAt, IsPlaceOf}
 use Rattle.mk_edit_parts.specs.ValuePieces.{line_without_pieces}
 use Rattle.mk_edit_parts.specs.declared.seek.Found.{Found}
 use Rattle.mk_edit_parts.proofs.CauseLemmas.{unrefused}
@@ -42,7 +45,7 @@ use Rattle.mk_edit.proofs.on_prerequisites.WordPlans.{nothing-put}
 use Rattle.mk_edit.proofs.on_value_changes.CausesOfChange.{few-own, idle_cause}
 use Rattle.mk_edit.proofs.on_value_changes.LinesTold.{IsNamedLine, effect-told, open-told}
 use Rattle.mk_edit.proofs.on_value_changes.SizesOfChanges.{PutsIn, change-balanced}
-use Rattle.mk_edit.proofs.on_values.ValuePlaces.{IsValuePlace, IsVariablePlace, value-place, variable-place}
+use Rattle.mk_edit.proofs.on_values.ValuePlaces.{IsValuePlace, IsVariablePlace, value-place, variable-found, variable-place}
 use Rattle.mk_edit.proofs.on_values.ValueSpans.{line-nothing, line-spans}
 
 -- ---- what is found in one line
@@ -61,12 +64,13 @@ same-long c l true o a s h =
     let p : 1 * put_by c ≡ put_by c = omega arith in
     ap (λ n. first_cause (idle c 1 ∷ o ∷ where_holds (nat_lt a (s + n)) TooLong ∷ [])) p
 same-long (Set v) l false o a s h = absurd (cc)
+same-long (SetIf u v) l false o a s h = refl
 same-long (Append v) l false o a s h = absurd (cc)
 same-long (Add w) l false o a s h = refl
 same-long (Remove w) l false o a s h = refl
 
 -- the line of an assignment that an edit means
-module _ (ls : List LocatedLine) (nth : Option ℕ) (n : List ℕ) (c : ValueChange) (f : Found) (l : LocatedLine) (P : IsValuePlace ls nth n f l) where
+module _ (ls : List LocatedLine) (nth : Option ℕ) (n : List ℕ) (c : ValueChange) (f : Found) (l : LocatedLine) (P : IsValuePlace ls (value_address nth n c) f l) where
   abbrev text : List ℕ
   text = located_text ls
 
@@ -84,7 +88,7 @@ module _ (ls : List LocatedLine) (nth : Option ℕ) (n : List ℕ) (c : ValueCha
   base = length (text_of P.spot.above)
 
   abbrev meant : Option (Class Cell)
-  meant = class_found (found lines (Variable nth n))
+  meant = class_found (found lines (value_address nth n c))
 
   abbrev named : IsNamedLine f.context line
   named = record { assigned = P.assigned; here = P.here; class_is = P.class_is; located = ap (located_class joined_byte) P.class_is }
@@ -103,8 +107,12 @@ module _ (ls : List LocatedLine) (nth : Option ℕ) (n : List ℕ) (c : ValueCha
   idle-is : idle_cause lines (One nth) n c ≡ idle c (one_if (has_effect_located c l))
   idle-is = go c effect-is
     where
-      go : (d : ValueChange) → has_effect d meant ≡ has_effect_located d l → idle_cause lines (One nth) n d ≡ idle d (one_if (has_effect_located d l))
+      meant_by : ValueChange → Option (Class Cell)
+      meant_by d = class_found (found lines (value_address nth n d))
+
+      go : (d : ValueChange) → has_effect d (meant_by d) ≡ has_effect_located d l → idle_cause lines (One nth) n d ≡ idle d (one_if (has_effect_located d l))
       go (Set v) e = refl
+      go (SetIf o v) e = ap (λ b. where_holds (not b) Absent) e ∙ ap (λ b. where_holds b Absent) (sym (none-if (has_effect_located (SetIf o v) l)))
       go (Append v) e = refl
       go (Add w) e = ap (λ b. where_holds (not b) Already) e ∙ ap (λ b. where_holds b Already) (sym (none-if (has_effect_located (Add w) l)))
       go (Remove w) e = ap (λ b. where_holds (not b) Absent) e ∙ ap (λ b. where_holds b Absent) (sym (none-if (has_effect_located (Remove w) l)))
@@ -126,6 +134,7 @@ module _ (ls : List LocatedLine) (nth : Option ℕ) (n : List ℕ) (c : ValueCha
       go : (d : ValueChange) → spans_of text lines (ChangeValue (One nth) n d) ≡ change_spans d base P.assigned
           → too_long text (spans_of text lines (ChangeValue (One nth) n d)) ≡ where_holds (nat_lt (max_text + spared_by d l) (size_of ls + put_by d)) TooLong
       go (Set v) e = put-in (Set v) tt e
+      go (SetIf o v) e = put-in (SetIf o v) tt e
       go (Append v) e = put-in (Append v) tt e
       go (Add w) e = put-in (Add w) tt e
       go (Remove w) e =
@@ -170,6 +179,25 @@ module _ (ls : List LocatedLine) (nth : Option ℕ) (n : List ℕ) (c : ValueCha
       ∙ (ap (λ z. replaced base z (spans base P.assigned)) (append-nil line.bytes) ∙ (change-by_itself c base P.assigned line.bytes ∙ (here ∙ sym k))) in
       line-replaced edit ls rs P.spot f.at m h (unrefused text edit none) (ap (option_map this_line) P.found_is) P.place_is (ap (λ z. z ∷ []) bytes)
 
+-- the assignment that the edit means
+meant-assignment : (ls : List LocatedLine) (nth : Option ℕ) (n : List ℕ) (c : ValueChange) (f : Found) → IsAddressed (ChangeValue (One nth) n c) ls f → FoundAssignment (located_text ls) (value_address nth n c)
+meant-assignment ls nth n c f A = go c A.is_there A.is_one A.meant
+  where
+    t : List ℕ
+    t = located_text ls
+
+    lines : List ClassedLine
+    lines = classed_lines t
+
+    go : (d : ValueChange) → no_such lines (ChangeValue (One nth) n d) ≡ None → ambiguous lines (ChangeValue (One nth) n d) ≡ None → IsFoundAt lines (value_address nth n d) f → FoundAssignment t (value_address nth n d)
+    go (SetIf o v) h k F =
+        let q = picked-is (λ l. assigns n l.class && has_value o l.class) lines nth F.spot F.found_is in
+        named-found t n (Valued nth n o) F.spot F.found_is q.whole (and_parts (assigns n F.spot.line.class) (has_value o F.spot.line.class) q.passes).0 (not_prefix n A.not_reserved)
+    go (Set v) h k F = variable-found t n nth h k (not_prefix n A.not_reserved)
+    go (Append v) h k F = variable-found t n nth h k (not_prefix n A.not_reserved)
+    go (Add w) h k F = variable-found t n nth h k (not_prefix n A.not_reserved)
+    go (Remove w) h k F = variable-found t n nth h k (not_prefix n A.not_reserved)
+
 -- ---- the whole
 
 -- What the code asks of a document if the value of one assignment is changed, and what follows from the answers.
@@ -192,10 +220,10 @@ change_one nth n c ls f h A = record {
 }
   where
     V : IsVariablePlace ls f
-    V = variable-place (ChangeValue (One nth) n c) ls f nth n h refl A
+    V = variable-place (ChangeValue (One nth) n c) ls f (value_address nth n c) h refl A
 
-    there : (l : LocatedLine) → Some l ≡ slice_get ls f.at → IsValuePlace ls nth n f l
-    there l g = value-place ls nth n f l h A.is_there A.is_one (not_prefix n A.not_reserved) A.meant g
+    there : (l : LocatedLine) → Some l ≡ slice_get ls f.at → IsValuePlace ls (value_address nth n c) f l
+    there l g = value-place ls (value_address nth n c) f l h (meant-assignment ls nth n c f A) A.meant g
 
 pub change_value-of : (c : ValueChange) (e : Edit) (ls : List LocatedLine) (f : Found) → IsFaithful ls → IsChangeOfOne c e → IsAddressed e ls f → IsChangeOf c e ls f
 change_value-of c e ls f h K A = subst (λ z. IsChangeOf c z ls f) (sym K.is) (change_one K.nth K.name c ls f h (subst (λ z. IsAddressed z ls f) K.is A))

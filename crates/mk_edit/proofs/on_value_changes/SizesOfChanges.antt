@@ -19,11 +19,11 @@ use Rattle.mk_tree.specs.LocatedLines.{LocatedLine, located_line, located_lines,
 use Rattle.mk_tree.proofs.on_changes.Sizes.{size_of-text}
 use Rattle.mk_tree.proofs.on_documents.LinesInText.{AreClassed, AreClassed-class, AreClassed-tail, AreClassed-lines}
 use Rattle.mk_edit_language.specs.Causes.{where_holds}
-use Rattle.mk_edit_language.specs.Edits.{Every, ValueChange, Set, Append, Add, Remove, ChangeValue}
+use Rattle.mk_edit_language.specs.Edits.{Every, ValueChange, Set, SetIf, Append, Add, Remove, ChangeValue}
 use Rattle.mk_edit_language.specs.EditSpans.{spans_in_lines, spans_of}
 use Rattle.mk_edit_language.specs.Lengths.{bytes_taken, bytes_put}
 use Rattle.mk_edit_language.specs.LineCauses.{too_long}
-use Rattle.mk_edit_language.specs.ValueChanges.{change_spans, changed_line_spans, is_changed, append_value_span, assignment_spans}
+use Rattle.mk_edit_language.specs.ValueChanges.{change_spans, changed_line_spans, is_changed, append_value_span, assignment_spans, set_value_span}
 use Rattle.mk_edit_language.specs.declared.refusal.Refusal.TheVariants.{TooLong}
 use Rattle.mk_edit_parts.specs.LineRanges.{value_range_located}
 use Rattle.mk_edit_parts.specs.LocatedParts.{assigns_located, is_unread_located}
@@ -97,6 +97,7 @@ none-pass p (x ∷ xs) = go (p x) (none-pass p xs)
 -- a change that puts a text in
 abbrev pub PutsIn : ValueChange → Type 0
 PutsIn (Set v) = Unit {0}
+PutsIn (SetIf o v) = Unit {0}
 PutsIn (Append v) = Unit {0}
 PutsIn (Add w) = Unit {0}
 PutsIn (Remove w) = ⊥
@@ -126,13 +127,17 @@ append-balanced x k v at N =
       space-spared text,
     )
 
-pub change-balanced : (c : ValueChange) (x : Context) (k : ClassedLine) (at : ℕ) → PutsIn c → (N : IsNamedLine x k) → AreBalanced (spared_by c (located_line k)) (put_by c) (change_spans c at N.assigned)
-change-balanced (Set v) x k at p N =
+set-balanced : (x : Context) (k : ClassedLine) (v : List ℕ) (at : ℕ) → (N : IsNamedLine x k) → AreBalanced (spared_by (Set v) (located_line k)) (length v) (set_value_span v at N.assigned ∷ [])
+set-balanced x k v at N =
     let l = located_line k in
     let r = value_range_located (length v == 0) l in
     let R = line-range x l N.assigned (is_empty v) r N.here N.located (ap (λ b. value_range_located b l) (sym (is_empty-length v))) in
     let s = set_value_span-range k.bytes N.assigned v at r R in
     omega (arith, ap (λ (z : Replacement). bytes_put (z ∷ [])) s, ap (λ (z : Replacement). bytes_taken (z ∷ [])) s, R.rises)
+
+pub change-balanced : (c : ValueChange) (x : Context) (k : ClassedLine) (at : ℕ) → PutsIn c → (N : IsNamedLine x k) → AreBalanced (spared_by c (located_line k)) (put_by c) (change_spans c at N.assigned)
+change-balanced (Set v) x k at p N = set-balanced x k v at N
+change-balanced (SetIf o v) x k at p N = set-balanced x k v at N
 change-balanced (Append v) x k at p N = append-balanced x k v at N
 change-balanced (Add w) x k at p N = append-balanced x k w at N
 change-balanced (Remove w) x k at p N = absurd p
@@ -210,6 +215,7 @@ long-balanced ls n c p h f =
 pub change-long : (ls : List LocatedLine) (n : List ℕ) (c : ValueChange) → IsFaithful ls → size_of ls ≤ max_text → is_prefix_name n ≡ false
     → too_long (located_text ls) (spans_of (located_text ls) (classed_lines (located_text ls)) (ChangeValue Every n c)) ≡ where_holds (is_long n c ls) TooLong
 change-long ls n (Set v) h few f = long-balanced ls n (Set v) tt h f
+change-long ls n (SetIf o v) h few f = long-balanced ls n (SetIf o v) tt h f
 change-long ls n (Append v) h few f = long-balanced ls n (Append v) tt h f
 change-long ls n (Add w) h few f = long-balanced ls n (Add w) tt h f
 change-long ls n (Remove w) h few f =

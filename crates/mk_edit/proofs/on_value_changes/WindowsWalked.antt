@@ -12,7 +12,7 @@ use Rattle.mk_tree.specs.Documents.{IsFaithful}
 use Rattle.mk_tree.specs.LocatedLines.{LocatedLine, size_of}
 use Rattle.mk_tree.specs.Origins.{lines_between}
 use Rattle.mk_tree.proofs.Indices.{size_of-append}
-use Rattle.mk_edit_language.specs.Edits.{ValueChange, Set, Append, Add, Remove}
+use Rattle.mk_edit_language.specs.Edits.{ValueChange, Set, SetIf, Append, Add, Remove}
 use Rattle.mk_edit_parts.specs.LineRanges.{value_range_located}
 use Rattle.mk_edit_parts.specs.LocatedParts.{AreEachClassed, IsClassed, assigns_located, is_unread_located}
 use Rattle.mk_edit_parts.specs.Windows.{AreWindows, NonePasses, below, below_all, concerns_name, first_place}
@@ -69,8 +69,8 @@ space-few : (b : Bool) (l : LocatedLine) → (if b then 1 else 0) ≤ length l.b
 space-few true l = omega arith
 space-few false l = omega arith
 
-pub spared-few : (c : ValueChange) (l : LocatedLine) → spared_by c l ≤ length l.bytes + 1
-spared-few (Set v) l = go l.class
+set-few : (v : List ℕ) (l : LocatedLine) → spared_by (Set v) l ≤ length l.bytes + 1
+set-few v l = go l.class
   where
     wide : (s e : ℕ) → e ≤ length l.bytes → e - s ≤ length l.bytes + 1
     wide s e h = omega (arith, h)
@@ -94,6 +94,10 @@ spared-few (Set v) l = go l.class
     go variants.Endif = none
     go variants.Directive = none
     go variants.Rough = none
+
+pub spared-few : (c : ValueChange) (l : LocatedLine) → spared_by c l ≤ length l.bytes + 1
+spared-few (Set v) l = set-few v l
+spared-few (SetIf o v) l = set-few v l
 spared-few (Append v) l = space-few (length (value_text_located l) == 0) l
 spared-few (Add w) l = space-few (length (value_text_located l) == 0) l
 spared-few (Remove w) l = omega arith

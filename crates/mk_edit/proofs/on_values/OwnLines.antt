@@ -44,6 +44,7 @@ use Rattle.mk_edit.proofs.on_values.ValuePlaces.{assignment-located}
 
 -- the text of an assignment's value tells whether the value is empty, whether it is closed, and its words
 pub record IsValueText (a : Assignment Cell) (text : List ℕ) : Type 0 where
+  pub text_is : text ≡ map joined_byte (concat a.value)
   pub empty_is : is_empty text ≡ is_empty a.value
   pub closed_is : is_closed (λ b. b) text ≡ is_closed joined_byte (concat a.value)
   pub words_are : words_in text ≡ word_texts joined_byte a.value
@@ -77,6 +78,7 @@ module _ (x : Context) (m : List ℕ) (a : Assignment Cell) (here : class_of x m
       let V = (assignment-located x m a here).value in
       let is : text ≡ map joined_byte (concat a.value) = shown ∙ V.text_is in
       record {
+        text_is = is;
         empty_is = empty-units a.value text is (ap (units itself) shown ∙ V.units_are);
         closed_is = ap (is_closed (λ b. b)) is ∙ is_closed-map joined_byte (λ b. b) (concat a.value);
         words_are = ap words_in shown ∙ part-words _ _ _ _ a.value V;

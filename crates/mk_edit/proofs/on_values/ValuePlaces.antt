@@ -1,7 +1,6 @@
 -- The line of an assignment that an edit means, and where its value stands among the line's bytes.
-use Rattle.std.proofs.Common.{◌≡◌, sym, ap, ◌∙◌, subst, arith, ℕ, ◌+◌, ◌<◌, ◌≤◌, List, [], ◌∷◌, ◌++◌, Bool, true, false, if◌then◌else◌, length, take, Option, Some, None}
+use Rattle.std.proofs.Common.{◌≡◌, sym, ap, ◌∙◌, subst, arith, ℕ, ◌+◌, ◌<◌, ◌≤◌, List, [], Bool, true, false, if◌then◌else◌, length, Option, Some, None}
 use Rattle.std.specs.Prelude.{slice_get}
-use Rattle.std.proofs.Math.Seq.{take-append_seam}
 use Rattle.mk_lines.specs.Cells.{Cell, joined_byte, line_cells}
 use Rattle.mk_lines.specs.Ranges.{raw_offset}
 use Rattle.mk_lines.specs.declared.split.Span.{Span}
@@ -16,20 +15,20 @@ use Rattle.mk_class.specs.LineParts.{IsAssignmentLocated}
 use Rattle.mk_class.proofs.on_classes.LinePartLemmas.{line-parts_located}
 use Rattle.mk_class.specs.declared.class.Class.TheVariants as variants
 use Rattle.mk_class.specs.PartOffsets.{raw_width}
-use Rattle.mk_tree.specs.Documents.{IsFaithful, context_of}
+use Rattle.mk_tree.specs.Documents.{IsFaithful}
 use Rattle.mk_tree.specs.LocatedLines.{LocatedLine, located_line, located_text}
 use Rattle.mk_tree.specs.LineTexts.{StandingLine}
 use Rattle.mk_edit_language.specs.Edits.{Edit}
-use Rattle.mk_edit_language.specs.Addresses.{Variable, address, found}
+use Rattle.mk_edit_language.specs.Addresses.{Address, Variable, address, found}
 use Rattle.mk_edit_language.specs.AddressCauses.{no_such_line, ambiguous_line}
 use Rattle.mk_edit_language.proofs.on_edits.Accepted.{where_holds-none}
-use Rattle.mk_edit_language.proofs.on_values.FoundAssignments.{assignment-found}
-use Rattle.mk_edit_language.proofs.on_edits.EditPlaces.{found-spot}
+use Rattle.mk_edit_language.proofs.on_values.FoundAssignments.{FoundAssignment, assignment-found}
 use Rattle.mk_edit_parts.specs.Found.{IsAddressed, IsFoundAt, IsMeant, IsPlaceOf}
 use Rattle.mk_edit_parts.specs.LineRanges.{value_range_located}
 use Rattle.mk_edit_parts.specs.declared.seek.Found.{Found}
 use Rattle.mk_edit_parts.proofs.on_finding.PlaceLemmas.{line-at}
 use Rattle.mk_edit_parts.proofs.on_prerequisites.RawPartLemmas.{raw-within}
+use Rattle.mk_edit_parts.proofs.on_new_lines.NewLinePlaces.{found-place}
 
 -- ---- the range of a value
 
@@ -73,33 +72,26 @@ pub record IsVariablePlace (ls : List LocatedLine) (f : Found) : Type 0 where
   pub within : f.at < length ls
   pub place : IsPlaceOf ls f
 
-pub variable-place : (e : Edit) (ls : List LocatedLine) (f : Found) (nth : Option ℕ) (n : List ℕ) → IsFaithful ls → address e ≡ Some (Variable nth n) → IsAddressed e ls f → IsVariablePlace ls f
-variable-place e ls f nth n h a A =
-    let cs = classed_lines (located_text ls) in
-    let F = subst (λ o. IsMeant cs o f) a A.meant in
-    let s = F.spot in
-    let whole : cs ≡ s.above ++ s.line ∷ s.below = found-spot cs (Variable nth n) s F.found_is in
-    let above : take f.at cs ≡ s.above = ap (take f.at) whole ∙ (ap (λ k. take k (s.above ++ s.line ∷ s.below)) (sym F.place_is) ∙ take-append_seam s.above (s.line ∷ s.below)) in
-    record { within = (line-at ls (Variable nth n) f h F).within; place = ap context_of above ∙ F.context_is }
+pub variable-place : (e : Edit) (ls : List LocatedLine) (f : Found) (a : Address) → IsFaithful ls → address e ≡ Some a → IsAddressed e ls f → IsVariablePlace ls f
+variable-place e ls f a h is A =
+    let F = subst (λ o. IsMeant (classed_lines (located_text ls)) o f) is A.meant in
+    record { within = (line-at ls a f h F).within; place = found-place ls a f F }
 
--- what is known of the line that the address of a variable means
-pub record IsValuePlace (ls : List LocatedLine) (nth : Option ℕ) (n : List ℕ) (f : Found) (l : LocatedLine) : Type 0 where
+-- what is known of the line that the address of an assignment means
+pub record IsValuePlace (ls : List LocatedLine) (a : Address) (f : Found) (l : LocatedLine) : Type 0 where
   pub spot : StandingLine
   pub place_is : length spot.above ≡ f.at
-  pub found_is : found (classed_lines (located_text ls)) (Variable nth n) ≡ Some spot
+  pub found_is : found (classed_lines (located_text ls)) a ≡ Some spot
   pub assigned : Assignment Cell
   pub class_is : spot.line.class ≡ Assign assigned None
   pub here : class_of f.context spot.line.bytes ≡ Assign assigned None
   pub line_is : l ≡ located_line spot.line
 
-pub value-place : (ls : List LocatedLine) (nth : Option ℕ) (n : List ℕ) (f : Found) (l : LocatedLine) → IsFaithful ls
-    → no_such_line (classed_lines (located_text ls)) (Some (Variable nth n)) ≡ None → ambiguous_line (classed_lines (located_text ls)) (Some (Variable nth n)) ≡ None → is_prefix_name n ≡ false
-    → IsFoundAt (classed_lines (located_text ls)) (Variable nth n) f → Some l ≡ slice_get ls f.at → IsValuePlace ls nth n f l
-value-place ls nth n f l h there one free F g =
-    let t = located_text ls in
+pub value-place : (ls : List LocatedLine) (a : Address) (f : Found) (l : LocatedLine) → IsFaithful ls → FoundAssignment (located_text ls) a
+    → IsFoundAt (classed_lines (located_text ls)) a f → Some l ≡ slice_get ls f.at → IsValuePlace ls a f l
+value-place ls a f l h A F g =
     let s = F.spot in
-    let L = line-at ls (Variable nth n) f h F in
-    let A = assignment-found t n nth (where_holds-none _ _ there) (where_holds-none _ _ one) free in
+    let L = line-at ls a f h F in
     let e : Some A.spot ≡ Some s = sym A.found_is ∙ F.found_is in
     let same : A.spot ≡ s = cc in
     let class_is : s.line.class ≡ Assign A.assigned None = ap (λ (z : StandingLine). z.line.class) (sym same) ∙ A.class_is in
@@ -113,3 +105,8 @@ value-place ls nth n f l h there one free F g =
       here = L.class_is ∙ class_is;
       line_is = cc;
     }
+
+-- the assignment of a name that is found, if the name is not that of the prefix
+pub variable-found : (t n : List ℕ) (nth : Option ℕ) → no_such_line (classed_lines t) (Some (Variable nth n)) ≡ None → ambiguous_line (classed_lines t) (Some (Variable nth n)) ≡ None → is_prefix_name n ≡ false
+    → FoundAssignment t (Variable nth n)
+variable-found t n nth there one free = assignment-found t n nth (where_holds-none _ _ there) (where_holds-none _ _ one) free

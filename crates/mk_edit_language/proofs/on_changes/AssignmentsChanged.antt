@@ -16,12 +16,12 @@ use Rattle.mk_class.specs.RecipePrefix.{is_prefix_name}
 use Rattle.mk_class.specs.Classes.Class.{Assign}
 use Rattle.mk_class.specs.ClassedLines.{ClassedLine, classed_lines}
 use Rattle.mk_tree.specs.Documents.{text_of}
-use Rattle.mk_edit_language.specs.Edits.{Which, ValueChange, Set, Append, Add, Remove, ChangeValue}
+use Rattle.mk_edit_language.specs.Edits.{Which, ValueChange, Set, SetIf, Append, Add, Remove, ChangeValue}
 use Rattle.mk_edit_language.specs.ArgumentCauses.{bad_argument, is_value_word}
 use Rattle.mk_edit_language.specs.ValueChanges.{append_value_span, change_spans}
 use Rattle.mk_edit_language.specs.LineCauses.{ends_in_fold, bares_end, is_open_to}
 use Rattle.mk_edit_language.specs.Changes.{item_with_value, value_appended, value_changed}
-use Rattle.mk_edit_language.proofs.on_edits.Accepted.{two-passed}
+use Rattle.mk_edit_language.proofs.on_edits.Accepted.{first-passed, two-passed}
 use Rattle.mk_edit_language.proofs.on_lines.LineReplaced.{IsLineReplaced}
 use Rattle.mk_edit_language.proofs.on_values.LastFoldLemmas.{set_value-replaced}
 use Rattle.mk_edit_language.proofs.on_values.AppendValueLemmas.{append_value-line}
@@ -34,12 +34,14 @@ IsPutAfter v = (is_value v ≡ true) × (is_empty v ≡ false)
 
 abbrev pub IsChangeText : ValueChange → Type 0
 IsChangeText (Set v) = is_value v ≡ true
+IsChangeText (SetIf o v) = is_value v ≡ true
 IsChangeText (Append v) = IsPutAfter v
 IsChangeText (Add w) = IsPutAfter w
 IsChangeText (Remove w) = is_value w ≡ true
 
 pub change-text : (w : Which) (n : List ℕ) (c : ValueChange) → bad_argument (ChangeValue w n c) ≡ None → IsChangeText c
 change-text a n (Set v) h = (two-passed field.Name field.Value (is_name n) (is_value v) h).1
+change-text a n (SetIf o v) h = (two-passed field.Old field.Value (is_value o) (is_value v) (first-passed field.Name (is_name n) _ h).1).1
 change-text a n (Append v) h =
     let p = and_parts (is_value v) (not (is_empty v)) (two-passed field.Name field.Value (is_name n) (is_value v && not (is_empty v)) h).1 in
     (p.0, not-true (is_empty v) p.1)
@@ -63,6 +65,7 @@ pub assignment-changed : (c : ValueChange) (t : List ℕ) (A : List ClassedLine)
     → is_prefix_name (unit_text joined_byte a.name) ≡ false → IsChangeText c → is_open_to c (Some (Assign a None)) ≡ false
     → IsLineReplaced (replaced 0 t (change_spans c (length (text_of A)) a)) A B (item_with_value a (value_changed t c (length (text_of A)) a))
 assignment-changed (Set v) t A l B a h k f p o = set_value-replaced t A l B a v h k f p
+assignment-changed (SetIf q v) t A l B a h k f p o = set_value-replaced t A l B a v h k f p
 assignment-changed (Append v) t A l B a h k f p o = put-after t A l B a v h k f p o
 assignment-changed (Add w) t A l B a h k f p o = put-after t A l B a w h k f p (or-left_false (not (is_closed joined_byte (concat a.value))) (ends_in_fold a) o)
 assignment-changed (Remove w) t A l B a h k f p o =

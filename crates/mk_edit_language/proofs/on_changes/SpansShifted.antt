@@ -4,7 +4,7 @@ use Rattle.mk_lines.specs.Cells.{Cell, raw_text}
 use Rattle.mk_lines.specs.Pieces.{Replacement, replaced, Piece, Keep, Replace, replacements}
 use Rattle.mk_class.specs.ListTests.{is_empty}
 use Rattle.mk_class.specs.Assignments.{Assignment}
-use Rattle.mk_edit_language.specs.Edits.{ValueChange, Set, Append, Add, Remove}
+use Rattle.mk_edit_language.specs.Edits.{ValueChange, Set, SetIf, Append, Add, Remove}
 use Rattle.mk_edit_language.specs.ValueChanges.{value_start, value_end, blanks_end, set_value_span, append_value_span, led_words, staying, remove_word_pieces, remove_word_spans, change_spans}
 use Rattle.mk_edit_language.proofs.on_edits.RisingSpanLemmas.{same_replacement}
 
@@ -55,6 +55,7 @@ remove-shifted d at a w = go (is_empty (staying w (led_words a.value)))
 
 change-shifted : (c : ValueChange) (d at : ℕ) (a : Assignment Cell) → change_spans c (d + at) a ≡ shifted d (change_spans c at a)
 change-shifted (Set v) d at a = set-shifted d at a v
+change-shifted (SetIf o v) d at a = set-shifted d at a v
 change-shifted (Append v) d at a = append-shifted d at a v
 change-shifted (Add w) d at a = append-shifted d at a w
 change-shifted (Remove w) d at a = remove-shifted d at a w

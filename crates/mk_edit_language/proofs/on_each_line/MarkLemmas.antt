@@ -1,5 +1,5 @@
 -- Lines that are marked because they pass a test.
-use Rattle.std.proofs.Common.{◌≡◌, refl, sym, ap, ◌∙◌, arith, ℕ, zero, suc, ◌+◌, List, [], ◌∷◌, map, length, Bool, true, false, ◌||◌}
+use Rattle.std.proofs.Common.{◌≡◌, refl, ap, ◌∙◌, arith, ℕ, suc, ◌+◌, List, [], ◌∷◌, map, length, Bool, true, false, ◌||◌}
 use Rattle.std.proofs.Math.Dec.{eqb-suc-zero, eqb-zero-suc, eqb-suc-suc}
 use Rattle.std.specs.Prelude.{◌==◌}
 use Rattle.mk_class.specs.ClassedLines.{ClassedLine}

@@ -8,9 +8,9 @@ use Rattle.mk_edit_language.specs.Edits.{Site, Edit, ExchangeLines}
 use Rattle.mk_edit_language.specs.Spots.{nth_of, picked}
 use Rattle.mk_edit_language.specs.LineRuns.{site_found}
 use Rattle.mk_edit_language.specs.EditSpans.{spans_of}
-use Rattle.mk_edit_language.specs.Causes.{where_holds}
+use Rattle.mk_edit_language.specs.Causes.{where_holds, or_else}
 use Rattle.mk_edit_language.specs.ArgumentCauses.{FieldTest, Tested, first_failed, bad_argument, reserved}
-use Rattle.mk_edit_language.specs.AddressCauses.{unread_prefix, no_such, ambiguous, prefix_led, is_missing, is_several}
+use Rattle.mk_edit_language.specs.AddressCauses.{unread_prefix, no_such, ambiguous, misplaced, is_missing, is_several}
 use Rattle.mk_edit_language.specs.RuleCauses.{absent, already, taken, shared_rule, straddles}
 use Rattle.mk_edit_language.specs.LineCauses.{open_value, open_line, open_define, leaning, too_long, misread}
 use Rattle.mk_edit_language.specs.ExchangeCauses.{exchange_causes}
@@ -37,6 +37,11 @@ pub where_holds-none : (b : Bool) (r : Refusal) → where_holds b r ≡ None →
 where_holds-none true r h = cc
 where_holds-none false r h = refl
 
+-- neither of two causes holds
+pub neither-holds : (a b : Option Refusal) → or_else a b ≡ None → (a ≡ None) × (b ≡ None)
+neither-holds None b h = (refl, h)
+neither-holds (Some r) b h = absurd (cc)
+
 pub unrefused : (o : Option Refusal) (rs rs' : List Replacement) → unless_refused o rs ≡ Ok rs' → (o ≡ None) × (rs ≡ rs')
 unrefused None rs rs' h = let e : rs ≡ rs' = cc in (refl, e)
 unrefused (Some r) rs rs' h = absurd (cc)
@@ -48,7 +53,7 @@ pub record IsAccepted (t : List ℕ) (e : Edit) (rs : List Replacement) : Type 0
   pub prefix_read : unread_prefix (classed_lines t) ≡ None
   pub is_there : no_such (classed_lines t) e ≡ None
   pub is_one : ambiguous (classed_lines t) e ≡ None
-  pub not_led : prefix_led (classed_lines t) e ≡ None
+  pub well_placed : misplaced (classed_lines t) e ≡ None
   pub not_absent : absent (classed_lines t) e ≡ None
   pub not_already : already (classed_lines t) e ≡ None
   pub not_taken : taken (classed_lines t) e ≡ None
@@ -95,11 +100,11 @@ exchange-causes t ls s ts =
     let e = ExchangeLines s ts in
     let cs = exchange_causes t ls s ts (site_found ls s) in
     let ns : List (Option Refusal) =
-    no_such ls e ∷ ambiguous ls e ∷ prefix_led ls e ∷ absent ls e ∷ already ls e ∷ taken ls e ∷ shared_rule ls e ∷ straddles ls e ∷ open_value ls e ∷ open_line ls e ∷ open_define ls e ∷ leaning ls e ∷ [] in
+    no_such ls e ∷ ambiguous ls e ∷ misplaced ls e ∷ absent ls e ∷ already ls e ∷ taken ls e ∷ shared_rule ls e ∷ straddles ls e ∷ open_value ls e ∷ open_line ls e ∷ open_define ls e ∷ leaning ls e ∷ [] in
     let long = too_long t (spans_of t ls e) in
     three-before (bad_argument e) (reserved e) (unread_prefix ls) (ns ++ first_cause cs ∷ long ∷ misread ls e ∷ []) cs
     (none-before ns (first_cause cs ∷ long ∷ misread ls e ∷ []) (refl, (refl, (refl, (refl, (refl, (refl, (refl, (refl, (refl, (refl, (refl, (refl, tt))))))))))))
-    ∙ one-decides (first_cause cs) long (misread ls e) (λ h. (no-cause cs h).1.1.1.1.1.1.0) refl)
+    ∙ one-decides (first_cause cs) long (misread ls e) (λ h. (no-cause cs h).1.1.1.1.1.1.1.1.0) refl)
 
 -- no cause of an edit with spans holds
 pub accepted : (t : List ℕ) (e : Edit) (rs : List Replacement) → spans t e ≡ Ok rs → IsAccepted t e rs
@@ -111,7 +116,7 @@ accepted t e rs h =
     let c = none-first (unread_prefix ls) _ b.1 in
     let d = none-first (no_such ls e) _ c.1 in
     let f = none-first (ambiguous ls e) _ d.1 in
-    let g = none-first (prefix_led ls e) _ f.1 in
+    let g = none-first (misplaced ls e) _ f.1 in
     let i = none-first (absent ls e) _ g.1 in
     let j = none-first (already ls e) _ i.1 in
     let k = none-first (taken ls e) _ j.1 in
@@ -130,7 +135,7 @@ accepted t e rs h =
       prefix_read = c.0;
       is_there = d.0;
       is_one = f.0;
-      not_led = g.0;
+      well_placed = g.0;
       not_absent = i.0;
       not_already = j.0;
       not_taken = k.0;

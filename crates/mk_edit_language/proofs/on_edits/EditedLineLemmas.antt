@@ -17,7 +17,7 @@ use Rattle.mk_tree.specs.LineTexts.{line_in}
 use Rattle.mk_tree.specs.NewLineEnds.{above_ended}
 use Rattle.mk_edit_language.specs.NewLines.{assign_text}
 use Rattle.mk_tree.proofs.on_documents.LinesInText.{line-in_text}
-use Rattle.mk_edit_language.specs.Edits.{NewAssign, Every, Place, Edit, ChangeValue, ChangeLine, ChangePrereqs, AddLine, AddRecipe, SetRecipe, RemoveLines, RenameTarget, ExchangeLines, EachLine}
+use Rattle.mk_edit_language.specs.Edits.{NewAssign, Every, Place, Edit, ChangeValue, ChangeLine, ChangePrereqs, AddLine, AddRecipe, SetRecipe, RemoveLines, SwitchLine, RenameTarget, ExchangeLines, EachLine}
 use Rattle.mk_edit_language.specs.Stretches.{Stretch, between, place_found, insertion, removal, touched_by}
 use Rattle.mk_edit_language.specs.KeptLines.{IsOfOnePlace, respanned_bytes, edited_bytes, edited_lines, above_after}
 use Rattle.mk_edit_language.specs.Refusals.{spans, text_after}
@@ -90,6 +90,7 @@ removed-lines (ChangePrereqs nth g c) t rs s h k = absurd (cc)
 removed-lines (AddLine p l) t rs s h k = absurd (cc)
 removed-lines (AddRecipe nth g p c) t rs s h k = absurd (cc)
 removed-lines (SetRecipe nth g w c) t rs s h k = absurd (cc)
+removed-lines (SwitchLine w nth n) t rs s h k = absurd (cc)
 removed-lines (RenameTarget o n) t rs s h k = absurd (cc)
 removed-lines (ExchangeLines q ts) t rs s h k = absurd (cc)
 removed-lines (EachLine e) t rs s h k = absurd (cc)

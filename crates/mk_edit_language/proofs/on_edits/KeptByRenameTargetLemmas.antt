@@ -99,7 +99,7 @@ rename_target-keeps o n t rs h =
     let e = RenameTarget o n in
     let A = accepted t e rs h in
     let W = rename_target-words o n t rs h in
-    let L = lines-renamed o n W.new W.renamed t (where_holds-none _ _ A.not_led) in
+    let L = lines-renamed o n W.new W.renamed t (where_holds-none _ _ A.well_placed) in
     lines-kept t e rs (is_renamed o n) (renamed_line_spans o n) (renamed_bytes o n) (IsLineRenamed o n) (map (with_pieces (line_pieces o n) (line_class o n)) ls) h (λ x l m r. r.in_place) (rise-renamed o n)
     (λ at l z. unreplaced-spans at (renamed_pieces o n l.class) z) refl refl
     (record {

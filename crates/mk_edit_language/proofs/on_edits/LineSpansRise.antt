@@ -25,11 +25,11 @@ use Rattle.mk_tree.specs.Documents.{text_of, context_of}
 use Rattle.mk_tree.proofs.on_documents.LinesInText.{line-in_text, AreClassed, AreClassed-class, AreClassed-tail, AreClassed-lines}
 use Rattle.mk_tree.proofs.on_documents.DocumentLemmas.{text_of-classed_lines}
 use Rattle.mk_tree.specs.LineTexts.{StandingLine}
-use Rattle.mk_edit_language.specs.Edits.{ValueChange, Set, Append, Add, Remove, LineChange, Prepend, ReplaceWord, InsertWord, Substitute, SetOperator, PrereqChange, AddPrereq, RemovePrereq}
+use Rattle.mk_edit_language.specs.Edits.{ValueChange, Set, SetIf, Append, Add, Remove, LineChange, Prepend, ReplaceWord, InsertWord, Substitute, SetOperator, PrereqChange, AddPrereq, RemovePrereq, ReplacePrereq}
 use Rattle.mk_edit_language.specs.ValueChanges.{value_start, set_value_span, append_value_span, assignment_spans, LedWord, led_words_among, led_words, staying, led_units, from_first_word, remove_word_pieces, remove_word_spans, is_class_changed, change_spans, changed_line_spans}
 use Rattle.mk_edit_language.specs.LineChanges.{tokens_beside, begins_with, substituted, value_pieces, from_operator, operator_pieces, line_pieces, line_change_spans}
 use Rattle.mk_edit_language.proofs.on_values.RemoveWordLemmas.{remove_word-old}
-use Rattle.mk_edit_language.specs.WordPieces.{add_pieces, remove_pieces, rename_pieces, renamed_pieces, header_pieces, kept, put_last, prerequisite_text, removed_words, renamed_words}
+use Rattle.mk_edit_language.specs.WordPieces.{add_pieces, remove_pieces, replace_pieces, rename_pieces, renamed_pieces, header_pieces, kept, put_last, prerequisite_text, removed_words, renamed_words}
 use Rattle.mk_edit_language.proofs.on_prerequisites.WordsRemoved.{removed-old_cells}
 use Rattle.mk_edit_language.specs.EditSpans.{header_spans, prereq_pieces, spans_in_lines, renamed_line_spans}
 use Rattle.mk_edit_language.specs.RisingSpans.{Rise}
@@ -202,9 +202,13 @@ add-length true w h = go (is_empty h.bar)
     go true = header-length h (kept h.targets) (put_last (codes " | " ++ w) h.normal) (kept h.order_only) (kept-length h.targets) (put_last-length (codes " | " ++ w) h.normal) (kept-length h.order_only)
     go false = header-length h (kept h.targets) (kept h.normal) (put_last (32 ∷ w) h.order_only) (kept-length h.targets) (kept-length h.normal) (put_last-length (32 ∷ w) h.order_only)
 
+replace-length : (o n : List ℕ) (h : Headers.Header Cell) → old_length (replace_pieces o n h) ≡ raw_width (header_units h)
+replace-length o n h = header-length h (kept h.targets) (renamed_words o n h.normal) (renamed_words o n h.order_only) (kept-length h.targets) (renamed-length o n h.normal) (renamed-length o n h.order_only)
+
 pub prereq-length : (c : PrereqChange) (h : Headers.Header Cell) → old_length (prereq_pieces c h) ≡ raw_width (header_units h)
 prereq-length (AddPrereq order w) h = add-length order w h
 prereq-length (RemovePrereq w) h = remove-length w h
+prereq-length (ReplacePrereq o n) h = replace-length o n h
 
 pub rise-header : (f : Headers.Header Cell → List Piece) → ((h : Headers.Header Cell) → old_length (f h) ≡ raw_width (header_units h)) → RisesInLine (header_spans f)
 rise-header f g at n (Header x) h = Rise-until at (at + old_length (f x)) (at + n) (replacements at (f x)) (Rise-pieces at (f x)) (omega (arith, g x, h))
@@ -251,6 +255,7 @@ rise-renamed o n at m k h =
 
 pub change-rises : (c : ValueChange) → RiseInAssignment (change_spans c)
 change-rises (Set v) = set_value-rises v
+change-rises (SetIf o v) = set_value-rises v
 change-rises (Append v) = append_value-rises v
 change-rises (Add w) = append_value-rises w
 change-rises (Remove w) = remove_word-rises w

@@ -13,7 +13,7 @@ use Rattle.mk_class.specs.ClassTable.{class_of}
 use Rattle.mk_tree.specs.Documents.{text_of, context_of}
 use Rattle.mk_tree.specs.Items.{Assign as AssignItem, Recipe, header_item}
 use Rattle.mk_tree.specs.LineTexts.{StandingLine}
-use Rattle.mk_edit_language.specs.Edits.{Place, NewLine, NewAssign, NewRule, One, Every, ValueChange, LineChange, PrereqChange, AddPrereq, RemovePrereq, RecipeLine, ByNumber, ByText, RecipePlace, Removal, Edit, ChangeValue, ChangeLine, ChangePrereqs, AddLine, AddRecipe, SetRecipe, RemoveLines, RenameTarget, ExchangeLines, EachLine}
+use Rattle.mk_edit_language.specs.Edits.{Place, NewLine, NewAssign, NewRule, One, Every, ValueChange, LineChange, PrereqChange, AddPrereq, RemovePrereq, ReplacePrereq, RecipeLine, ByNumber, ByText, RecipePlace, Removal, Edit, ChangeValue, ChangeLine, ChangePrereqs, AddLine, AddRecipe, SetRecipe, RemoveLines, SwitchLine, RenameTarget, ExchangeLines, EachLine}
 use Rattle.mk_edit_language.specs.Stretches.{Stretch, this_line}
 use Rattle.mk_edit_language.specs.ValueChanges.{assignment_spans, value_spans, change_spans}
 use Rattle.mk_edit_language.specs.LineChanges.{line_pieces, line_change_spans, assigned_after, line_after, fits_line, reads_as, is_misread}
@@ -30,7 +30,7 @@ use Rattle.mk_edit_language.proofs.on_edits.Accepted.{IsAccepted, accepted, wher
 use Rattle.mk_edit_language.proofs.on_edits.MadeLines.{IsMade, replaced-made, removed-made, added-made}
 use Rattle.mk_edit_language.proofs.on_lines.SpotLemmas.{recipe-found, recipe-class, rule-found}
 use Rattle.mk_edit_language.proofs.on_lines.LineReplaced.{IsLineReplaced, replaced-same}
-use Rattle.mk_edit_language.proofs.on_values.FoundAssignments.{assignment-found}
+use Rattle.mk_edit_language.proofs.on_values.FoundAssignments.{assignment-found, changed-found}
 use Rattle.mk_edit_language.proofs.on_values.SetValueLemmas.{not_prefix}
 use Rattle.mk_edit_language.proofs.on_changes.AssignmentsChanged.{change-text, assignment-changed}
 use Rattle.mk_edit_language.proofs.on_changes.SpansShifted.{replacements-shifted, replaced-shifted}
@@ -40,6 +40,8 @@ use Rattle.mk_edit_language.proofs.on_prerequisites.NewWords.{word-is_new}
 use Rattle.mk_edit_language.proofs.on_prerequisites.HeaderEdits.{word_spans-header, with_header-header}
 use Rattle.mk_edit_language.proofs.on_prerequisites.AddPrereqLemmas.{add_prereq-line}
 use Rattle.mk_edit_language.proofs.on_prerequisites.RemovePrereqLemmas.{remove_prereq-line}
+use Rattle.mk_edit_language.proofs.on_renames.ReplacePrereqLemmas.{replace_prereq-line}
+use Rattle.mk_edit_language.proofs.on_comments.SwitchesMade.{switch-made}
 use Rattle.mk_edit_language.proofs.on_new_lines.NewLineStands.{NewStands}
 use Rattle.mk_edit_language.proofs.on_new_lines.AddAssignLemmas.{new_assign-stands}
 use Rattle.mk_edit_language.proofs.on_new_lines.AddRuleLemmas.{new_rule-stands}
@@ -56,7 +58,7 @@ value-made : (nth : Option ℕ) (n : List ℕ) (c : ValueChange) (t : List ℕ) 
 value-made nth n c t rs h =
     let e = ChangeValue (One nth) n c in
     let A = accepted t e rs h in
-    let F = assignment-found t n nth (where_holds-none _ _ A.is_there) (where_holds-none _ _ A.is_one) (not_prefix n A.not_reserved) in
+    let F = changed-found t n nth c A.is_there A.is_one A.not_absent (not_prefix n A.not_reserved) in
     let s = F.spot in
     let at = length (text_of s.above) in
     let k = Class.Assign F.assigned None in
@@ -109,6 +111,9 @@ prereqs-line : (c : PrereqChange) (t : List ℕ) (A : List ClassedLine) (l : Cla
     → classed_lines t ≡ A ++ l ∷ B → l.class ≡ Class.Header x → IsLineReplaced (replaced 0 t (replacements (length (text_of A)) (prereq_pieces c x))) A B (with_prereqs c (header_item x))
 prereqs-line (AddPrereq order w) t A l B x nth g a h k = add_prereq-line order t A l B x w (word-is_new w (two-passed field.Target field.Word (is_target g) (is_word w) a).1) h k
 prereqs-line (RemovePrereq w) t A l B x nth g a h k = remove_prereq-line t A l B x w h k
+prereqs-line (ReplacePrereq o w) t A l B x nth g a h k =
+    let words = first-passed field.Target (is_target g) (Tested field.Old (is_word o) ∷ Tested field.New (is_word w) ∷ []) a in
+    replace_prereq-line t A l B x o w (word-is_new w (two-passed field.Old field.New (is_word o) (is_word w) words.1).1) h k
 
 prereqs-made : (nth : Option ℕ) (g : List ℕ) (c : PrereqChange) (t : List ℕ) (rs : List Replacement) → spans t (ChangePrereqs nth g c) ≡ Ok rs → IsMade t (ChangePrereqs nth g c) rs
 prereqs-made nth g c t rs h =
@@ -180,6 +185,7 @@ one_place-made (AddLine q l) p t rs h = add_line-made q l t rs h
 one_place-made (AddRecipe nth g q c) p t rs h = add_recipe-made nth g q c t rs h
 one_place-made (SetRecipe nth g w c) p t rs h = set_recipe-made nth g w c t rs h
 one_place-made (RemoveLines r) p t rs h = remove-made r t rs h
+one_place-made (SwitchLine w nth n) p t rs h = switch-made w nth n t rs h
 one_place-made (ChangeValue Every n c) p t rs h = absurd p
 one_place-made (RenameTarget o n) p t rs h = absurd p
 one_place-made (ExchangeLines s ts) p t rs h = absurd p

@@ -117,29 +117,35 @@ line-respanned t rs A l B m w k r =
     (append_cancel_left (text_of A) (m.bytes ++ text_of B) (replaced at l.bytes rs ++ text_of B)
     (sym (line-in_text (replaced 0 t rs) A m B k).text ∙ (ap (λ q. replaced 0 q rs) (line-in_text t A l B w).text ∙ Rise-within (text_of A) l.bytes (text_of B) rs r)))
 
--- an edit that changes one line, of no conditional
-pub replaced-made : (t : List ℕ) (e : Edit) (rs : List Replacement) (s : StandingLine) (i : Item) → spans t e ≡ Ok rs → touched_by (classed_lines t) e ≡ Some (this_line s)
-    → IsLineReplaced (replaced 0 t rs) s.above s.below i → change t e ≡ with_items (i ∷ []) (this_line s) → insertion (classed_lines t) e ≡ None
+-- an edit in which one line, of no conditional, stands in the place of one
+pub line_in_stead-made : (t : List ℕ) (e : Edit) (rs : List Replacement) (s : StandingLine) (m : ClassedLine) → spans t e ≡ Ok rs → touched_by (classed_lines t) e ≡ Some (this_line s)
+    → classed_lines (replaced 0 t rs) ≡ s.above ++ m ∷ s.below → not (is_conditional m.class) ≡ true → change t e ≡ with_items (items (m ∷ [])) (this_line s) → insertion (classed_lines t) e ≡ None
     → edited_bytes t e (this_line s) rs ≡ respanned_bytes (this_line s) rs ∷ [] → 1 ≤ cost t e → 1 ≤ size t e → not (is_conditional s.line.class) ≡ true → IsMade t e rs
-replaced-made t e rs s i h p r g n d c z u =
-    let m = r.line in
+line_in_stead-made t e rs s m h p lines plain g n d c z u =
     let at = length (text_of s.above) in
     let before = touched-stretch (classed_lines t) e (this_line s) p in
     let within = subst (Rise at (at + length (text_of (s.line ∷ [])))) (accepted t e rs h).spans_are (spans-within t e (this_line s) p) in
     let bytes : m.bytes ≡ respanned_bytes (this_line s) rs =
-    line-respanned t rs s.above s.line s.below m before r.lines (subst (λ q. Rise at (at + length q) rs) (append-nil s.line.bytes) within) ∙ ap (λ q. replaced at q rs) (sym (append-nil s.line.bytes)) in
-    let class : class_of (context_of s.above) m.bytes ≡ m.class = (line-in_text (replaced 0 t rs) s.above m s.below r.lines).class in
+    line-respanned t rs s.above s.line s.below m before lines (subst (λ q. Rise at (at + length q) rs) (append-nil s.line.bytes) within) ∙ ap (λ q. replaced at q rs) (sym (append-nil s.line.bytes)) in
+    let class : class_of (context_of s.above) m.bytes ≡ m.class = (line-in_text (replaced 0 t rs) s.above m s.below lines).class in
     in_stead-made t e rs (this_line s) (m ∷ []) h (record {
       place = p;
-      after = r.lines ∙ ap (λ (o : Option Stretch). above_after t o (this_line s) ++ m ∷ s.below) (sym n);
+      after = lines ∙ ap (λ (o : Option Stretch). above_after t o (this_line s) ++ m ∷ s.below) (sym n);
       above_items = ap (λ (o : Option Stretch). items (above_after t o (this_line s))) n;
       new_are = one-line (context_of s.above) m (respanned_bytes (this_line s) rs) bytes class ∙ ap (classed (context_of s.above)) (sym d);
       few_new = omega (arith, c);
       few_gone = omega (arith, z);
-      new_plain = (r.unconditional, tt);
+      new_plain = (plain, tt);
       gone_plain = (u, tt);
-      change_is = g ∙ ap (λ z. with_items (z ++ []) (this_line s)) (sym r.item);
+      change_is = g;
     })
+
+-- an edit that changes one line, which reads as one item
+pub replaced-made : (t : List ℕ) (e : Edit) (rs : List Replacement) (s : StandingLine) (i : Item) → spans t e ≡ Ok rs → touched_by (classed_lines t) e ≡ Some (this_line s)
+    → IsLineReplaced (replaced 0 t rs) s.above s.below i → change t e ≡ with_items (i ∷ []) (this_line s) → insertion (classed_lines t) e ≡ None
+    → edited_bytes t e (this_line s) rs ≡ respanned_bytes (this_line s) rs ∷ [] → 1 ≤ cost t e → 1 ≤ size t e → not (is_conditional s.line.class) ≡ true → IsMade t e rs
+replaced-made t e rs s i h p r g n d c z u =
+    line_in_stead-made t e rs s r.line h p r.lines r.unconditional (g ∙ ap (λ z. with_items (z ++ []) (this_line s)) (sym r.item)) n d c z u
 
 -- ---- lines taken out
 

@@ -1,5 +1,5 @@
 -- The spans of each edit rise within the text and do not overlap.
-use Rattle.std.proofs.Common.{◌≡◌, refl, sym, ap, ◌∙◌, subst, arith, ℕ, List, [], ◌∷◌, ◌++◌, true, false, length, length-append, ◌+◌, ◌-◌, ◌≤◌, Option, Some, None, option_map}
+use Rattle.std.proofs.Common.{◌≡◌, refl, sym, ap, ◌∙◌, subst, arith, ℕ, List, [], ◌∷◌, ◌++◌, true, false, length, length-append, ◌+◌, ◌≤◌, Option, Some, None, option_map}
 use Rattle.std.proofs.lemmas.Bool.{eqb-true}
 use Rattle.std.proofs.lemmas.List.{append-nil}
 use Rattle.std.specs.Prelude.{Ok}
@@ -15,12 +15,13 @@ use Rattle.mk_class.specs.ClassedLines.{classed_lines}
 use Rattle.mk_tree.specs.Documents.{text_of, context_of}
 use Rattle.mk_tree.proofs.on_documents.LinesInText.{line-in_text, run-in_text}
 use Rattle.mk_tree.specs.LineTexts.{StandingLine}
-use Rattle.mk_edit_language.specs.Edits.{Site, One, Every, Edit, ChangeValue, ChangeLine, ChangePrereqs, AddLine, AddRecipe, SetRecipe, RemoveLines, RenameTarget, ExchangeLines, EachLine}
-use Rattle.mk_edit_language.specs.Addresses.{Variable, Rule, found}
+use Rattle.mk_edit_language.specs.Edits.{Site, One, Every, Edit, ChangeValue, ChangeLine, ChangePrereqs, AddLine, AddRecipe, SetRecipe, RemoveLines, SwitchLine, RenameTarget, ExchangeLines, EachLine}
+use Rattle.mk_edit_language.specs.Addresses.{Variable, Rule, value_address, switch_address, found}
 use Rattle.mk_edit_language.specs.Stretches.{Stretch, this_line, between, place_found, recipe_place, recipe_found, touched_by}
 use Rattle.mk_edit_language.specs.NewLines.{new_line_span}
 use Rattle.mk_edit_language.specs.ValueChanges.{value_spans, assignment_spans, change_spans, changed_line_spans}
 use Rattle.mk_edit_language.specs.LineChanges.{line_change_spans}
+use Rattle.mk_edit_language.specs.SwitchedLines.{switch_spans}
 use Rattle.mk_edit_language.specs.LineRuns.{site_found}
 use Rattle.mk_edit_language.specs.LineExchanges.{exchange_span}
 use Rattle.mk_edit_language.specs.EditSpans.{removed_span, header_spans, word_spans, prereq_pieces, renamed_line_spans, recipe_span, where_found, spans_of}
@@ -34,6 +35,7 @@ use Rattle.mk_edit_language.proofs.on_lines.SpotLemmas.{recipe_found-is}
 use Rattle.mk_edit_language.proofs.on_lines.PrefixLemmas.{CanBegin, context-can_begin}
 use Rattle.mk_edit_language.proofs.on_edits.EditPlaces.{IsSpotOf, found-spot, touched-stretch}
 use Rattle.mk_edit_language.proofs.on_line_runs.SitesFound.{site-stretch}
+use Rattle.mk_edit_language.proofs.on_comments.SwitchedPieces.{switch-rises}
 use Rattle.mk_edit_language.proofs.on_each_line.EachLineSpans.{each-rises}
 
 -- ---- recipe lines
@@ -78,7 +80,7 @@ within-line s rs r = subst (λ q. Rise (length (text_of s.above)) (length (text_
 -- the spans of an edit of one place rise within the lines that it touches
 pub spans-within : (t : List ℕ) (e : Edit) (s : Stretch) → touched_by (classed_lines t) e ≡ Some s → RiseWithin s (spans_of t (classed_lines t) e)
 spans-within t (ChangeValue (One nth) n c) s h =
-    let a = Variable nth n in
+    let a = value_address nth n c in
     within-found (value_spans (change_spans c)) this_line (found (classed_lines t) a)
     (λ x i. within-line x (value_spans (change_spans c) x) (spot-rises t x (assignment_spans (change_spans c)) (found-spot (classed_lines t) a x i) (rise-values (change_spans c) (change-rises c)))) s h
 spans-within t (ChangeLine nth n c) s h =
@@ -95,6 +97,9 @@ spans-within t (SetRecipe nth g w c) s h =
     within-found (recipe_span c) this_line (recipe_found (classed_lines t) nth g w)
     (λ x i. let r = recipe_found-is (classed_lines t) nth g w x i in within-line x (recipe_span c x) (recipe-rises t c x r.whole r.passes)) s h
 spans-within t (RemoveLines r) s h = subst (λ (o : Option Stretch). RiseWithin s (where_found removed_span o)) (sym h) (omega arith, omega arith, omega arith)
+spans-within t (SwitchLine w nth n) s h =
+    within-found (switch_spans w) this_line (found (classed_lines t) (switch_address w nth n))
+    (λ x i. within-line x (switch_spans w x) (switch-rises w (length (text_of x.above)) x.line.bytes)) s h
 spans-within t (ChangeValue Every n c) s h = absurd (cc)
 spans-within t (RenameTarget o n) s h = absurd (cc)
 spans-within t (ExchangeLines q ts) s h = absurd (cc)
@@ -131,13 +136,14 @@ rise-exchanged t site ts = go (site_found (classed_lines t) site) refl
 
 -- the spans of each edit rise within the text
 pub spans-rise : (t : List ℕ) (e : Edit) → Rise 0 (length t) (spans_of t (classed_lines t) e)
-spans-rise t (ChangeValue (One nth) n c) = rise-one_place t (ChangeValue (One nth) n c) (no-spans (value_spans (change_spans c)) this_line (found (classed_lines t) (Variable nth n)))
+spans-rise t (ChangeValue (One nth) n c) = rise-one_place t (ChangeValue (One nth) n c) (no-spans (value_spans (change_spans c)) this_line (found (classed_lines t) (value_address nth n c)))
 spans-rise t (ChangeLine nth n c) = rise-one_place t (ChangeLine nth n c) (no-spans (value_spans (line_change_spans c)) this_line (found (classed_lines t) (Variable nth n)))
 spans-rise t (ChangePrereqs nth g c) = rise-one_place t (ChangePrereqs nth g c) (no-spans (word_spans (prereq_pieces c)) this_line (found (classed_lines t) (Rule nth g)))
 spans-rise t (AddLine p l) = rise-one_place t (AddLine p l) (no-spans (new_line_span t (AddLine p l)) between (place_found (classed_lines t) p))
 spans-rise t (AddRecipe nth g p c) = rise-one_place t (AddRecipe nth g p c) (no-spans (new_line_span t (AddRecipe nth g p c)) between (recipe_place (classed_lines t) nth g p))
 spans-rise t (SetRecipe nth g w c) = rise-one_place t (SetRecipe nth g w c) (no-spans (recipe_span c) this_line (recipe_found (classed_lines t) nth g w))
 spans-rise t (RemoveLines r) = rise-one_place t (RemoveLines r) (ap (where_found removed_span))
+spans-rise t (SwitchLine w nth n) = rise-one_place t (SwitchLine w nth n) (no-spans (switch_spans w) this_line (found (classed_lines t) (switch_address w nth n)))
 spans-rise t (ChangeValue Every n c) = rise-all_lines (changed_line_spans n c) (rise-changed n c) t
 spans-rise t (RenameTarget o n) = rise-all_lines (renamed_line_spans o n) (rise-renamed o n) t
 spans-rise t (ExchangeLines s ts) = rise-exchanged t s ts

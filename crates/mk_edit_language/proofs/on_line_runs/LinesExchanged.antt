@@ -11,7 +11,7 @@ use Rattle.mk_lines.specs.declared.ends.End.TheVariants as ends
 use Rattle.mk_lines.proofs.on_lines.LineLemmas.{Ends, EndsBefore}
 use Rattle.mk_lines.specs.Pieces.{Replacement}
 use Rattle.mk_class.specs.ListTests.{is_empty, last_passes}
-use Rattle.mk_class.specs.Arguments.{is_clean}
+use Rattle.mk_class.specs.Arguments.{is_clean, is_target}
 use Rattle.mk_class.specs.Contexts.{Context, start, context_after, max_conditionals}
 use Rattle.mk_class.specs.ClassedLines.{ClassedLine, classed, classed_lines, context_after_lines}
 use Rattle.mk_tree.specs.Documents.{text_of, context_of, most_conditionals}
@@ -22,7 +22,7 @@ use Rattle.mk_tree.specs.NewLineEnds.{lacks_line_end, above_ended, missing_line_
 use Rattle.mk_tree.proofs.on_changes.NewLineLemmas.{file_line_end-some}
 use Rattle.mk_tree.proofs.on_changes.RunsReplaced.{text-run_replaced, run-replaced_keeping, Ends-nothing}
 use Rattle.mk_tree.proofs.on_documents.LinesInText.{bytes_of, reading-three}
-use Rattle.mk_edit_language.specs.Edits.{Site, Top, AtPlace, BeforeRun, AfterRun, OfRun, ExchangeLines}
+use Rattle.mk_edit_language.specs.Edits.{Site, AtPlace, BeforeRun, AfterRun, OfRun, OfRuleRun, ExchangeLines}
 use Rattle.mk_edit_language.specs.Spots.{nth_of, picked}
 use Rattle.mk_edit_language.specs.Stretches.{Stretch}
 use Rattle.mk_edit_language.specs.EditSpans.{where_found}
@@ -62,7 +62,7 @@ accepted t s ts rs h =
     let ls = classed_lines t in
     let A = edits.accepted t (ExchangeLines s ts) rs h in
     let n = no-cause (exchange_causes t ls s ts (site_found ls s)) A.exchangeable in
-    let from_open_line = n.1.1.1.1 in
+    let from_open_line = n.1.1.1.1.1.1 in
     let from_misread = from_open_line.1.1.1 in
     record {
       fields = A.arguments;
@@ -75,7 +75,7 @@ accepted t s ts rs h =
     }
 
 -- a site that is neither missing nor one of several means a stretch
-stretch-picked : (nth : Option ℕ) (ss : List Stretch) → has_no_stretch nth ss ≡ false → has_several_stretches nth ss ≡ false → (s : Stretch) × (picked nth ss ≡ Some s)
+pub stretch-picked : (nth : Option ℕ) (ss : List Stretch) → has_no_stretch nth ss ≡ false → has_several_stretches nth ss ≡ false → (s : Stretch) × (picked nth ss ≡ Some s)
 stretch-picked None [] h k = absurd (cc)
 stretch-picked None (s ∷ []) h k = (s, refl)
 stretch-picked None (s ∷ r ∷ ss) h k = absurd (cc)
@@ -94,11 +94,11 @@ block-tested s ts h = go s h
     right false b h = h
 
     go : (s : Site) → first_failed (exchange_tests s ts) ≡ None → (is_empty ts || is_block ts) ≡ true
-    go Top h = right (is_empty ts) (is_block ts) (first-passed field.Block (is_block ts) [] h).0
     go (AtPlace p) h = right (is_empty ts) (is_block ts) (two-passed field.Place field.Block (is_place p) (is_block ts) h).1
     go (BeforeRun nth o) h = right (is_empty ts) (is_block ts) (two-passed field.Place field.Block (is_block o) (is_block ts) h).1
     go (AfterRun nth o) h = right (is_empty ts) (is_block ts) (two-passed field.Place field.Block (is_block o) (is_block ts) h).1
     go (OfRun nth o) h = (two-passed field.Old field.Block (is_block o) (is_empty ts || is_block ts) h).1
+    go (OfRuleRun nth g) h = (two-passed field.Target field.Block (is_target g) (is_empty ts || is_block ts) h).1
 
 both-false : (a b : Bool) → (not a && not b) ≡ true → (a ≡ false) × (b ≡ false)
 both-false true b h = absurd (cc)

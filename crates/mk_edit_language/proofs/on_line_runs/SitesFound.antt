@@ -1,23 +1,26 @@
 -- What a site means is a stretch of the text's lines.
 use Rattle.std.proofs.Common.{◌≡◌, refl, sym, ap, ◌∙◌, subst, ℕ, zero, suc, List, [], ◌∷◌, ◌++◌, map, append_assoc, Option, Some, None, option_map}
-use Rattle.std.specs.Prelude.{option_and_then}
+use Rattle.std.specs.Prelude.{option_and_then, if◌then◌else◌, ◌-◌, Bool, true, false, length, unwrap_or}
 use Rattle.std.proofs.lemmas.List.{append-nil}
 use Rattle.mk_class.specs.ClassedLines.{ClassedLine}
 use Rattle.mk_tree.specs.LineTexts.{StandingLine}
-use Rattle.mk_edit_language.specs.Edits.{Place, Bottom, BeforeVar, AfterVar, BeforeRule, Site, Top, AtPlace, BeforeRun, AfterRun, OfRun}
+use Rattle.mk_edit_language.specs.Edits.{Place, Top, Bottom, BeforeVar, AfterVar, AfterLastVar, BeforeRule, AfterRule, Site, AtPlace, BeforeRun, AfterRun, OfRun, OfRuleRun}
 use Rattle.mk_edit_language.specs.Spots.{nth_of, picked}
-use Rattle.mk_edit_language.specs.Addresses.{Address, Variable, Rule, found, candidates, nth_meant}
-use Rattle.mk_edit_language.specs.Stretches.{Stretch, IsStretchOf, before_line, after_line}
-use Rattle.mk_edit_language.specs.LineRuns.{texts_of, after_texts, led_by, lower, run_in_front, before_runs, runs, before_run, after_run, place_stretches, site_number, site_stretches, site_found}
-use Rattle.mk_edit_language.proofs.on_edits.EditPlaces.{IsSpotOf, found-spot}
+use Rattle.mk_edit_language.specs.Addresses.{Address, Variable, LastVariable, Rule, found, candidates, nth_meant}
+use Rattle.mk_edit_language.specs.Stretches.{Stretch, IsStretchOf, led_by, lower, before_line, after_line, after_rule, this_line}
+use Rattle.mk_edit_language.specs.RuleRuns.{stands_in_run, run_below, under_header, run_or_header}
+use Rattle.mk_tree.specs.RecipeLines.{recipe_run}
+use Rattle.mk_class.specs.Contexts.{conditionals_after}
+use Rattle.mk_edit_language.specs.LineRuns.{texts_of, after_texts, run_in_front, before_runs, runs, before_run, after_run, place_stretches, site_number, site_stretches, site_found}
+use Rattle.mk_edit_language.proofs.on_edits.EditPlaces.{IsSpotOf, found-spot, after_rule-gap}
 
 -- ---- what is picked of a list that is mapped
 
 -- what is picked is the image of what would be picked of the list
-record IsImage {A B : Type 0} (f : A → B) (o : Option A) (y : B) : Type 0 where
-  from : A
-  picked_is : o ≡ Some from
-  image : f from ≡ y
+pub record IsImage {A B : Type 0} (f : A → B) (o : Option A) (y : B) : Type 0 where
+  pub from : A
+  pub picked_is : o ≡ Some from
+  pub image : f from ≡ y
 
 nth-of_map : {A B : Type 0} (f : A → B) (n : ℕ) (xs : List A) (y : B) → nth_of n (map f xs) ≡ Some y → IsImage f (nth_of n xs) y
 nth-of_map f n [] y h = absurd (cc)
@@ -25,7 +28,7 @@ nth-of_map f zero (x ∷ xs) y h = absurd (cc)
 nth-of_map f (suc zero) (x ∷ xs) y h = let e : f x ≡ y = cc in record { from = x; picked_is = refl; image = e }
 nth-of_map f (suc (suc n)) (x ∷ xs) y h = nth-of_map f (suc n) xs y h
 
-picked-of_map : {A B : Type 0} (f : A → B) (nth : Option ℕ) (xs : List A) (y : B) → picked nth (map f xs) ≡ Some y → IsImage f (picked nth xs) y
+pub picked-of_map : {A B : Type 0} (f : A → B) (nth : Option ℕ) (xs : List A) (y : B) → picked nth (map f xs) ≡ Some y → IsImage f (picked nth xs) y
 picked-of_map f None [] y h = absurd (cc)
 picked-of_map f None (x ∷ []) y h = let e : f x ≡ y = cc in record { from = x; picked_is = refl; image = e }
 picked-of_map f None (x ∷ z ∷ xs) y h = absurd (cc)
@@ -52,26 +55,29 @@ picked-stretch ls (Some n) ss s h e = nth-stretch ls n ss s h e
 -- ---- runs
 
 -- a run that begins with the first of some lines
-record IsInFront (ls : List ClassedLine) (s : Stretch) : Type 0 where
-  above : s.above ≡ []
-  whole : ls ≡ s.lines ++ s.below
+pub record IsInFront (ls : List ClassedLine) (s : Stretch) : Type 0 where
+  pub above : s.above ≡ []
+  pub whole : ls ≡ s.lines ++ s.below
+
+-- one line more
+longer : (l : ClassedLine) (ls : List ClassedLine) (b : Bool) (o : Option Stretch) (s : Stretch) → ((r : Stretch) → o ≡ Some r → IsInFront ls r)
+    → (if b then option_map (led_by l) o else None) ≡ Some s → IsInFront (l ∷ ls) s
+longer l ls false o s f h = absurd (cc)
+longer l ls true None s f h = absurd (cc)
+longer l ls true (Some r) s f h =
+    let g : IsInFront ls r = f r refl in
+    let k : led_by l r ≡ s = cc in
+    subst (IsInFront (l ∷ ls)) k (record { above = g.above; whole = ap (λ z. l ∷ z) g.whole })
 
 run-front : (b : List (List ℕ)) (ls : List ClassedLine) (s : Stretch) → run_in_front b ls ≡ Some s → IsInFront ls s
 run-front [] ls s h = let k : record { above = []; lines = []; below = ls } ≡ s = cc in subst (IsInFront ls) k (record { above = refl; whole = refl })
 run-front (x ∷ b) [] s h = absurd (cc)
 run-front (x ∷ b) (l ∷ ls) s h = go (λ rest r. run-front rest ls r) (after_texts (texts_of l.bytes) (x ∷ b)) h
   where
-    longer : (rest : List (List ℕ)) (o : Option Stretch) → run_in_front rest ls ≡ o → ((r : Stretch) → run_in_front rest ls ≡ Some r → IsInFront ls r) → option_map (led_by l) o ≡ Some s → IsInFront (l ∷ ls) s
-    longer rest None i f e = absurd (cc)
-    longer rest (Some r) i f e =
-        let g : IsInFront ls r = f r i in
-        let k : led_by l r ≡ s = cc in
-        subst (IsInFront (l ∷ ls)) k (record { above = g.above; whole = ap (λ z. l ∷ z) g.whole })
-
     go : ((rest : List (List ℕ)) (r : Stretch) → run_in_front rest ls ≡ Some r → IsInFront ls r) → (o : Option (List (List ℕ)))
         → option_and_then (λ rest. option_map (led_by l) (run_in_front rest ls)) o ≡ Some s → IsInFront (l ∷ ls) s
     go f None e = absurd (cc)
-    go f (Some rest) e = longer rest (run_in_front rest ls) refl (f rest) e
+    go f (Some rest) e = longer l ls true (run_in_front rest ls) s (f rest) e
 
 front-stretch : (ls : List ClassedLine) (s : Stretch) → IsInFront ls s → IsStretchOf ls s
 front-stretch ls s h = h.whole ∙ ap (λ z. z ++ (s.lines ++ s.below)) (sym h.above)
@@ -96,6 +102,24 @@ after-stretches : (ls : List ClassedLine) (ss : List Stretch) → AreStretchesOf
 after-stretches ls [] h = tt
 after-stretches ls (s ∷ ss) h = (h.0 ∙ sym (append_assoc s.above s.lines s.below), after-stretches ls ss h.1)
 
+-- ---- the run of a rule
+
+-- the lines below a header begin with its run
+pub run-below : (n r : ℕ) (ls : List ClassedLine) (s : Stretch) → run_below n r ls ≡ Some s → IsInFront ls s
+run-below zero zero ls s h = let k : record { above = []; lines = []; below = ls } ≡ s = cc in subst (IsInFront ls) k (record { above = refl; whole = refl })
+run-below zero (suc r) [] s h = absurd (cc)
+run-below (suc n) r [] s h = absurd (cc)
+run-below zero (suc r) (l ∷ ls) s h = longer l ls (stands_in_run zero l.class) (run_below (conditionals_after zero l.class) (suc r - 1) ls) s (λ q i. run-below (conditionals_after zero l.class) (suc r - 1) ls q i) h
+run-below (suc n) r (l ∷ ls) s h = longer l ls (stands_in_run (suc n) l.class) (run_below (conditionals_after (suc n) l.class) (r - 1) ls) s (λ q i. run-below (conditionals_after (suc n) l.class) (r - 1) ls q i) h
+
+-- the run of a rule, or its header, is a stretch of the text's lines
+rule-stretch : (ls : List ClassedLine) (x : StandingLine) → IsSpotOf ls x → IsStretchOf ls (run_or_header x)
+rule-stretch ls x h = go (run_below 0 (length (recipe_run x.below)) x.below) (λ q i. run-below 0 (length (recipe_run x.below)) x.below q i)
+  where
+    go : (o : Option Stretch) → ((q : Stretch) → o ≡ Some q → IsInFront x.below q) → IsStretchOf ls (unwrap_or (option_map (under_header x) o) (this_line x))
+    go None f = h
+    go (Some q) f = h ∙ ap (λ z. x.above ++ x.line ∷ z) (f q refl).whole
+
 -- ---- places
 
 -- a place at a line that an address means
@@ -109,15 +133,18 @@ after-spot : (ls : List ClassedLine) (x : StandingLine) → IsSpotOf ls x → Is
 after-spot ls x h = h ∙ sym (append_assoc x.above (x.line ∷ []) x.below)
 
 place-stretch : (ls : List ClassedLine) (p : Place) (s : Stretch) → picked (site_number (AtPlace p)) (place_stretches ls p) ≡ Some s → IsStretchOf ls s
+place-stretch ls Top s e = picked-stretch ls None (place_stretches ls Top) s (refl, tt) e
 place-stretch ls Bottom s e = picked-stretch ls None (place_stretches ls Bottom) s (sym (append-nil ls), tt) e
 place-stretch ls (BeforeVar nth n) s e = at-line ls (Variable nth n) before_line s (λ x h. h) e
 place-stretch ls (AfterVar nth n) s e = at-line ls (Variable nth n) after_line s (after-spot ls) e
+place-stretch ls (AfterLastVar n) s e = at-line ls (LastVariable n) after_line s (after-spot ls) e
 place-stretch ls (BeforeRule nth g) s e = at-line ls (Rule nth g) before_line s (λ x h. h) e
+place-stretch ls (AfterRule nth g) s e = at-line ls (Rule nth g) after_rule s (after_rule-gap ls) e
 
 -- what a site means
 pub site-stretch : (ls : List ClassedLine) (site : Site) (s : Stretch) → site_found ls site ≡ Some s → IsStretchOf ls s
-site-stretch ls Top s e = picked-stretch ls None (site_stretches ls Top) s (refl, tt) e
 site-stretch ls (AtPlace p) s e = place-stretch ls p s e
 site-stretch ls (BeforeRun nth o) s e = picked-stretch ls nth (site_stretches ls (BeforeRun nth o)) s (before-stretches ls (runs o ls) (runs-stretches o ls)) e
 site-stretch ls (AfterRun nth o) s e = picked-stretch ls nth (site_stretches ls (AfterRun nth o)) s (after-stretches ls (runs o ls) (runs-stretches o ls)) e
 site-stretch ls (OfRun nth o) s e = picked-stretch ls nth (runs o ls) s (runs-stretches o ls) e
+site-stretch ls (OfRuleRun nth g) s e = at-line ls (Rule nth g) run_or_header s (rule-stretch ls) e

@@ -14,7 +14,7 @@ use Rattle.mk_edit_language.specs.RuleCauses.{not_one, no_recipe}
 use Rattle.mk_edit_language.specs.declared.refusal.Refusal.TheVariants.{Absent}
 use Rattle.mk_edit_language.specs.Stretches.{below_header, has_text, recipe_spots, recipe_spot, recipe_found, recipes_found}
 use Rattle.mk_edit_language.proofs.on_edits.Accepted.{spot-picked, where_holds-none}
-use Rattle.mk_edit_language.specs.Spots.{spots, spot_if, under, nth_of, picked}
+use Rattle.mk_edit_language.specs.Spots.{spots, spot_if, under, only_last, nth_of, picked}
 
 -- a spot of some lines, whose line passes the test
 pub record IsSpot (test : ClassedLine → Bool) (ls : List ClassedLine) (s : StandingLine) : Type 0 where
@@ -54,6 +54,15 @@ only-is test ls (q ∷ r ∷ ss) s h e = absurd (cc)
 pub picked-is : (test : ClassedLine → Bool) (ls : List ClassedLine) (nth : Option ℕ) (s : StandingLine) → picked nth (spots test ls) ≡ Some s → IsSpot test ls s
 picked-is test ls None s e = only-is test ls (spots test ls) s (spots-are test ls) e
 picked-is test ls (Some n) s e = nth-is test ls n (spots test ls) s (spots-are test ls) e
+
+last-are : (test : ClassedLine → Bool) (ls : List ClassedLine) (ss : List StandingLine) → AreSpots test ls ss → AreSpots test ls (only_last ss)
+last-are test ls [] h = tt
+last-are test ls (s ∷ []) h = h
+last-are test ls (s ∷ r ∷ ss) h = last-are test ls (r ∷ ss) h.1
+
+-- so is the last one
+pub last-is : (test : ClassedLine → Bool) (ls : List ClassedLine) (s : StandingLine) → picked None (only_last (spots test ls)) ≡ Some s → IsSpot test ls s
+last-is test ls s e = only-is test ls (only_last (spots test ls)) s (last-are test ls (spots test ls) (spots-are test ls)) e
 
 -- ---- recipe lines
 
@@ -143,7 +152,7 @@ pub record FoundRule (ls : List ClassedLine) (nth : Option ℕ) (t : List ℕ) :
   pub header : Header Cell
   pub class_is : spot.line.class ≡ Class.Header header
 
-header-class : (t : List ℕ) (k : Class Cell) → is_rule_for t k ≡ true → (h : Header Cell) × (k ≡ Class.Header h)
+pub header-class : (t : List ℕ) (k : Class Cell) → is_rule_for t k ≡ true → (h : Header Cell) × (k ≡ Class.Header h)
 header-class t (Class.Header h) e = (h, refl)
 header-class t Class.Endef e = absurd (cc)
 header-class t (Class.Body d) e = absurd (cc)

@@ -48,7 +48,7 @@ use Rattle.mk_edit_language.specs.AddressCauses.{begins_new_line}
 use Rattle.mk_lines.specs.Spacing.{after_space}
 use Rattle.mk_edit_language.specs.NewLines.{assign_text}
 use Rattle.mk_edit_language.specs.Changes.{new_item}
-use Rattle.mk_edit_language.proofs.on_edits.Accepted.{IsAccepted, where_holds-none, first-passed, two-passed}
+use Rattle.mk_edit_language.proofs.on_edits.Accepted.{IsAccepted, neither-holds, where_holds-none, first-passed, two-passed}
 use Rattle.mk_edit_language.proofs.on_values.FoundAssignments.{no_prefix-set}
 use Rattle.mk_edit_language.proofs.on_values.SetValueLemmas.{bytes-joined, unit_text-units}
 use Rattle.mk_edit_language.proofs.on_new_lines.NewPlaces.{new-place}
@@ -342,7 +342,7 @@ new_assign-stands p (b ∷ n) f v t rs A =
     let P = new-place t p A.is_there A.is_one (or-right_false (is_prefix_name (b ∷ n)) at r) A.define_closed in
     let s = P.stretch in
     let c = context_of s.above in
-    let led : begins_new_line e (Some s) ≡ false = subst (λ (z : Option Stretch). begins_new_line e z ≡ false) P.found_is (where_holds-none _ RecipePrefix A.not_led) in
+    let led : begins_new_line e (Some s) ≡ false = subst (λ (z : Option Stretch). begins_new_line e z ≡ false) P.found_is (where_holds-none _ RecipePrefix (neither-holds _ _ A.well_placed).1) in
     let E = file_line_end t in
     let x = assign_text (b ∷ n) f v in
     let N = name-bytes_are b n u.0 in

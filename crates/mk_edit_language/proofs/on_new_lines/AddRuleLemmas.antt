@@ -19,7 +19,7 @@ use Rattle.mk_edit_language.specs.ArgumentCauses.{is_place, are_targets, are_wor
 use Rattle.mk_edit_language.specs.Addresses.{place_address}
 use Rattle.mk_edit_language.specs.AddressCauses.{begins_new_line}
 use Rattle.mk_edit_language.specs.Changes.{separator_of, new_item}
-use Rattle.mk_edit_language.proofs.on_edits.Accepted.{IsAccepted, where_holds-none, first-passed, two-passed}
+use Rattle.mk_edit_language.proofs.on_edits.Accepted.{IsAccepted, neither-holds, where_holds-none, first-passed, two-passed}
 use Rattle.mk_edit_language.proofs.on_new_lines.NewPlaces.{new-place}
 use Rattle.mk_edit_language.proofs.on_new_lines.NewLineStands.{NewStands, accepted-stands}
 use Rattle.mk_edit_language.proofs.on_prerequisites.NewWords.{word-is_new}
@@ -73,7 +73,7 @@ new_rule-stands p g c w t rs A =
         let C = context_of s.above in
         let line = text_of_rule (x ∷ ts) c ws in
         let text : new_text C.prefix E ≡ line = ap (λ z. text_of_rule z c ws) e in
-        let led : is_prefix_led C.prefix line ≡ false = ap (is_prefix_led C.prefix) (sym text) ∙ (sym (ap (begins_new_line E) P.found_is) ∙ where_holds-none _ _ A.not_led) in
+        let led : is_prefix_led C.prefix line ≡ false = ap (is_prefix_led C.prefix) (sym text) ∙ (sym (ap (begins_new_line E) P.found_is) ∙ where_holds-none _ _ (neither-holds _ _ A.well_placed).1) in
         let header = new_rule x ts c ws in
         record {
           stretch = s;

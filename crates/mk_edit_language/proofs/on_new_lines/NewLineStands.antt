@@ -1,6 +1,6 @@
 -- A new line that can stand at its place: the other lines stay.
 use Rattle.std.proofs.Common.{◌≡◌, ap, ◌∙◌, subst, ℕ, List, [], ◌∷◌, ◌++◌, true, false, not, ◌&&◌, Option, Some}
-use Rattle.mk_lines.proofs.on_lists.BoolLemmas.{or-left_false}
+use Rattle.mk_lines.proofs.on_lists.BoolLemmas.{or-left_false, or-right_false}
 use Rattle.mk_lines.specs.PhysicalLines.{line_end_bytes, file_line_end}
 use Rattle.mk_lines.specs.LogicalLines.{is_open}
 use Rattle.mk_lines.proofs.on_lines.LineEndAdded.{IsEnded}
@@ -21,7 +21,7 @@ use Rattle.mk_tree.proofs.on_changes.RunsReplaced.{text-inserted}
 use Rattle.mk_edit_language.specs.Edits.{Edit}
 use Rattle.mk_edit_language.specs.Stretches.{Stretch, insertion}
 use Rattle.mk_edit_language.specs.NewLines.{new_text, new_line_span}
-use Rattle.mk_edit_language.specs.LineCauses.{follows_open_line, flag_below_new, new_line_leans}
+use Rattle.mk_edit_language.specs.LineCauses.{follows_open_line, flag_below_new, new_line_leans, switched_leans}
 use Rattle.mk_edit_language.proofs.on_edits.Accepted.{IsAccepted, where_holds-none}
 
 -- a text, with the file's line end, that can stand as a line of a class at a stretch
@@ -49,7 +49,7 @@ pub accepted-stands : (t : List ℕ) (e : Edit) (rs : List Replacement) (s : Str
     → IsEnded x (file_line_end t) → class_of (context_of s.above) (x ++ line_end_bytes (file_line_end t)) ≡ k → AgreeButForFlag (context_of s.above) (context_after (context_of s.above) k)
     → flag_below_new e ≡ flag_after (context_of s.above).flag k → StandsAt t s x k
 accepted-stands t e rs s x k A i w n c g f =
-    let free : new_line_leans e (Some s) ≡ false = subst (λ (z : Option Stretch). new_line_leans e z ≡ false) i (or-left_false _ _ (where_holds-none _ _ A.not_leaning)) in
+    let free : new_line_leans e (Some s) ≡ false = subst (λ (z : Option Stretch). new_line_leans e z ≡ false) i (or-left_false _ _ (or-right_false (switched_leans (classed_lines t) e) _ (where_holds-none _ _ A.not_leaning))) in
     record {
       whole = w;
       not_open = subst (λ (z : Option Stretch). follows_open_line z ≡ false) i (where_holds-none _ _ A.line_closed);

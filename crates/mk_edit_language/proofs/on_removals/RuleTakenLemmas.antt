@@ -36,7 +36,7 @@ use Rattle.mk_edit_language.specs.declared.refusal.Refusal.TheVariants.{NoSuch, 
 -- ---- the target
 
 -- a word among fewer than two is the only one
-only-word : (w : List ℕ) (ws : List (List ℕ)) → is_one_of w ws ≡ true → nat_lt 1 (length ws) ≡ false → ws ≡ w ∷ []
+pub only-word : (w : List ℕ) (ws : List (List ℕ)) → is_one_of w ws ≡ true → nat_lt 1 (length ws) ≡ false → ws ≡ w ∷ []
 only-word w [] h n = absurd (cc)
 only-word w (x ∷ []) h n = go (bytes_eq w x) refl h
   where

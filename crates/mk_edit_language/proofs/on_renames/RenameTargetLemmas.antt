@@ -47,4 +47,4 @@ rename_target-reads o n t rs h =
     let A = accepted t (RenameTarget o n) rs h in
     let W = rename_target-words o n t rs h in
     ap (λ q. reading (text_by t q)) h
-    ∙ (ap (λ q. reading (replaced 0 t q)) (sym A.spans_are) ∙ reading-renamed o n W.new W.renamed t (where_holds-none _ RecipePrefix A.not_led))
+    ∙ (ap (λ q. reading (replaced 0 t q)) (sym A.spans_are) ∙ reading-renamed o n W.new W.renamed t (where_holds-none _ RecipePrefix A.well_placed))

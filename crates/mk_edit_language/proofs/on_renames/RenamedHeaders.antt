@@ -50,44 +50,53 @@ pub record IsNewTarget (o n : List ℕ) : Type 0 where
 abbrev pub renamed_units : (old new : List ℕ) → List (List Cell) → List (List Cell)
 renamed_units o n us = token_units (tokens_renamed o n (tokens joined_byte us))
 
-module _ (o n : List ℕ) (new : IsNewTarget o n) (us : List (List Cell)) where
-  renamed-parts : AllAre IsPartUnit us → AllAre IsPartUnit (renamed_units o n us)
-  renamed-parts h = renamed-all o n new.word IsPartUnit (tokens joined_byte us) (word-parts n new.word) (subst (AllAre IsPartUnit) (sym (token_units-tokens joined_byte us)) h)
+-- units after a new word comes in the place of an old one
+module _ (o n : List ℕ) (word : IsNewWord n) (us : List (List Cell)) where
+  pub renamed-parts : AllAre IsPartUnit us → AllAre IsPartUnit (renamed_units o n us)
+  renamed-parts h = renamed-all o n word IsPartUnit (tokens joined_byte us) (word-parts n word) (subst (AllAre IsPartUnit) (sym (token_units-tokens joined_byte us)) h)
 
   -- the tokens are those renamed
   renamed-tokens : tokens joined_byte (renamed_units o n us) ≡ tokens_renamed o n (tokens joined_byte us)
-  renamed-tokens = tokens-token_units joined_byte (tokens_renamed o n (tokens joined_byte us)) (renamed-are_tokens o n new.word (tokens joined_byte us) (tokens-are_tokens joined_byte us))
+  renamed-tokens = tokens-token_units joined_byte (tokens_renamed o n (tokens joined_byte us)) (renamed-are_tokens o n word (tokens joined_byte us) (tokens-are_tokens joined_byte us))
 
   pub renamed-texts : word_texts joined_byte (renamed_units o n us) ≡ rename_words o n (word_texts joined_byte us)
-  renamed-texts = ap (λ z. map (map joined_byte) (token_words z)) renamed-tokens ∙ renamed-words o n new.word (tokens joined_byte us)
+  renamed-texts = ap (λ z. map (map joined_byte) (token_words z)) renamed-tokens ∙ renamed-words o n word (tokens joined_byte us)
 
   pub renamed-cells : AreLineCells (concat us) → AreLineCells (concat (renamed_units o n us))
   renamed-cells a =
       subst AreLineCells (sym (concat-token_units (tokens_renamed o n (tokens joined_byte us))))
-      (renamed-line_cells o n new.word [] (tokens joined_byte us) (subst AreLineCells (sym (token_text-tokens joined_byte us)) a))
+      (renamed-line_cells o n word [] (tokens joined_byte us) (subst AreLineCells (sym (token_text-tokens joined_byte us)) a))
 
-  renamed-end : AllAre IsPartUnit us → EndsAs (concat (renamed_units o n us)) (concat us)
+  pub renamed-end : AllAre IsPartUnit us → EndsAs (concat (renamed_units o n us)) (concat us)
   renamed-end h =
       subst (λ z. EndsAs z (concat us)) (sym (concat-token_units (tokens_renamed o n (tokens joined_byte us))))
       (subst (EndsAs (token_text (tokens_renamed o n (tokens joined_byte us)))) (token_text-tokens joined_byte us)
-      (renamed-ends o n new.word [] (tokens joined_byte us) tt (tokens-are_tokens joined_byte us) (subst (AllAre IsHeadUnit) (sym (token_units-tokens joined_byte us)) (part-head us h))))
+      (renamed-ends o n word [] (tokens joined_byte us) tt (tokens-are_tokens joined_byte us) (subst (AllAre IsHeadUnit) (sym (token_units-tokens joined_byte us)) (part-head us h))))
 
-  renamed-first_gap : first_passes is_no_gap us ≡ false → first_passes is_no_gap (renamed_units o n us) ≡ false
+  pub renamed-first_gap : first_passes is_no_gap us ≡ false → first_passes is_no_gap (renamed_units o n us) ≡ false
   renamed-first_gap h =
       let ts = tokens joined_byte us in
       let a = tokens-are_tokens joined_byte us in
-      first-word (tokens_renamed o n ts) (renamed-are_tokens o n new.word ts a)
-      ∙ (renamed-word_first o n new.word ts ∙ (sym (first-word ts a) ∙ (ap (first_passes is_no_gap) (token_units-tokens joined_byte us) ∙ h)))
+      first-word (tokens_renamed o n ts) (renamed-are_tokens o n word ts a)
+      ∙ (renamed-word_first o n word ts ∙ (sym (first-word ts a) ∙ (ap (first_passes is_no_gap) (token_units-tokens joined_byte us) ∙ h)))
 
-  renamed-last_gap : last_passes is_no_gap us ≡ false → last_passes is_no_gap (renamed_units o n us) ≡ false
+  pub renamed-last_gap : last_passes is_no_gap us ≡ false → last_passes is_no_gap (renamed_units o n us) ≡ false
   renamed-last_gap h =
-      renamed-last o n new.word is_no_gap (λ w i e. absurd (word w i e)) (tokens joined_byte us) (tokens-are_tokens joined_byte us) (ap (last_passes is_no_gap) (token_units-tokens joined_byte us) ∙ h)
+      renamed-last o n word is_no_gap (λ w i e. absurd (no_gap_last w i e)) (tokens joined_byte us) (tokens-are_tokens joined_byte us) (ap (last_passes is_no_gap) (token_units-tokens joined_byte us) ∙ h)
     where
-      word : (w : List (List Cell)) → IsWord joined_byte w → last_passes is_no_gap w ≡ false → ⊥
-      word [] i e = i
-      word (u ∷ []) i e = let k : true ≡ false = sym (ap not i) ∙ e in cc
-      word (u ∷ v ∷ w) i e = word (v ∷ w) i.1 e
+      no_gap_last : (w : List (List Cell)) → IsWord joined_byte w → last_passes is_no_gap w ≡ false → ⊥
+      no_gap_last [] i e = i
+      no_gap_last (u ∷ []) i e = let k : true ≡ false = sym (ap not i) ∙ e in cc
+      no_gap_last (u ∷ v ∷ w) i e = no_gap_last (v ∷ w) i.1 e
 
+  pub renamed-old : old_cells (renamed_words o n us) ≡ concat us
+  renamed-old = renamed-old_cells o n (tokens joined_byte us) ∙ token_text-tokens joined_byte us
+
+  pub renamed-new : new_cells (renamed_words o n us) ≡ concat (renamed_units o n us)
+  renamed-new = renamed-new_cells o n word (tokens joined_byte us) ∙ sym (concat-token_units (tokens_renamed o n (tokens joined_byte us)))
+
+-- units after a rename
+module _ (o n : List ℕ) (new : IsNewTarget o n) (us : List (List Cell)) where
   pub renamed-last_ampersand : last_passes (is_ampersand joined_byte) us ≡ false → last_passes (is_ampersand joined_byte) (renamed_units o n us) ≡ false
   renamed-last_ampersand h =
       renamed-last o n new.word (is_ampersand joined_byte) (λ w i e. word w e (is_word_of o w)) (tokens joined_byte us) (tokens-are_tokens joined_byte us)
@@ -98,13 +107,7 @@ module _ (o n : List ℕ) (new : IsNewTarget o n) (us : List (List Cell)) where
       word w e false = e
 
   renamed-alike_tokens : AlikeTokens (tokens joined_byte us) (tokens joined_byte (renamed_units o n us))
-  renamed-alike_tokens = subst (AlikeTokens (tokens joined_byte us)) (sym renamed-tokens) (renamed-alike o n new.word new.old_free new.new_free (tokens joined_byte us))
-
-  pub renamed-old : old_cells (renamed_words o n us) ≡ concat us
-  renamed-old = renamed-old_cells o n (tokens joined_byte us) ∙ token_text-tokens joined_byte us
-
-  pub renamed-new : new_cells (renamed_words o n us) ≡ concat (renamed_units o n us)
-  renamed-new = renamed-new_cells o n new.word (tokens joined_byte us) ∙ sym (concat-token_units (tokens_renamed o n (tokens joined_byte us)))
+  renamed-alike_tokens = subst (AlikeTokens (tokens joined_byte us)) (sym (renamed-tokens o n new.word us)) (renamed-alike o n new.word new.old_free new.new_free (tokens joined_byte us))
 
 -- a header after a rename
 abbrev pub header_renamed : (old new : List ℕ) → Headers.Header Cell → Headers.Header Cell
@@ -124,11 +127,11 @@ and-of false b h = refl
 renamed-fit : (o n : List ℕ) → IsNewTarget o n → (c : Bool) (cs : List Cell) (h : Headers.Header Cell) → HeaderKnown c cs h
     → FitIn h (renamed_units o n h.targets) (renamed_units o n h.normal) h.bar (renamed_units o n h.order_only)
 renamed-fit o n new c cs h k = record {
-  targets = renamed-parts o n new h.targets k.targets;
-  normal = renamed-parts o n new h.normal k.normal;
-  order_only = renamed-parts o n new h.order_only k.order_only;
+  targets = renamed-parts o n new.word h.targets k.targets;
+  normal = renamed-parts o n new.word h.normal k.normal;
+  order_only = renamed-parts o n new.word h.order_only k.order_only;
   bar_fits = fits-bar_again h.bar h.order_only (renamed_units o n h.order_only) k.fits.bar_fits (λ e. ap (renamed_units o n) e);
-  bar_apart = glued-apart h.normal (renamed_units o n h.normal) h.bar h.order_only (renamed_units o n h.order_only) (renamed-last_gap o n new h.normal) (renamed-first_gap o n new h.order_only) k.bar_apart;
+  bar_apart = glued-apart h.normal (renamed_units o n h.normal) h.bar h.order_only (renamed_units o n h.order_only) (renamed-last_gap o n new.word h.normal) (renamed-first_gap o n new.word h.order_only) k.bar_apart;
   targets_apart =
       and-of (last_passes (is_ampersand joined_byte) (renamed_units o n h.targets)) (first_passes (is_colon joined_byte) h.colons)
       (λ e. renamed-last_ampersand o n new h.targets (and-right (last_passes (is_ampersand joined_byte) h.targets) (first_passes (is_colon joined_byte) h.colons) k.fits.targets_apart e));
@@ -140,31 +143,31 @@ renamed-fit_cells : (o n : List ℕ) → IsNewTarget o n → (c : Bool) (cs : Li
 renamed-fit_cells o n new c cs h k =
     let a = list-cells c cs h k in
     record {
-      targets = renamed-cells o n new h.targets a.targets;
-      normal = renamed-cells o n new h.normal a.normal;
-      order_only = renamed-cells o n new h.order_only a.order_only;
-      ends = lists-end h.normal (renamed_units o n h.normal) h.bar h.order_only (renamed_units o n h.order_only) k.fits.bar_fits (λ e. ap (renamed_units o n) e) (λ e. renamed-end o n new h.normal k.normal)
-          (renamed-end o n new h.order_only k.order_only);
+      targets = renamed-cells o n new.word h.targets a.targets;
+      normal = renamed-cells o n new.word h.normal a.normal;
+      order_only = renamed-cells o n new.word h.order_only a.order_only;
+      ends = lists-end h.normal (renamed_units o n h.normal) h.bar h.order_only (renamed_units o n h.order_only) k.fits.bar_fits (λ e. ap (renamed_units o n) e) (λ e. renamed-end o n new.word h.normal k.normal)
+          (renamed-end o n new.word h.order_only k.order_only);
     }
 
 -- the cells of the pieces of a rename
 pub rename-pieces_old : (o n : List ℕ) → IsNewTarget o n → (h : Headers.Header Cell) → old_cells (rename_pieces o n h) ≡ concat (header_units h)
 rename-pieces_old o n new h =
     header_pieces-whole h (renamed_words o n h.targets) (renamed_words o n h.normal) (renamed_words o n h.order_only)
-    (renamed-old o n new h.targets) (renamed-old o n new h.normal) (renamed-old o n new h.order_only)
+    (renamed-old o n new.word h.targets) (renamed-old o n new.word h.normal) (renamed-old o n new.word h.order_only)
 
 pub rename-pieces_new : (o n : List ℕ) → IsNewTarget o n → (h : Headers.Header Cell) → new_cells (rename_pieces o n h) ≡ concat (header_units (header_renamed o n h))
 rename-pieces_new o n new h =
     header_pieces-new h (renamed_words o n h.targets) (renamed_words o n h.normal) (renamed_words o n h.order_only)
-    ∙ (rw (renamed-new o n new h.targets, renamed-new o n new h.normal, renamed-new o n new h.order_only) (sym (header-cells (header_renamed o n h))))
+    ∙ (rw (renamed-new o n new.word h.targets, renamed-new o n new.word h.normal, renamed-new o n new.word h.order_only) (sym (header-cells (header_renamed o n h))))
 
 -- the item of a header after a rename
 pub rename-item : (o n : List ℕ) → IsNewTarget o n → (h : Headers.Header Cell) → header_item (header_renamed o n h) ≡ renamed_item o n (header_item h)
 rename-item o n new h =
     let recipe = raw_units (Headers.inline_recipe joined_byte h) in
-    ap (λ z. Items.Header z h.separator (word_texts joined_byte h.pattern) (word_texts joined_byte (renamed_units o n h.normal)) (word_texts joined_byte (renamed_units o n h.order_only)) recipe) (renamed-texts o n new h.targets)
-    ∙ (ap (λ z. Items.Header (rename_words o n (word_texts joined_byte h.targets)) h.separator (word_texts joined_byte h.pattern) z (word_texts joined_byte (renamed_units o n h.order_only)) recipe) (renamed-texts o n new h.normal)
-    ∙ ap (λ z. Items.Header (rename_words o n (word_texts joined_byte h.targets)) h.separator (word_texts joined_byte h.pattern) (rename_words o n (word_texts joined_byte h.normal)) z recipe) (renamed-texts o n new h.order_only))
+    ap (λ z. Items.Header z h.separator (word_texts joined_byte h.pattern) (word_texts joined_byte (renamed_units o n h.normal)) (word_texts joined_byte (renamed_units o n h.order_only)) recipe) (renamed-texts o n new.word h.targets)
+    ∙ (ap (λ z. Items.Header (rename_words o n (word_texts joined_byte h.targets)) h.separator (word_texts joined_byte h.pattern) z (word_texts joined_byte (renamed_units o n h.order_only)) recipe) (renamed-texts o n new.word h.normal)
+    ∙ ap (λ z. Items.Header (rename_words o n (word_texts joined_byte h.targets)) h.separator (word_texts joined_byte h.pattern) (rename_words o n (word_texts joined_byte h.normal)) z recipe) (renamed-texts o n new.word h.order_only))
 
 -- ---- the front of the line
 

@@ -170,7 +170,7 @@ target-renamed o n new i j a c l below e one ends starts =
     let old : AreLineCells (concat T ++ Y) = subst AreLineCells cells_are (readable-are_line_cells l R.here.readable) in
     let tail : AreLineCells Y = AreLineCells-right (concat T) Y old in
     let cells : AreLineCells new_cs =
-    line_cells-before_solid (concat T') Y (renamed-cells o n new T (AreLineCells-left (concat T) Y old)) tail (record { first = 58; rest = D; is = refl; no_blank = refl }) in
+    line_cells-before_solid (concat T') Y (renamed-cells o n new.word T (AreLineCells-left (concat T) Y old)) tail (record { first = 58; rest = D; is = refl; no_blank = refl }) in
     let stray : has_stray (concat T ++ Y) ≡ false = ap has_stray (sym cells_are) ∙ or-left_false (has_stray cs) (has_bad_fold cs) R.here.readable in
     let readable : is_unreadable new_cs ≡ false =
     or_from (has_stray new_cs) (has_bad_fold new_cs) (has_stray-append (concat T') Y (target-no_stray o n new.word T (has_stray-left (concat T) Y stray)) (has_stray-right (concat T) Y stray)) cells.clean.1 in
@@ -188,8 +188,8 @@ target-renamed o n new i j a c l below e one ends starts =
     let before : l ≡ old_bytes ps ++ rest =
     sym (without_line_end-line_end l)
     ∙ (ap (λ z. z ++ end) (sym (raw_text-cells (without_line_end l)) ∙ ap raw_text cells_are)
-    ∙ (split (concat T) ∙ ap (λ z. z ++ rest) (ap raw_text (sym (renamed-old o n new T)) ∙ raw_text-old_cells ps))) in
-    let made : m ≡ new_bytes ps ++ rest = split (concat T') ∙ ap (λ z. z ++ rest) (ap raw_text (sym (renamed-new o n new T)) ∙ raw_text-new_cells ps) in
+    ∙ (split (concat T) ∙ ap (λ z. z ++ rest) (ap raw_text (sym (renamed-old o n new.word T)) ∙ raw_text-old_cells ps))) in
+    let made : m ≡ new_bytes ps ++ rest = split (concat T') ∙ ap (λ z. z ++ rest) (ap raw_text (sym (renamed-new o n new.word T)) ∙ raw_text-new_cells ps) in
     let not_led : is_prefix_led c.prefix m ≡ false =
     ap (is_prefix_led c.prefix) made ∙ target-not_led o n new.word.filled c.prefix T rest starts (ap (is_prefix_led c.prefix) (sym before) ∙ R.here.not_led) in
     let also : cells_class c false new_cs ≡ plain_class joined_byte false flag (is_unreadable new_cs) (units joined_byte new_cs) =

@@ -168,7 +168,7 @@ module _ (o n : List ℕ) (new : IsNewTarget o n) (all : (k : Class Cell) → Ar
 
   line-item : (k : Class Cell) (b : List ℕ) → items_of_line (renamed_class o n k) (new_bytes (renamed_pieces o n k) ++ drop (length (old_bytes (renamed_pieces o n k))) b) ≡ map (renamed_item o n) (items_of_line k b)
   line-item (Class.Header h) b = ap (λ z. z ∷ []) (rename-item o n new h)
-  line-item (Class.TargetAssign a) b = ap (λ z. Items.TargetAssign z a.separator (assigned a.assigned) ∷ []) (renamed-texts o n new a.targets)
+  line-item (Class.TargetAssign a) b = ap (λ z. Items.TargetAssign z a.separator (assigned a.assigned) ∷ []) (renamed-texts o n new.word a.targets)
   line-item Class.Endef b = refl
   line-item (Class.Body d) b = refl
   line-item Class.Recipe b = refl

@@ -1,6 +1,7 @@
 -- The assignment that an accepted edit of a variable means: a line of the text, of class Assign, that sets no recipe prefix.
 use Rattle.std.proofs.Common.{◌≡◌, refl, sym, ap, ◌∙◌, subst, ℕ, List, [], ◌∷◌, ◌++◌, Bool, true, false, Option, Some, None}
-use Rattle.std.specs.Prelude.{nat_lt}
+use Rattle.std.proofs.lemmas.Bool.{and_parts}
+use Rattle.std.specs.Prelude.{nat_lt, not, ◌&&◌}
 use Rattle.mk_lines.specs.Cells.{Cell, joined_byte, line_cells}
 use Rattle.mk_lines.specs.Units.{units}
 use Rattle.mk_class.specs.Texts.{unit_text}
@@ -18,10 +19,14 @@ use Rattle.mk_tree.proofs.on_documents.LinesInText.{line-in_text}
 use Rattle.mk_tree.specs.LineTexts.{StandingLine}
 use Rattle.mk_tree.specs.Items.{items_of_line}
 use Rattle.mk_edit_language.specs.Spots.{spots}
-use Rattle.mk_edit_language.specs.Addresses.{Variable, assigns, found}
-use Rattle.mk_edit_language.specs.AddressCauses.{is_missing, is_several}
+use Rattle.mk_edit_language.specs.Addresses.{Address, Variable, Valued, assigns, has_value, value_address, found}
+use Rattle.mk_edit_language.specs.Edits.{One, ValueChange, Set, SetIf, Append, Add, Remove, ChangeValue}
+use Rattle.mk_edit_language.specs.ValueChanges.{has_effect}
+use Rattle.mk_edit_language.specs.AddressCauses.{is_missing, is_several, no_such, ambiguous}
+use Rattle.mk_edit_language.specs.RuleCauses.{class_found, absent}
+use Rattle.mk_edit_language.specs.declared.refusal.Refusal.TheVariants.{Absent}
 use Rattle.mk_edit_language.specs.Changes.{item_with_value}
-use Rattle.mk_edit_language.proofs.on_edits.Accepted.{spot-picked}
+use Rattle.mk_edit_language.proofs.on_edits.Accepted.{spot-picked, where_holds-none}
 use Rattle.mk_edit_language.proofs.on_lines.SpotLemmas.{picked-is}
 
 -- an assignment of another name sets no prefix
@@ -111,26 +116,50 @@ pub assigned-by_item : (t : List ℕ) (A : List ClassedLine) (l : ClassedLine) (
 assigned-by_item t A l B a v h i f = named-assigned t (unit_text joined_byte a.name) A l B h (read-named l.class l.bytes a v i) f
 
 -- the assignment that an address means
-pub record FoundAssignment (t n : List ℕ) (nth : Option ℕ) : Type 0 where
+pub record FoundAssignment (t : List ℕ) (a : Address) : Type 0 where
   pub spot : StandingLine
-  pub found_is : found (classed_lines t) (Variable nth n) ≡ Some spot
+  pub found_is : found (classed_lines t) a ≡ Some spot
   pub whole : classed_lines t ≡ spot.above ++ spot.line ∷ spot.below
   pub assigned : Assignment Cell
   pub class_is : spot.line.class ≡ Assign assigned None
   pub no_prefix : is_prefix_name (unit_text joined_byte assigned.name) ≡ false
 
--- the assignment is found, if it is neither missing nor one of several, and its name is not that of the prefix
-pub assignment-found : (t n : List ℕ) (nth : Option ℕ) → is_missing nth (spots (λ l. assigns n l.class) (classed_lines t)) ≡ false
-    → is_several nth (spots (λ l. assigns n l.class) (classed_lines t)) ≡ false → is_prefix_name n ≡ false → FoundAssignment t n nth
-assignment-found t n nth h k f =
-    let s = spot-picked nth (spots (λ l. assigns n l.class) (classed_lines t)) h k in
-    let q = picked-is (λ l. assigns n l.class) (classed_lines t) nth s.0 s.1 in
-    let m = assigned-by_name t n s.0.above s.0.line s.0.below q.whole q.passes f in
+-- a line that is found and assigns a name that is not that of the prefix
+pub named-found : (t n : List ℕ) (a : Address) (s : StandingLine) → found (classed_lines t) a ≡ Some s → classed_lines t ≡ s.above ++ s.line ∷ s.below → assigns n s.line.class ≡ true → is_prefix_name n ≡ false → FoundAssignment t a
+named-found t n a s e w h f =
+    let m = assigned-by_name t n s.above s.line s.below w h f in
     record {
-      spot = s.0;
-      found_is = s.1;
-      whole = q.whole;
+      spot = s;
+      found_is = e;
+      whole = w;
       assigned = m.assigned;
       class_is = m.class_is;
       no_prefix = m.no_prefix;
     }
+
+-- the assignment is found, if it is neither missing nor one of several, and its name is not that of the prefix
+pub assignment-found : (t n : List ℕ) (nth : Option ℕ) → is_missing nth (spots (λ l. assigns n l.class) (classed_lines t)) ≡ false
+    → is_several nth (spots (λ l. assigns n l.class) (classed_lines t)) ≡ false → is_prefix_name n ≡ false → FoundAssignment t (Variable nth n)
+assignment-found t n nth h k f =
+    let s = spot-picked nth (spots (λ l. assigns n l.class) (classed_lines t)) h k in
+    let q = picked-is (λ l. assigns n l.class) (classed_lines t) nth s.0 s.1 in
+    named-found t n (Variable nth n) s.0 s.1 q.whole q.passes f
+
+-- so is the one whose value is set in the place of another, if that value is not absent
+valued-found : (t n : List ℕ) (nth : Option ℕ) (o v : List ℕ) → absent (classed_lines t) (ChangeValue (One nth) n (SetIf o v)) ≡ None → is_prefix_name n ≡ false → FoundAssignment t (Valued nth n o)
+valued-found t n nth o v h f = go (found (classed_lines t) (Valued nth n o)) refl (where_holds-none _ Absent h)
+  where
+    go : (s : Option StandingLine) → found (classed_lines t) (Valued nth n o) ≡ s → not (has_effect (SetIf o v) (class_found s)) ≡ false → FoundAssignment t (Valued nth n o)
+    go None e k = absurd (cc)
+    go (Some s) e k =
+        let q = picked-is (λ l. assigns n l.class && has_value o l.class) (classed_lines t) nth s e in
+        named-found t n (Valued nth n o) s e q.whole (and_parts (assigns n s.line.class) (has_value o s.line.class) q.passes).0 f
+
+-- the assignment that a change of a value means
+pub changed-found : (t n : List ℕ) (nth : Option ℕ) (c : ValueChange) → no_such (classed_lines t) (ChangeValue (One nth) n c) ≡ None → ambiguous (classed_lines t) (ChangeValue (One nth) n c) ≡ None
+    → absent (classed_lines t) (ChangeValue (One nth) n c) ≡ None → is_prefix_name n ≡ false → FoundAssignment t (value_address nth n c)
+changed-found t n nth (SetIf o v) h k a f = valued-found t n nth o v a f
+changed-found t n nth (Set v) h k a f = assignment-found t n nth (where_holds-none _ _ h) (where_holds-none _ _ k) f
+changed-found t n nth (Append v) h k a f = assignment-found t n nth (where_holds-none _ _ h) (where_holds-none _ _ k) f
+changed-found t n nth (Add w) h k a f = assignment-found t n nth (where_holds-none _ _ h) (where_holds-none _ _ k) f
+changed-found t n nth (Remove w) h k a f = assignment-found t n nth (where_holds-none _ _ h) (where_holds-none _ _ k) f

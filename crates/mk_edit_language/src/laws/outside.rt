@@ -36,8 +36,8 @@ pub fn edited_lines_stand()
 /// Each accepted edit, of every kind, leaves the lines that its spans do not touch. But for an
 /// exchange of whole lines, the greatest number of conditionals open at once is as before.
 ///
-/// An edit that sets a value or appends to it, changes a recipe line, or puts in or takes out a
-/// prerequisite touches one line. A new assignment, rule or recipe line is one line more, and a
+/// An edit that sets a value or appends to it, changes a recipe line, puts in, takes out or replaces a
+/// prerequisite, or makes a line a comment or a comment a line, touches one line. A new assignment, rule or recipe line is one line more, and a
 /// last line without a line end gets one if the new line follows it. An assignment or a recipe line
 /// that is removed is one line less; a rule that is removed takes with it the lines down to its
 /// last recipe line. The lines above and below are as before, with their classes.

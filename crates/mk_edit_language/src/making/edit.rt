@@ -34,6 +34,22 @@ impl<A: Allocator + Copy> Edit<A> {
         })
     }
 
+    /// Gives the only assignment of a name that has a value another one: `set-if NAME OLD VALUE`.
+    pub fn set_if(alloc: A, name: &[u8], old: &[u8], value: &[u8]) -> Result<Edit<A>, AllocError>
+        ensures { IfOk result (λ e. edit_of e
+            ≡ edits.ChangeValue (edits.One None) name.now (edits.SetIf old.now value.now)) }
+    {
+        let name = Vec::from_slice(alloc, name)?;
+        let old = Vec::from_slice(alloc, old)?;
+        let value = Vec::from_slice(alloc, value)?;
+        Ok(Edit::SetValueIf {
+            nth: None,
+            name,
+            old,
+            value,
+        })
+    }
+
     /// Puts a text after the value of the only assignment of a name: `append NAME VALUE`.
     pub fn append(alloc: A, name: &[u8], value: &[u8]) -> Result<Edit<A>, AllocError>
         ensures { IfOk result (λ e. edit_of e ≡ edits.ChangeValue (edits.One None) name.now (edits.Append value.now)) }
@@ -176,6 +192,25 @@ impl<A: Allocator + Copy> Edit<A> {
         })
     }
 
+    /// Gives each assignment of a name that has a value another one: `all set-if NAME OLD VALUE`.
+    pub fn all_set_if(
+        alloc: A,
+        name: &[u8],
+        old: &[u8],
+        value: &[u8],
+    ) -> Result<Edit<A>, AllocError>
+        ensures { IfOk result (λ e. edit_of e
+            ≡ edits.ChangeValue edits.Every name.now (edits.SetIf old.now value.now)) }
+    {
+        let name = Vec::from_slice(alloc, name)?;
+        let old = Vec::from_slice(alloc, old)?;
+        let value = Vec::from_slice(alloc, value)?;
+        Ok(Edit::ChangeValues {
+            name,
+            change: ValueChange::SetIf { old, value },
+        })
+    }
+
     /// Puts a word after each value of a name that does not have it: `all add NAME WORD`.
     pub fn all_add_word(alloc: A, name: &[u8], word: &[u8]) -> Result<Edit<A>, AllocError>
         ensures { IfOk result (λ e. edit_of e ≡ edits.ChangeValue edits.Every name.now (edits.Add word.now)) }
@@ -207,6 +242,22 @@ impl<A: Allocator + Copy> Edit<A> {
     {
         let name = Vec::from_slice(alloc, name)?;
         Ok(Edit::RemoveAssign { nth: None, name })
+    }
+
+    /// Makes the line of the only assignment of a name a comment: `comment-out NAME`.
+    pub fn comment_out(alloc: A, name: &[u8]) -> Result<Edit<A>, AllocError>
+        ensures { IfOk result (λ e. edit_of e ≡ edits.SwitchLine edits.CommentOut None name.now) }
+    {
+        let name = Vec::from_slice(alloc, name)?;
+        Ok(Edit::CommentOut { nth: None, name })
+    }
+
+    /// Makes the only comment that says a name the line of an assignment: `uncomment NAME`.
+    pub fn uncomment(alloc: A, name: &[u8]) -> Result<Edit<A>, AllocError>
+        ensures { IfOk result (λ e. edit_of e ≡ edits.SwitchLine edits.Uncomment None name.now) }
+    {
+        let name = Vec::from_slice(alloc, name)?;
+        Ok(Edit::Uncomment { nth: None, name })
     }
 
     /// Takes out the line of the only rule for a target, with its recipe: `unrule TARGET`.
@@ -256,6 +307,28 @@ impl<A: Allocator + Copy> Edit<A> {
             nth: None,
             target,
             word,
+        })
+    }
+
+    /// Puts a word in the place of another of the prerequisites of the only rule for a target:
+    /// `depend-replace TARGET OLD NEW`.
+    pub fn depend_replace(
+        alloc: A,
+        target: &[u8],
+        old: &[u8],
+        new: &[u8],
+    ) -> Result<Edit<A>, AllocError>
+        ensures { IfOk result (λ e. edit_of e
+            ≡ edits.ChangePrereqs None target.now (edits.ReplacePrereq old.now new.now)) }
+    {
+        let target = Vec::from_slice(alloc, target)?;
+        let old = Vec::from_slice(alloc, old)?;
+        let new = Vec::from_slice(alloc, new)?;
+        Ok(Edit::ReplacePrereq {
+            nth: None,
+            target,
+            old,
+            new,
         })
     }
 
@@ -396,6 +469,33 @@ impl<A: Allocator + Copy> Edit<A> {
         })
     }
 
+    /// Puts whole lines in the place of the only rule for a target, with its recipe:
+    /// `rule-replace TARGET BLOCK`.
+    pub fn rule_replace(alloc: A, target: &[u8], block: &[u8]) -> Result<Edit<A>, AllocError>
+        ensures { IfOk result (λ e. edit_of e
+            ≡ edits.ExchangeLines (edits.OfRuleRun None target.now) (block_lines block.now)) }
+    {
+        let target = Vec::from_slice(alloc, target)?;
+        let block = Vec::from_slice(alloc, block)?;
+        Ok(Edit::ExchangeLines {
+            site: Site::OfRule { nth: None, target },
+            block: Some(block),
+        })
+    }
+
+    /// Takes out the only rule for a target, with its recipe and the conditionals in it:
+    /// `rule-remove TARGET`.
+    pub fn rule_remove(alloc: A, target: &[u8]) -> Result<Edit<A>, AllocError>
+        ensures { IfOk result (λ e. edit_of e
+            ≡ edits.ExchangeLines (edits.OfRuleRun None target.now) []) }
+    {
+        let target = Vec::from_slice(alloc, target)?;
+        Ok(Edit::ExchangeLines {
+            site: Site::OfRule { nth: None, target },
+            block: None,
+        })
+    }
+
     /// The same edit of another line of its name or target, by its number from 1: `nth N` before
     /// a command. [`number_edit`] says which number it is, and which edits have none.
     pub fn nth(mut self, number: u32) -> Edit<A>
@@ -416,14 +516,18 @@ pub fn number_edit<A: Allocator>(edit: &mut Edit<A>, number: u32)
 {
     match edit {
         Edit::SetValue { nth, .. } => *nth = Some(number),
+        Edit::SetValueIf { nth, .. } => *nth = Some(number),
         Edit::AppendValue { nth, .. } => *nth = Some(number),
         Edit::AddWord { nth, .. } => *nth = Some(number),
         Edit::RemoveWord { nth, .. } => *nth = Some(number),
         Edit::ChangeLine { nth, .. } => *nth = Some(number),
         Edit::RemoveAssign { nth, .. } => *nth = Some(number),
+        Edit::CommentOut { nth, .. } => *nth = Some(number),
+        Edit::Uncomment { nth, .. } => *nth = Some(number),
         Edit::RemoveRule { nth, .. } => *nth = Some(number),
         Edit::AddPrereq { nth, .. } => *nth = Some(number),
         Edit::RemovePrereq { nth, .. } => *nth = Some(number),
+        Edit::ReplacePrereq { nth, .. } => *nth = Some(number),
         Edit::AddRecipe { nth, .. } => *nth = Some(number),
         Edit::SetRecipe { nth, .. } => *nth = Some(number),
         Edit::RemoveRecipe { nth, .. } => *nth = Some(number),

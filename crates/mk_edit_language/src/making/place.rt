@@ -8,8 +8,8 @@ use crate::edit::{Edit, Place, RuleSeparator};
 use mk_class::Flavor;
 use std::alloc::{AllocError, Allocator};
 
-/// Makes places of new lines, and of a place the edit that puts a line there. The end of the file is
-/// [`Place::Bottom`].
+/// Makes places of new lines, and of a place the edit that puts a line there. The start of the file is
+/// [`Place::Top`], and its end [`Place::Bottom`].
 ///
 /// Each call that takes an allocator has the error [`AllocError`] if there is no memory for a text.
 /// No text is looked at: a bad one is refused when the edit is made.
@@ -30,6 +30,14 @@ impl<A: Allocator + Copy> Place<A> {
         Ok(Place::AfterVar { nth: None, name })
     }
 
+    /// After the last line that assigns a name.
+    pub fn after_last_var(alloc: A, name: &[u8]) -> Result<Place<A>, AllocError>
+        ensures { IfOk result (λ p. place_of p ≡ edits.AfterLastVar name.now) }
+    {
+        let name = Vec::from_slice(alloc, name)?;
+        Ok(Place::AfterLastVar { name })
+    }
+
     /// Before the line of the only rule for a target.
     pub fn before_rule(alloc: A, target: &[u8]) -> Result<Place<A>, AllocError>
         ensures { IfOk result (λ p. place_of p ≡ edits.BeforeRule None target.now) }
@@ -38,8 +46,16 @@ impl<A: Allocator + Copy> Place<A> {
         Ok(Place::BeforeRule { nth: None, target })
     }
 
-    /// The same place at another line of its name or target, by its number from 1. The end of the
-    /// file has no number and stays.
+    /// After the recipe of the only rule for a target.
+    pub fn after_rule(alloc: A, target: &[u8]) -> Result<Place<A>, AllocError>
+        ensures { IfOk result (λ p. place_of p ≡ edits.AfterRule None target.now) }
+    {
+        let target = Vec::from_slice(alloc, target)?;
+        Ok(Place::AfterRule { nth: None, target })
+    }
+
+    /// The same place at another line of its name or target, by its number from 1. The start and the
+    /// end of the file and the last line of a name have no number and stay.
     pub fn nth(mut self, number: u32) -> Place<A>
         ensures { place_of result ≡ numbered_place number (place_of self) }
     {
@@ -90,8 +106,8 @@ impl<A: Allocator + Copy> Place<A> {
     }
 }
 
-/// Gives a place the number of a line of its name or target, from 1. The end of the file has no
-/// number and stays. Takes no memory.
+/// Gives a place the number of a line of its name or target, from 1. The start and the end of the file
+/// and the last line of a name have no number and stay. Takes no memory.
 pub fn number_place<A: Allocator>(place: &mut Place<A>, number: u32)
     ensures { place_of place.new ≡ numbered_place number (place_of place.old) }
 {
@@ -99,6 +115,7 @@ pub fn number_place<A: Allocator>(place: &mut Place<A>, number: u32)
         Place::BeforeVar { nth, .. } => *nth = Some(number),
         Place::AfterVar { nth, .. } => *nth = Some(number),
         Place::BeforeRule { nth, .. } => *nth = Some(number),
-        Place::Bottom => {}
+        Place::AfterRule { nth, .. } => *nth = Some(number),
+        Place::Top | Place::Bottom | Place::AfterLastVar { .. } => {}
     }
 }

@@ -10,7 +10,8 @@ use crate::making::place::number_place;
 use std::alloc::{AllocError, Allocator};
 
 /// Makes of a site the edit that puts whole lines there. The edits that exchange lines or take them
-/// out are [`Edit::line_replace`] and [`Edit::line_remove`].
+/// out are [`Edit::line_replace`], [`Edit::line_remove`], [`Edit::rule_replace`] and
+/// [`Edit::rule_remove`].
 impl<A: Allocator + Copy> Site<A> {
     /// Puts in whole lines here: `insert PLACE BLOCK`.
     ///
@@ -28,8 +29,8 @@ impl<A: Allocator + Copy> Site<A> {
     }
 }
 
-/// Gives a site the number of its run or of its place, from 1. The start and the end of the file have
-/// no number and stay. Takes no memory.
+/// Gives a site the number of its run, of its rule or of its place, from 1. A place without a number
+/// stays. Takes no memory.
 pub fn number_site<A: Allocator>(site: &mut Site<A>, number: u32)
     ensures { site_of site.new ≡ numbered_site number (site_of site.old) }
 {
@@ -38,6 +39,6 @@ pub fn number_site<A: Allocator>(site: &mut Site<A>, number: u32)
         Site::BeforeLines { nth, .. } => *nth = Some(number),
         Site::AfterLines { nth, .. } => *nth = Some(number),
         Site::OfLines { nth, .. } => *nth = Some(number),
-        Site::Top => {}
+        Site::OfRule { nth, .. } => *nth = Some(number),
     }
 }

@@ -20,7 +20,7 @@ use Rattle.mk_edit_language.specs.Edits.{EachEdit, ChangeEach, SubstValues, Subs
 use Rattle.mk_edit_language.specs.Spots.{nth_of}
 use Rattle.mk_edit_language.proofs.on_each_line.MarkLemmas.{marked-by_test}
 use Rattle.mk_edit_parts.specs.EachLineWalks.{SeenLine, is_meant_located, is_nth, is_nth_missing, located_marked, no_reach, reach_after, reach_along, reach_by, reach_of, seen_from, seen_lines, stays_located}
-use Rattle.mk_edit_parts.specs.Seeking.{candidates_of, may_mean, wanted}
+use Rattle.mk_edit_parts.specs.Seeking.{IsNumbered, candidates_of, may_mean, wanted}
 use Rattle.mk_edit_parts.specs.SeekWalks.{noted, nothing_seen, seek}
 use Rattle.mk_edit_parts.specs.declared.each_line.Reach.{Reach}
 use Rattle.mk_edit_parts.specs.declared.seek.Sought.{Sought}
@@ -130,10 +130,17 @@ reach-counted e w r s (l ∷ ls) h =
     go true k = ap (λ n. n + 1) h
     go false k = h
 
+-- each of these addresses means lines by their numbers
+each-numbered : (e : EachEdit) → IsNumbered (each_address e)
+each-numbered (ChangeEach n c) = tt
+each-numbered (SubstValues f t) = tt
+each-numbered (SubstRecipe nth g f t) = tt
+each-numbered (SubstRecipes f t) = tt
+
 pub count-reached : (e : EachEdit) (ls : List LocatedLine) → IsFaithful ls → (reach_of e ls).count ≡ length (candidates_of (classed_lines (located_text ls)) (each_address e))
 count-reached e ls h =
     let a = each_address e in
-    reach-counted e (wanted a) no_reach nothing_seen ls refl ∙ (lines-sought ls a h).count_is
+    reach-counted e (wanted a) no_reach nothing_seen ls refl ∙ (lines-sought ls a (each-numbered e) h).count_is
 
 -- ---- NoSuch
 

@@ -65,4 +65,4 @@ nth-there (suc k) (x ∷ fs) f h e = nth-there k fs f (omega (arith, h)) e
 
 -- what is listed for the line of a number is what is sought
 pub candidate-sought : (n : List ℕ) (ls : List LocatedLine) (c : Listed) (number : ℕ) → IsFaithful ls → AreCandidates n ls c → IsSought (classed_lines (located_text ls)) (Some (Variable (Some number) n)) (seen_for number c)
-candidate-sought n ls c number f h = subst (λ (s : Sought). IsSought (classed_lines (located_text ls)) (Some (Variable (Some number) n)) s) (sym (h number)) (lines-sought ls (Some (Variable (Some number) n)) f)
+candidate-sought n ls c number f h = subst (λ (s : Sought). IsSought (classed_lines (located_text ls)) (Some (Variable (Some number) n)) s) (sym (h number)) (lines-sought ls (Some (Variable (Some number) n)) tt f)

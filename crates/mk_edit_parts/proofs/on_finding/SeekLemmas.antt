@@ -13,15 +13,16 @@ use Rattle.mk_tree.specs.LocatedLines.{LocatedLine, located_line, located_lines,
 use Rattle.mk_tree.specs.Documents.{IsFaithful, context_of}
 use Rattle.mk_tree.proofs.on_documents.LinesInText.{AreClassed, AreClassed-class, AreClassed-tail, AreClassed-lines}
 use Rattle.mk_tree.specs.LineTexts.{StandingLine}
-use Rattle.mk_edit_language.specs.Spots.{spots, spot_if, under, nth_of}
-use Rattle.mk_edit_language.specs.Addresses.{Address, Variable, Rule, assigns, is_rule_for}
+use Rattle.mk_edit_language.specs.Spots.{spots, spot_if, under, only_last, nth_of}
+use Rattle.mk_edit_language.specs.Addresses.{Address, Variable, LastVariable, Rule, assigns, is_rule_for, Valued, Commented, has_value}
 use Rattle.mk_edit_language.specs.AddressCauses.{is_unread_prefix}
-use Rattle.mk_edit_parts.specs.LocatedParts.{AreEachClassed, is_unread_located}
-use Rattle.mk_edit_parts.specs.Seeking.{may_mean, wanted, standing_found, candidates_of, IsSought}
+use Rattle.mk_edit_parts.specs.LocatedParts.{AreEachClassed, is_unread_located, has_value_located}
+use Rattle.mk_edit_parts.specs.Seeking.{may_mean, wanted, standing_found, candidates_of, IsNumbered, IsSought}
+use Rattle.mk_edit_language.specs.Comments.{says_name}
 use Rattle.mk_edit_parts.specs.SeekWalks.{noted_by, noted, seek, nothing_seen}
 use Rattle.mk_edit_parts.specs.declared.seek.Found.{Found}
 use Rattle.mk_edit_parts.specs.declared.seek.Sought.{Sought}
-use Rattle.mk_edit_parts.proofs.on_finding.PartLemmas.{assigns-located, rule_for-located, unread-located}
+use Rattle.mk_edit_parts.proofs.on_finding.PartLemmas.{assigns-located, has_value-located, says_name-located, rule_for-located, unread-located}
 
 -- a test of lines as a document shows them is one of lines as they are defined
 abbrev AgreeAlong : (LocatedLine → Bool) → (ClassedLine → Bool) → List ClassedLine → Type 0
@@ -157,21 +158,30 @@ faithful-each ls h = subst AreEachClassed (sym h) (each-classed start (classed_l
 abbrev means : Option Address → ClassedLine → Bool
 means None l = false
 means (Some (Variable nth n)) l = assigns n l.class
+means (Some (LastVariable n)) l = assigns n l.class
+means (Some (Valued nth n v)) l = assigns n l.class && has_value v l.class
+means (Some (Commented nth n)) l = says_name n l
 means (Some (Rule nth t)) l = is_rule_for t l.class
 
 means-located : (a : Option Address) (c : Context) (l : ClassedLine) → class_of c l.bytes ≡ l.class → may_mean a (located_line l) ≡ means a l
 means-located None c l h = refl
 means-located (Some (Variable nth n)) c l h = assigns-located n c l h
+means-located (Some (LastVariable n)) c l h = assigns-located n c l h
+means-located (Some (Valued nth n v)) c l h = ap (λ b. b && has_value_located v (located_line l)) (assigns-located n c l h) ∙ ap (λ b. assigns n l.class && b) (has_value-located v c l h)
+means-located (Some (Commented nth n)) c l h = says_name-located n c l h
 means-located (Some (Rule nth t)) c l h = rule_for-located t c l h
 
 no-spots : (ls : List ClassedLine) → spots (λ l. false) ls ≡ []
 no-spots [] = refl
 no-spots (l ∷ ls) = ap (map (under l)) (no-spots ls)
 
-candidates-spots : (ls : List ClassedLine) (a : Option Address) → candidates_of ls a ≡ spots (means a) ls
-candidates-spots ls None = sym (no-spots ls)
-candidates-spots ls (Some (Variable nth n)) = refl
-candidates-spots ls (Some (Rule nth t)) = refl
+candidates-spots : (ls : List ClassedLine) (a : Option Address) → IsNumbered a → candidates_of ls a ≡ spots (means a) ls
+candidates-spots ls None i = sym (no-spots ls)
+candidates-spots ls (Some (Variable nth n)) i = refl
+candidates-spots ls (Some (LastVariable n)) i = absurd i
+candidates-spots ls (Some (Valued nth n v)) i = refl
+candidates-spots ls (Some (Commented nth n)) i = refl
+candidates-spots ls (Some (Rule nth t)) i = refl
 
 -- the spot of any number
 seek-nth : (p : LocatedLine → Bool) (q : ClassedLine → Bool) (ls : List ClassedLine) → AgreeAlong p q ls → (w : ℕ) → (seek p w nothing_seen (located_lines ls)).found ≡ option_map (place_from nothing_seen.end) (nth_of w (spots q ls))
@@ -187,10 +197,10 @@ places-first : (o : Option StandingLine) → option_map (place_from nothing_seen
 places-first None = refl
 places-first (Some s) = let n : 0 + length s.above ≡ length s.above = omega arith in ap (λ (n : ℕ). Some (record { at = n; context = context_of s.above })) n
 
-pub lines-sought : (ls : List LocatedLine) (a : Option Address) → IsFaithful ls → IsSought (classed_lines (located_text ls)) a (seek (may_mean a) (wanted a) nothing_seen ls)
-lines-sought ls a h = subst (λ z. IsSought ds a (seek (may_mean a) (wanted a) nothing_seen z)) (sym h) (record {
-  count_is = seek-count (may_mean a) (means a) (wanted a) nothing_seen ds A ∙ (zero-add (length (spots (means a) ds)) ∙ ap length (sym (candidates-spots ds a)));
-  found_is = seek-nth (may_mean a) (means a) ds A (wanted a) ∙ (places-first (nth_of (wanted a) (spots (means a) ds)) ∙ ap (λ ss. option_map standing_found (nth_of (wanted a) ss)) (sym (candidates-spots ds a)));
+pub lines-sought : (ls : List LocatedLine) (a : Option Address) → IsNumbered a → IsFaithful ls → IsSought (classed_lines (located_text ls)) a (seek (may_mean a) (wanted a) nothing_seen ls)
+lines-sought ls a i h = subst (λ z. IsSought ds a (seek (may_mean a) (wanted a) nothing_seen z)) (sym h) (record {
+  count_is = seek-count (may_mean a) (means a) (wanted a) nothing_seen ds A ∙ (zero-add (length (spots (means a) ds)) ∙ ap length (sym (candidates-spots ds a i)));
+  found_is = seek-nth (may_mean a) (means a) ds A (wanted a) ∙ (places-first (nth_of (wanted a) (spots (means a) ds)) ∙ ap (λ ss. option_map standing_found (nth_of (wanted a) ss)) (sym (candidates-spots ds a i)));
   unread_is = seek-unread (may_mean a) (wanted a) nothing_seen ds U;
   end_is = seek-end (may_mean a) (wanted a) nothing_seen ds ∙ ap (λ (n : ℕ). record { at = n; context = context_of ds }) (zero-add (length ds));
 })
@@ -206,3 +216,43 @@ lines-sought ls a h = subst (λ z. IsSought ds a (seek (may_mean a) (wanted a) n
 
     U : AgreeAlong is_unread_located (λ l. is_unread_prefix l.class) ds
     U = agree-along is_unread_located (λ l. is_unread_prefix l.class) unread-located start ds C
+
+-- ---- the last line that assigns a name
+
+last-nth : (ss : List StandingLine) → nth_of 1 (only_last ss) ≡ nth_of (length ss) ss
+last-nth [] = refl
+last-nth (s ∷ []) = refl
+last-nth (s ∷ r ∷ ss) = last-nth (r ∷ ss)
+
+last-count : (ss : List StandingLine) → 1 ≤ length ss → 1 ≡ length (only_last ss)
+last-count [] h = absurd (omega (arith, h))
+last-count (s ∷ []) h = refl
+last-count (s ∷ r ∷ ss) h = last-count (r ∷ ss) (omega arith)
+
+none-counted : (ss : List StandingLine) → 0 ≡ length ss → ss ≡ []
+none-counted [] h = refl
+none-counted (s ∷ ss) h = absurd (omega (arith, h))
+
+-- no line assigns it
+pub none-sought : (ls : List ClassedLine) (n : List ℕ) (s : Sought) → IsSought ls (Some (Variable None n)) s → s.count ≡ 0 → IsSought ls (Some (LastVariable n)) s
+none-sought ls n s S h =
+    let ss = spots (λ l. assigns n l.class) ls in
+    let none : ss ≡ [] = none-counted ss (sym h ∙ S.count_is) in
+    record {
+      count_is = h ∙ ap (λ (z : List StandingLine). length (only_last z)) (sym none);
+      found_is = S.found_is ∙ (ap (λ (z : List StandingLine). option_map standing_found (nth_of 1 z)) none ∙ ap (λ (z : List StandingLine). option_map standing_found (nth_of 1 (only_last z))) (sym none));
+      unread_is = S.unread_is;
+      end_is = S.end_is;
+    }
+
+-- the one of the number that was counted is the last
+pub last-sought : (ls : List ClassedLine) (n : List ℕ) (k : ℕ) (s t : Sought) → IsSought ls (Some (Variable None n)) s → 1 ≤ s.count → k ≡ s.count → IsSought ls (Some (Variable (Some k) n)) t
+    → IsSought ls (Some (LastVariable n)) (record t { count = 1 })
+last-sought ls n k s t S h e T =
+    let ss = spots (λ l. assigns n l.class) ls in
+    record {
+      count_is = last-count ss (omega (arith, h, S.count_is));
+      found_is = T.found_is ∙ (ap (λ m. option_map standing_found (nth_of m ss)) (e ∙ S.count_is) ∙ ap (option_map standing_found) (sym (last-nth ss)));
+      unread_is = T.unread_is;
+      end_is = T.end_is;
+    }

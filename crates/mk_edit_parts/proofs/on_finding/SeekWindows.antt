@@ -10,7 +10,7 @@ use Rattle.mk_tree.specs.Origins.{lines_between}
 use Rattle.mk_tree.proofs.AdmissionLemmas.{drop-step}
 use Rattle.mk_edit_language.specs.Addresses.{Address}
 use Rattle.mk_edit_parts.specs.LocatedParts.{AreEachClassed, is_unread_located}
-use Rattle.mk_edit_parts.specs.Seeking.{IsSought, may_mean, wanted}
+use Rattle.mk_edit_parts.specs.Seeking.{IsNumbered, IsSought, may_mean, wanted}
 use Rattle.mk_edit_parts.specs.SeekWalks.{noted, noted_by, nothing_seen, seek}
 use Rattle.mk_edit_parts.specs.Windows.{AreWindows, NonePasses, below, below_all, concerns, first_place}
 use Rattle.mk_edit_parts.specs.declared.seek.Found.{Found}
@@ -150,7 +150,7 @@ walked-all a w d s ws e W =
     let none : W.rest ≡ [] = subst (λ z. AreWindows (concerns a) s.end W.rest z) e W.ahead.windows in
     sym (ap (seek (may_mean a) w s) none) ∙ W.walked
 
-pub walked-over : (a : Option Address) (w : ℕ) (d : List LocatedLine) (s : Sought) (ws : List Window) → ws ≡ [] → w ≡ wanted a → IsFaithful d → IsWalked a w d s ws → IsSought (classed_lines (located_text d)) a s
-walked-over a w d s ws e f h W =
+pub walked-over : (a : Option Address) (w : ℕ) (d : List LocatedLine) (s : Sought) (ws : List Window) → IsNumbered a → ws ≡ [] → w ≡ wanted a → IsFaithful d → IsWalked a w d s ws → IsSought (classed_lines (located_text d)) a s
+walked-over a w d s ws i e f h W =
     let all : s ≡ seek (may_mean a) (wanted a) nothing_seen d = walked-all a w d s ws e W ∙ ap (λ n. seek (may_mean a) n nothing_seen d) f in
-    subst (IsSought (classed_lines (located_text d)) a) (sym all) (lines-sought d a h)
+    subst (IsSought (classed_lines (located_text d)) a) (sym all) (lines-sought d a i h)

@@ -1,5 +1,5 @@
 -- A walk over the windows of a document: what it has before it at each window.
-use Rattle.std.proofs.Common.{◌≡◌, refl, sym, ap, ◌∙◌, subst, arith, ℕ, suc, ◌+◌, ◌<◌, ◌≤◌, add-one, drop-cons, get_or, List, [], ◌∷◌, ◌++◌, Bool, length, length-append, append-nil, append_assoc, take, drop}
+use Rattle.std.proofs.Common.{◌≡◌, refl, sym, ap, ◌∙◌, subst, arith, ℕ, suc, ◌+◌, ◌<◌, ◌≤◌, add-one, drop-cons, get_or, List, [], ◌∷◌, ◌++◌, Bool, false, length, length-append, append-nil, append_assoc, take, drop}
 use Rattle.std.proofs.lemmas.List.{drop-drop, length-drop}
 use Rattle.std.proofs.Math.Seq.{take-append_seam, drop-append_seam}
 use Rattle.mk_class.specs.Contexts.{start}
@@ -13,7 +13,7 @@ use Rattle.mk_edit_parts.specs.declared.window.Window.{Window}
 -- ---- places
 
 -- the place below some lines
-below_all-at : (f : Found) (ls : List LocatedLine) → (below_all f ls).at ≡ f.at + length ls
+pub below_all-at : (f : Found) (ls : List LocatedLine) → (below_all f ls).at ≡ f.at + length ls
 below_all-at f [] = omega arith
 below_all-at f (l ∷ ls) = omega (arith, below_all-at (below f l) ls)
 
@@ -82,6 +82,7 @@ pub record IsAhead (test : LocatedLine → Bool) (d : List LocatedLine) (f : Fou
   pub lines_are : rest ≡ above ++ (inside ++ after)
   pub none_passes : NonePasses test above
   pub place_is : w.place ≡ below_all f above
+  pub count_is : w.count ≡ length inside
   pub lower : f.at ≤ w.place.at
   pub in_range : w.place.at + w.count ≤ length d
   pub from_is : drop w.place.at d ≡ inside ++ after
@@ -112,6 +113,7 @@ ahead-next p d f rest w ws A =
       lines_are = W.lines_are;
       none_passes = W.none_passes;
       place_is = W.place_is;
+      count_is = W.count_is;
       lower = omega (arith, at);
       in_range = omega (arith, at, W.count_is, number);
       from_is = from;
@@ -124,6 +126,24 @@ ahead-next p d f rest w ws A =
         windows = W.next_is;
       };
     }
+
+-- windows for a test are windows for one that passes no other lines
+none-fewer : (p q : LocatedLine → Bool) (ls : List LocatedLine) → ((l : LocatedLine) → p l ≡ false → q l ≡ false) → NonePasses p ls → NonePasses q ls
+none-fewer p q [] h k = tt
+none-fewer p q (l ∷ ls) h k = (h l k.0, none-fewer p q ls h k.1)
+
+pub windows-fewer : (p q : LocatedLine → Bool) (f : Found) (ls : List LocatedLine) (ws : List Window) → ((l : LocatedLine) → p l ≡ false → q l ≡ false) → AreWindows p f ls ws → AreWindows q f ls ws
+windows-fewer p q f ls [] h W = W
+windows-fewer p q f ls (w ∷ ws) h W = record {
+  above = W.above;
+  inside = W.inside;
+  after = W.after;
+  lines_are = W.lines_are;
+  none_passes = none-fewer p q W.above h W.none_passes;
+  place_is = W.place_is;
+  count_is = W.count_is;
+  next_is = windows-fewer p q (below_all w.place W.inside) W.after ws h W.next_is;
+}
 
 -- the windows that are left at an index of some windows
 pub left-at : (ws : List Window) (i : ℕ) (w : Window) → i < length ws → w ≡ get_or ws i w → drop i ws ≡ w ∷ drop (i + 1) ws

@@ -1,10 +1,11 @@
 -- The lines of a block, and the physical lines that are compared with them.
 use Rattle.std.proofs.Common.{◌≡◌, refl, sym, ap, ◌∙◌, subst, arith, ℕ, zero, suc, ◌+◌, ◌-◌, ◌<◌, ◌≤◌, ◌==◌, ◌||◌, if◌then◌else◌, Bool, true, false, List, [], ◌∷◌, ◌++◌, append_assoc, append-nil, length, length-append, take, drop, get_or, reverse, eq-eqb, ne_eqb, eqb-true, Some, None}
-use Rattle.std.specs.Prelude.{◌≢◌}
+use Rattle.std.specs.Prelude.{◌≢◌, cond, count_by}
 use Rattle.std.specs.Str.{bytes_eq}
 use Rattle.std.proofs.Math.Seq.{take-length, drop-length}
 use Rattle.std.proofs.lemmas.List.{take-append-drop, take_more, reverse-append}
 use Rattle.std.proofs.lemmas.List.Folds.{list_any-append}
+use Rattle.std.proofs.lemmas.List.Recursion.{is_count_by}
 use Rattle.std.proofs.lemmas.Slice.Eq.{bytes_eq-Decides}
 use Rattle.memchr.specs.Find.{IsFirstByte, is_byte}
 use Rattle.mk_lines.specs.Lists.{onto_first}
@@ -160,6 +161,65 @@ block-behind : (t u : List ℕ) → has_line_feed t ≡ false → block_lines (t
 block-behind [] u h = let f = block-front u in f.lines_are ∙ sym (ap (onto_first []) f.lines_are)
 block-behind (b ∷ t) u h =
     block-other b (t ++ u) (first-none b t h) ∙ (ap (onto_first (b ∷ [])) (block-behind t u (rest-none b t h)) ∙ onto_first-twice (b ∷ []) t (block_lines u))
+
+-- how many lines a block has
+some-lines : (u : List ℕ) → 0 < length (block_lines u)
+some-lines u = let f = block-front u in omega (arith, ap length f.lines_are)
+
+onto-length : (x : ℕ) (ts : List (List ℕ)) → 0 < length ts → length (onto_first (x ∷ []) ts) ≡ length ts
+onto-length x [] h = absurd (omega (arith, h))
+onto-length x (t ∷ ts) h = refl
+
+feeds-counted : (x : ℕ) (u : List ℕ) → length (block_lines (x ∷ u)) - 1 ≡ cond (x == 10) (1 + (length (block_lines u) - 1)) (length (block_lines u) - 1)
+feeds-counted x u = go (x == 10) refl
+  where
+    go : (q : Bool) → (x == 10) ≡ q → length (block_lines (x ∷ u)) - 1 ≡ cond q (1 + (length (block_lines u) - 1)) (length (block_lines u) - 1)
+    go true e = omega (arith, ap length (block-feed x u e), some-lines u)
+    go false e = ap (λ n. n - 1) (ap length (block-other x u e) ∙ onto-length x (block_lines u) (some-lines u))
+
+pub lines-counted : (u : List ℕ) → length (block_lines u) ≡ count_by (λ b. b == 10) u + 1
+lines-counted u =
+    let counted : length (block_lines u) - 1 ≡ count_by (λ b. b == 10) u = is_count_by (λ t. length (block_lines t) - 1) (λ b. b == 10) refl feeds-counted u in
+    omega (arith, counted, some-lines u)
+
+-- a text without a line feed is a block of one line
+pub block-alone : (t : List ℕ) → has_line_feed t ≡ false → block_lines t ≡ t ∷ []
+block-alone t h = ap block_lines (sym (append-nil t)) ∙ (block-behind t [] h ∙ ap (λ z. z ∷ []) (append-nil t))
+
+-- the first line of a block, by what a search for the line feed tells
+pub record IsFront (u x : List ℕ) : Type 0 where
+  pub first : x ≡ get_or (block_lines u) 0 []
+  pub one_line : has_line_feed x ≡ false
+
+pub front-found : (u : List ℕ) (feed : ℕ) → IsFirstByte (is_byte 10) u (Some feed) → IsFront u (take feed u)
+front-found u feed (first, passes) =
+    let p = take feed u in
+    let below = drop (feed + 1) u in
+    let ten : get_or u feed 0 ≡ 10 = eqb-true (get_or u feed 0) 10 passes in
+    let none : has_line_feed p ≡ false = front-none u feed (λ j less is. first.before j (omega arith) less is) in
+    let line : take (feed + 1) u ≡ p ++ 10 ∷ [] = take_more u feed 0 first.high ∙ ap (λ b. p ++ b ∷ []) ten in
+    let whole : u ≡ p ++ 10 ∷ below = sym (take-append-drop (feed + 1) u) ∙ (ap (λ l. l ++ below) line ∙ append_assoc p (10 ∷ []) below) in
+    let lines : block_lines u ≡ (p ++ []) ∷ block_lines below = ap block_lines whole ∙ block-behind p (10 ∷ below) none in
+    record { first = sym (append-nil p) ∙ ap (λ ts. get_or ts 0 []) (sym lines); one_line = none }
+
+pub front-not_found : (u : List ℕ) → IsFirstByte (is_byte 10) u None → IsFront u u
+front-not_found u h =
+    let none : has_line_feed u ≡ false = subst (λ z. has_line_feed z ≡ false) (take-length u) (front-none u (length u) (λ j less is. h j (omega arith) less is)) in
+    record { first = ap (λ ts. get_or ts 0 []) (sym (block-alone u none)); one_line = none }
+
+-- a block is one line, or a line and those after its line feed
+pub data FrontCut (u : List ℕ) : Type 0 where
+  Alone : block_lines u ≡ u ∷ [] → FrontCut u
+  More : (front rest : List ℕ) → u ≡ front ++ 10 ∷ rest → block_lines u ≡ front ∷ block_lines rest → FrontCut u
+
+pub front-cut : (u : List ℕ) → FrontCut u
+front-cut [] = Alone refl
+front-cut (b ∷ u) = go (b == 10) refl (front-cut u)
+  where
+    go : (q : Bool) → (b == 10) ≡ q → FrontCut u → FrontCut (b ∷ u)
+    go true e f = More [] u (ap (λ z. z ∷ u) (eqb-true b 10 e)) (block-feed b u e)
+    go false e (Alone lines) = Alone (block-other b u e ∙ ap (onto_first (b ∷ [])) lines)
+    go false e (More front rest i lines) = More (b ∷ front) rest (ap (λ z. b ∷ z) i) (block-other b u e ∙ ap (onto_first (b ∷ [])) lines)
 
 -- ---- what is left after one text
 

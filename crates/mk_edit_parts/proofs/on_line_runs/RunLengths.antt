@@ -1,12 +1,15 @@
 -- How many lines a run has: by the lines of a document, and by those of its text.
-use Rattle.std.proofs.Common.{◌≡◌, refl, sym, ap, ◌∙◌, arith, ℕ, suc, ◌+◌, List, [], ◌∷◌, length, Option, Some, None, option_map}
+use Rattle.std.proofs.Common.{◌≡◌, refl, sym, ap, ◌∙◌, arith, ℕ, suc, ◌+◌, ◌<◌, ◌≤◌, Bool, true, false, if◌then◌else◌, List, [], ◌∷◌, length, get_or, Option, Some, None, option_map}
 use Rattle.std.specs.Prelude.{option_and_then}
+use Rattle.std.specs.Str.{bytes_eq}
 use Rattle.mk_class.specs.ClassedLines.{ClassedLine}
 use Rattle.mk_tree.specs.LocatedLines.{LocatedLine, located_lines}
 use Rattle.mk_edit_language.specs.Stretches.{Stretch}
 use Rattle.mk_edit_language.specs.LineRuns.{texts_of, after_texts, block_lines, led_by, run_in_front}
 use Rattle.mk_edit_parts.specs.LineRunWalks.{run_length}
+use Rattle.mk_edit_parts.specs.Windows.{says_first}
 use Rattle.mk_edit_parts.proofs.on_line_runs.BlockTexts.{block-front}
+use Rattle.mk_edit_parts.proofs.on_line_runs.FilledLines.{AreFilled, line-front}
 
 -- ---- the run in front of some lines
 
@@ -60,6 +63,50 @@ length-left u bytes l ls o h e =
     let f = block-front u in
     let left : o ≡ after_texts (texts_of l.bytes) (block_lines u) = h ∙ ap (λ z. after_texts (texts_of z) (block_lines u)) e in
     length-line (block_lines u) f.first f.rest l ls f.lines_are ∙ ap (option_and_then (λ rest. option_map (λ n. n + 1) (run_length rest ls))) (sym left)
+
+-- ---- how many lines at most
+
+after-fewer : (ts b rest : List (List ℕ)) → after_texts ts b ≡ Some rest → length ts + length rest ≡ length b
+after-fewer [] b rest h = let e : b ≡ rest = cc in omega (arith, ap length e)
+after-fewer (t ∷ ts) [] rest h = absurd (cc)
+after-fewer (t ∷ ts) (x ∷ b) rest h = go (after-fewer ts b rest) (bytes_eq t x) h
+  where
+    go : (after_texts ts b ≡ Some rest → length ts + length rest ≡ length b) → (q : Bool) → (if q then after_texts ts b else None) ≡ Some rest → suc (length ts) + length rest ≡ suc (length b)
+    go ih true e = omega (arith, ih e)
+    go ih false e = absurd (cc)
+
+-- a run has no more lines than its block
+pub length-most : (b : List (List ℕ)) (ls : List LocatedLine) (n : ℕ) → AreFilled ls → run_length b ls ≡ Some n → n ≤ length b
+length-most [] ls n f h = let e : 0 ≡ n = cc in omega (arith, e)
+length-most (x ∷ b) [] n f h = absurd (cc)
+length-most (x ∷ b) (l ∷ ls) n f h = go (λ rest k e. length-most rest ls k f.1 e) (after_texts (texts_of l.bytes) (x ∷ b)) refl h
+  where
+    more : (rest : List (List ℕ)) (o : Option ℕ) → after_texts (texts_of l.bytes) (x ∷ b) ≡ Some rest → ((k : ℕ) → o ≡ Some k → k ≤ length rest) → option_map (λ n. n + 1) o ≡ Some n → n ≤ suc (length b)
+    more rest None i most e = absurd (cc)
+    more rest (Some k) i most e =
+        let F = line-front l.bytes f.0 in
+        let one : k + 1 ≡ n = cc in
+        omega (arith, one, most k refl, after-fewer (texts_of l.bytes) (x ∷ b) rest i, ap length F.texts_are)
+
+    go : ((rest : List (List ℕ)) (k : ℕ) → run_length rest ls ≡ Some k → k ≤ length rest) → (o : Option (List (List ℕ))) → after_texts (texts_of l.bytes) (x ∷ b) ≡ o
+        → option_and_then (λ rest. option_map (λ n. n + 1) (run_length rest ls)) o ≡ Some n → n ≤ suc (length b)
+    go most None i e = absurd (cc)
+    go most (Some rest) i e = more rest (run_length rest ls) i (most rest) e
+
+-- ---- no run
+
+unlike : (x : List ℕ) (b : List (List ℕ)) (l : LocatedLine) (ls : List LocatedLine) → 0 < length l.bytes → says_first (x ∷ b) l ≡ false → run_length (x ∷ b) (l ∷ ls) ≡ None
+unlike x b l ls f h =
+    let F = line-front l.bytes f in
+    let from = λ (o : Option (List (List ℕ))). option_and_then (λ rest. option_map (λ n. n + 1) (run_length rest ls)) o in
+    let other : bytes_eq F.first x ≡ false = ap (λ ts. bytes_eq (get_or ts 0 []) x) (sym F.texts_are) ∙ h in
+    ap (λ ts. from (after_texts ts (x ∷ b))) F.texts_are ∙ ap (λ q. from (if q then after_texts F.rest b else None)) other
+
+-- a line that does not begin as the block does
+pub length-unlike : (u : List ℕ) (l : LocatedLine) (ls : List LocatedLine) → 0 < length l.bytes → says_first (block_lines u) l ≡ false → run_length (block_lines u) (l ∷ ls) ≡ None
+length-unlike u l ls f h =
+    let B = block-front u in
+    ap (λ b. run_length b (l ∷ ls)) B.lines_are ∙ unlike B.first B.rest l ls f (ap (λ b. says_first b l) (sym B.lines_are) ∙ h)
 
 -- ---- lines that are counted
 

@@ -1,8 +1,8 @@
 -- Whether lines of a document lie within a run for a block, as walks over the document see it.
-use Rattle.std.proofs.Common.{◌≡◌, refl, sym, ap, ◌∙◌, arith, ℕ, suc, ◌+◌, ◌<◌, ◌≤◌, ◌&&◌, ◌||◌, zero-add, not, Bool, true, false, List, [], ◌∷◌, map, length, drop, Option, Some, None, option_map}
+use Rattle.std.proofs.Common.{◌≡◌, refl, sym, ap, ◌∙◌, arith, ℕ, zero, suc, ◌+◌, ◌-◌, ◌<◌, ◌≤◌, ◌&&◌, ◌||◌, zero-add, not, Bool, true, false, List, [], ◌∷◌, map, length, drop, Option, Some, None, option_map}
 use Rattle.std.specs.Prelude.{max, nat_le, nat_lt, IfSome}
 use Rattle.std.specs.List.{list_any}
-use Rattle.std.proofs.lemmas.Bool.{and_left, ltb-true, ltb-false, leb-true, leb-false, lt-ltb, le-ltb, le-leb, lt-leb}
+use Rattle.std.proofs.lemmas.Bool.{and_left, and_right, ltb-true, ltb-false, leb-true, leb-false, lt-ltb, le-ltb, le-leb, lt-leb}
 use Rattle.std.proofs.Math.Bool.{or_assoc}
 use Rattle.mk_lines.specs.Limits.{max_text}
 use Rattle.mk_class.specs.ClassedLines.{ClassedLine, classed_lines}
@@ -15,7 +15,8 @@ use Rattle.mk_edit_parts.specs.LineRunWalks.{run_length, holds, reached, is_reac
 use Rattle.mk_edit_parts.specs.Windows.{below, first_place}
 use Rattle.mk_edit_parts.specs.declared.seek.Found.{Found}
 use Rattle.mk_edit_parts.specs.declared.window.Window.{Window}
-use Rattle.mk_edit_parts.proofs.on_line_runs.RunLengths.{lines_in, length-front, front-above}
+use Rattle.mk_edit_parts.proofs.on_line_runs.FilledLines.{AreFilled, filled-faithful}
+use Rattle.mk_edit_parts.proofs.on_line_runs.RunLengths.{lines_in, length-front, length-most, front-above}
 use Rattle.mk_edit_parts.proofs.on_line_runs.RunWindows.{before_windows, windows_from, window_from, windows-runs}
 
 -- ---- tests
@@ -70,6 +71,29 @@ in_run-past b at end start (l ∷ ls) h =
     go : (o : Option ℕ) → holds start at end o ≡ false
     go None = refl
     go (Some n) = and_left (nat_le start at) (nat_le end (start + n)) (lt-leb start at h)
+
+-- nor does a run that begins so far above that it ends before
+in_run-above : (b : List (List ℕ)) (at end start n : ℕ) (ls : List LocatedLine) → AreFilled ls → start + n ≤ end - length b → in_run_from b at end (start + n) (drop n ls) ≡ in_run_from b at end start ls
+in_run-above b at end start zero ls f h = let e : start + 0 ≡ start = omega arith in ap (λ n. in_run_from b at end n ls) e
+in_run-above b at end start (suc n) [] f h = refl
+in_run-above b at end start (suc n) (l ∷ ls) f h =
+    let e : start + suc n ≡ start + 1 + n = omega arith in
+    ap (λ m. in_run_from b at end m (drop n ls)) e
+    ∙ (in_run-above b at end (start + 1) n ls f.1 (omega (arith, h)) ∙ ap (λ q. q || in_run_from b at end (start + 1) ls) (sym (go (run_length b (l ∷ ls)) refl)))
+  where
+    short : (k : ℕ) → k ≤ length b → (nat_le start at && nat_le end (start + k)) ≡ false
+    short k most = and_right (nat_le start at) (nat_le end (start + k)) (lt-leb end (start + k) (omega (arith, h, most)))
+
+    go : (o : Option ℕ) → run_length b (l ∷ ls) ≡ o → holds start at end o ≡ false
+    go None i = refl
+    go (Some k) i = short k (length-most b (l ∷ ls) k f i)
+
+-- so a walk may begin there
+pub in_run-near : (b : List (List ℕ)) (at end : ℕ) (d : List LocatedLine) → IsFaithful d → in_run_from b at end (end - length b) (drop (end - length b) d) ≡ in_run_from b at end 0 d
+in_run-near b at end d f =
+    let n = end - length b in
+    let e : n ≡ 0 + n = omega arith in
+    ap (λ m. in_run_from b at end m (drop n d)) e ∙ in_run-above b at end 0 n d (filled-faithful d f) (omega arith)
 
 -- whether a run that is found holds it
 abbrev covers : (at end : ℕ) → Window → Bool

@@ -1,6 +1,6 @@
 -- Whether the runs that a number leaves lie within runs for another block.
-use Rattle.std.proofs.Common.{◌≡◌, refl, sym, ap, ◌∙◌, subst, arith, ℕ, zero, suc, ◌+◌, ◌<◌, ◌&&◌, ◌||◌, not, Bool, true, false, List, [], ◌∷◌, map, length, Option, Some, None, option_map}
-use Rattle.std.specs.Prelude.{nat_le, MatchOption, option_and_then}
+use Rattle.std.proofs.Common.{◌≡◌, refl, sym, ap, ◌∙◌, subst, arith, ℕ, zero, suc, ◌+◌, ◌<◌, ◌==◌, ◌&&◌, ◌||◌, not, Bool, true, false, List, [], ◌∷◌, map, length, Option, Some, None, option_map, eqb-true}
+use Rattle.std.specs.Prelude.{is_some, nat_le, MatchOption, option_and_then}
 use Rattle.std.specs.List.{list_any}
 use Rattle.std.proofs.lemmas.Bool.{leb-true, lt-leb}
 use Rattle.mk_lines.specs.Lists.{Each}
@@ -45,12 +45,12 @@ none-lower l [] h = tt
 none-lower l (s ∷ ss) h = (h.0, none-lower l ss h.1)
 
 -- the runs for no lines have none
-runs-none : (ls : List ClassedLine) → Each (λ s. is_empty s.lines) (runs [] ls)
+pub runs-none : (ls : List ClassedLine) → Each (λ s. is_empty s.lines) (runs [] ls)
 runs-none [] = tt
 runs-none (l ∷ ls) = (refl, none-lower l (runs [] ls) (runs-none ls))
 
 -- a stretch that has a line does not lie within one that has none
-nothing-around : (s : Stretch) (os : List Stretch) → 0 < length s.lines → Each (λ o. is_empty o.lines) os → list_any (λ o. is_inside o s) os ≡ false
+pub nothing-around : (s : Stretch) (os : List Stretch) → 0 < length s.lines → Each (λ o. is_empty o.lines) os → list_any (λ o. is_inside o s) os ≡ false
 nothing-around s [] n h = refl
 nothing-around s (o ∷ os) n h = ap (λ q. q || list_any (λ o. is_inside o s) os) (outside o.lines h.0) ∙ nothing-around s os n h.1
   where
@@ -113,3 +113,29 @@ exchanged-nothing u ls nth m w A h =
         let k : s ≡ q = cc in
         sym (ap (λ b. not (not b || list_any (λ z. not (is_in_run [] ls z)) rs)) (sym (ap (is_in_run [] ls) k) ∙ out))
     go (Some n) rs s e out = sym (ap (λ (o : Option Stretch). each_in_run [] ls (before_runs o [])) e ∙ ap (λ b. not (not b || false)) out)
+
+-- ---- one run
+
+-- whether one run is left: a number is given, or there is no other
+pub exchanged-one : (t b : List (List ℕ)) (ls : List ClassedLine) (nth : Option ℕ) (m : RunMatches) (w : Window) (r : Bool) → AreRunMatches ls b nth m → m.found ≡ Some w → (is_some nth || (m.count == 1)) ≡ true
+    → ((s : Stretch) → length s.above ≡ w.place.at → length s.lines ≡ w.count → r ≡ is_in_run t ls s) → r ≡ each_in_run t ls (numbered nth (runs b ls))
+exchanged-one t b ls nth m w r A h one told =
+    let R = found-one ls b nth m w A h in
+    told R.run R.place_is R.count_is ∙ (twice (is_in_run t ls R.run) ∙ ap (each_in_run t ls) (sym (left nth (runs b ls) R.run (single nth one) R.run_is)))
+  where
+    twice : (q : Bool) → q ≡ not (not q || false)
+    twice true = refl
+    twice false = refl
+
+    single : (nth : Option ℕ) → (is_some nth || (m.count == 1)) ≡ true → (nth ≡ None → length (runs b ls) ≡ 1)
+    single None e i = sym A.count_is ∙ eqb-true m.count 1 e
+    single (Some n) e i = absurd (cc)
+
+    only : (rs : List Stretch) (s : Stretch) → length rs ≡ 1 → nth_of 1 rs ≡ Some s → rs ≡ s ∷ []
+    only [] s n e = absurd (omega (arith, n))
+    only (q ∷ []) s n e = let k : q ≡ s = cc in ap (λ (z : Stretch). z ∷ []) k
+    only (q ∷ p ∷ rs) s n e = absurd (omega (arith, n))
+
+    left : (nth : Option ℕ) (rs : List Stretch) (s : Stretch) → (nth ≡ None → length rs ≡ 1) → nth_of (wanted_of nth) rs ≡ Some s → numbered nth rs ≡ s ∷ []
+    left None rs s n e = only rs s (n refl) e
+    left (Some k) rs s n e = ap (λ (o : Option Stretch). before_runs o []) e

@@ -1,5 +1,5 @@
 -- The stretches that a site may mean, by the lines or the runs that they stand at, and the windows of a document where they are.
-use Rattle.std.proofs.Common.{◌≡◌, refl, sym, ap, ◌∙◌, subst, arith, ℕ, ◌+◌, ◌≤◌, not, true, false, List, [], ◌∷◌, ◌++◌, append_assoc, append-nil, map, length, length-append, take, Option, Some, None, option_map, is_some}
+use Rattle.std.proofs.Common.{◌≡◌, refl, sym, ap, ◌∙◌, subst, arith, ℕ, ◌+◌, ◌≤◌, not, true, false, List, [], ◌∷◌, ◌++◌, append_assoc, map, length, length-append, take, Option, Some, None, option_map, is_some}
 use Rattle.std.specs.Prelude.{MatchOption, Vec}
 use Rattle.std.proofs.lemmas.List.{length-map}
 use Rattle.std.proofs.Math.Seq.{take-append_seam}
@@ -8,33 +8,32 @@ use Rattle.mk_class.specs.ClassedLines.{ClassedLine, classed_lines}
 use Rattle.mk_tree.specs.Documents.{IsFaithful, context_of}
 use Rattle.mk_tree.specs.LocatedLines.{LocatedLine, located_text}
 use Rattle.mk_tree.specs.LineTexts.{StandingLine}
-use Rattle.mk_edit_language.specs.Edits.{Place, Bottom, BeforeVar, AfterVar, BeforeRule, Site, Top, AtPlace, BeforeRun, AfterRun}
+use Rattle.mk_edit_language.specs.Edits.{Place, Top, Bottom, BeforeVar, AfterVar, AfterLastVar, BeforeRule, AfterRule, Site, AtPlace, BeforeRun, AfterRun}
 use Rattle.mk_edit_language.specs.Spots.{nth_of, picked}
-use Rattle.mk_edit_language.specs.Addresses.{Address, Variable, Rule, candidates, found, nth_meant, place_address}
-use Rattle.mk_edit_language.specs.EditViews.{place_of, site_of}
+use Rattle.mk_edit_language.specs.Addresses.{Address, Variable, LastVariable, Rule, candidates, found, nth_meant, place_address}
+use Rattle.mk_edit_language.specs.EditViews.{site_of}
 use Rattle.mk_edit_language.specs.declared.edit.Site as sites
 use Rattle.mk_edit_language.specs.declared.edit.Site.TheVariants as site
-use Rattle.mk_edit_language.specs.declared.edit.Place as place
-use Rattle.mk_edit_language.specs.declared.edit.Place.TheVariants as variants
-use Rattle.mk_edit_language.specs.Stretches.{Stretch, this_line, before_line, after_line, bottom}
+use Rattle.mk_edit_language.specs.Stretches.{Stretch, before_line, after_line, after_rule, top, bottom, place_found}
 use Rattle.mk_edit_language.specs.LineRuns.{before_run, after_run, place_stretches, runs, site_number, site_stretches}
 use Rattle.mk_edit_language.specs.Causes.{where_holds}
-use Rattle.mk_edit_language.specs.AddressCauses.{is_missing, is_several}
-use Rattle.mk_edit_language.specs.ExchangeCauses.{has_no_stretch, has_several_stretches}
+use Rattle.mk_edit_language.specs.AddressCauses.{is_missing, is_several, no_such_line, ambiguous_line}
+use Rattle.mk_edit_language.specs.RuleCauses.{straddles_at}
+use Rattle.mk_edit_language.specs.ExchangeCauses.{has_no_stretch, has_several_stretches, straddles_at_site}
 use Rattle.mk_edit_language.specs.Refusals.{first_cause}
 use Rattle.mk_edit_language.specs.declared.refusal.Refusal.{Refusal}
 use Rattle.mk_edit_language.specs.declared.refusal.Refusal.TheVariants.{NoSuch, Ambiguous}
 use Rattle.mk_edit_language.proofs.on_edits.Accepted.{where_holds-none}
-use Rattle.mk_edit_language.proofs.on_edits.EditPlaces.{found-spot}
-use Rattle.mk_edit_parts.specs.Found.{IsFoundAt, IsPicked, IsNotPicked, IsPlaceOf}
+use Rattle.mk_edit_parts.specs.Found.{IsPicked, IsNotPicked, IsPlaceOf}
+use Rattle.mk_edit_parts.specs.NewPlaces.{IsInsertedAt}
 use Rattle.mk_edit_parts.specs.LineRunsFound.{IsRunAt, AreRunMatches}
 use Rattle.mk_edit_parts.specs.Seeking.{wanted_of}
-use Rattle.mk_edit_parts.specs.SitesFound.{IsStretchAt, IsOneAt, IsNotOne, IsOfNew, no_lines}
-use Rattle.mk_edit_parts.specs.Windows.{first_place}
+use Rattle.mk_edit_parts.specs.SitesFound.{IsStretchAt, IsOneAt, IsNotOne, IsNotNew, IsOfNew, no_lines}
 use Rattle.mk_edit_parts.specs.declared.line_run.RunMatches.{RunMatches}
 use Rattle.mk_edit_parts.specs.declared.seek.Found.{Found}
 use Rattle.mk_edit_parts.specs.declared.window.Window.{Window}
 use Rattle.mk_edit_parts.proofs.on_finding.SeekLemmas.{nth-map}
+use Rattle.mk_edit_parts.proofs.CauseLemmas.{passed, holds}
 use Rattle.mk_edit_parts.proofs.on_line_runs.RunsMatched.{length-faithful}
 
 -- ---- windows of a document
@@ -65,13 +64,9 @@ stretch-end d s w f S e p =
     ap (take f.at) whole ∙ (ap (λ n. take n ((s.above ++ s.lines) ++ s.below)) (sym at) ∙ take-append_seam (s.above ++ s.lines) s.below) in
     record { stretch_is = whole; place_is = at; context_is = ap context_of (sym front) ∙ p; count_is = refl }
 
--- a line that an address means
-line-stretch : (ls : List ClassedLine) (a : Address) (f : Found) → (F : IsFoundAt ls a f) → IsStretchAt ls (this_line F.spot) (record { place = f; count = 1 })
-line-stretch ls a f F = record { stretch_is = found-spot ls a F.spot F.found_is; place_is = F.place_is; context_is = F.context_is; count_is = refl }
-
 -- ---- one of a list that is mapped
 
-picked-map : {A B : Type 0} (f : A → B) (nth : Option ℕ) (xs : List A) → picked nth (map f xs) ≡ option_map f (picked nth xs)
+pub picked-map : {A B : Type 0} (f : A → B) (nth : Option ℕ) (xs : List A) → picked nth (map f xs) ≡ option_map f (picked nth xs)
 picked-map f None [] = refl
 picked-map f None (x ∷ []) = refl
 picked-map f None (x ∷ y ∷ xs) = refl
@@ -82,11 +77,11 @@ some-map f None = refl
 some-map f (Some x) = refl
 
 -- by lines
-missing-lines : (f : StandingLine → Stretch) (nth : Option ℕ) (ss : List StandingLine) → has_no_stretch nth (map f ss) ≡ is_missing nth ss
+pub missing-lines : (f : StandingLine → Stretch) (nth : Option ℕ) (ss : List StandingLine) → has_no_stretch nth (map f ss) ≡ is_missing nth ss
 missing-lines f None ss = is_empty-map f ss
 missing-lines f (Some n) ss = ap (λ o. not (is_some o)) (nth-map f n ss) ∙ ap not (some-map f (nth_of n ss))
 
-several-lines : (f : StandingLine → Stretch) (nth : Option ℕ) (ss : List StandingLine) → has_several_stretches nth (map f ss) ≡ is_several nth ss
+pub several-lines : (f : StandingLine → Stretch) (nth : Option ℕ) (ss : List StandingLine) → has_several_stretches nth (map f ss) ≡ is_several nth ss
 several-lines f None [] = refl
 several-lines f None (s ∷ []) = refl
 several-lines f None (s ∷ r ∷ ss) = refl
@@ -105,77 +100,107 @@ several-runs f (Some n) ss = refl
 
 -- ---- places
 
--- the line that an address means tells the stretch at it
-line-one : (ls : List ClassedLine) (a : Address) (f g : Found) (at : StandingLine → Stretch) → IsPicked ls (Some a) f → ((s : StandingLine) → found ls a ≡ Some s → length s.above ≡ f.at → context_of s.above ≡ f.context → IsStretchAt ls (at s) (no_lines g))
-    → IsOneAt ls (nth_meant a) (map at (candidates ls a)) (no_lines g)
-line-one ls a f g at P h =
-    let F = P.meant in
-    let ss = candidates ls a in record {
-      stretch = at F.spot;
-      picked_is = picked-map at (nth_meant a) ss ∙ ap (option_map at) F.found_is;
-      is_there = missing-lines at (nth_meant a) ss ∙ where_holds-none (is_missing (nth_meant a) ss) NoSuch P.is_there;
-      is_one = several-lines at (nth_meant a) ss ∙ where_holds-none (is_several (nth_meant a) ss) (Ambiguous (length ss)) P.is_one;
-      meant = h F.spot F.found_is F.place_is F.context_is;
+-- a place means an empty stretch
+place-empty : (ls : List ClassedLine) (p : Place) (s : Stretch) → place_found ls p ≡ Some s → s.lines ≡ []
+place-empty ls p s e = go p e
+  where
+    mapped : (at : StandingLine → Stretch) → ((x : StandingLine) → (at x).lines ≡ []) → (o : Option StandingLine) → option_map at o ≡ Some s → s.lines ≡ []
+    mapped at h None e = absurd (cc)
+    mapped at h (Some x) e = let k : at x ≡ s = cc in ap (λ (z : Stretch). z.lines) (sym k) ∙ h x
+
+    go : (p : Place) → place_found ls p ≡ Some s → s.lines ≡ []
+    go Top e = let k : top ls ≡ s = cc in ap (λ (z : Stretch). z.lines) (sym k)
+    go Bottom e = let k : bottom ls ≡ s = cc in ap (λ (z : Stretch). z.lines) (sym k)
+    go (BeforeVar nth n) e = mapped before_line (λ x. refl) (found ls (Variable nth n)) e
+    go (AfterVar nth n) e = mapped after_line (λ x. refl) (found ls (Variable nth n)) e
+    go (AfterLastVar n) e = mapped after_line (λ x. refl) (found ls (LastVariable n)) e
+    go (BeforeRule nth g) e = mapped before_line (λ x. refl) (found ls (Rule nth g)) e
+    go (AfterRule nth g) e = mapped after_rule (λ x. refl) (found ls (Rule nth g)) e
+
+-- the stretch of a place is that of a site at it
+place-picked : (ls : List ClassedLine) (p : Place) → picked (site_number (AtPlace p)) (place_stretches ls p) ≡ place_found ls p
+place-picked ls Top = refl
+place-picked ls Bottom = refl
+place-picked ls (BeforeVar nth n) = picked-map before_line nth (candidates ls (Variable nth n))
+place-picked ls (AfterVar nth n) = picked-map after_line nth (candidates ls (Variable nth n))
+place-picked ls (AfterLastVar n) = picked-map after_line None (candidates ls (LastVariable n))
+place-picked ls (BeforeRule nth g) = picked-map before_line nth (candidates ls (Rule nth g))
+place-picked ls (AfterRule nth g) = picked-map after_rule nth (candidates ls (Rule nth g))
+
+-- one of some stretches is meant
+record IsOneOf (nth : Option ℕ) (ss : List Stretch) : Type 0 where
+  is_there : has_no_stretch nth ss ≡ false
+  is_one : has_several_stretches nth ss ≡ false
+
+-- if one line is meant, one stretch is
+line-one : (ls : List ClassedLine) (a : Address) (at : StandingLine → Stretch) → no_such_line ls (Some a) ≡ None → ambiguous_line ls (Some a) ≡ None → IsOneOf (nth_meant a) (map at (candidates ls a))
+line-one ls a at h k =
+    let ss = candidates ls a in
+    record {
+      is_there = missing-lines at (nth_meant a) ss ∙ where_holds-none (is_missing (nth_meant a) ss) NoSuch h;
+      is_one = several-lines at (nth_meant a) ss ∙ where_holds-none (is_several (nth_meant a) ss) (Ambiguous (length ss)) k;
+    }
+
+place-one_of : (ls : List ClassedLine) (p : Place) → no_such_line ls (place_address p) ≡ None → ambiguous_line ls (place_address p) ≡ None → IsOneOf (site_number (AtPlace p)) (place_stretches ls p)
+place-one_of ls Top h k = record { is_there = refl; is_one = refl }
+place-one_of ls Bottom h k = record { is_there = refl; is_one = refl }
+place-one_of ls (BeforeVar nth n) h k = line-one ls (Variable nth n) before_line h k
+place-one_of ls (AfterVar nth n) h k = line-one ls (Variable nth n) after_line h k
+place-one_of ls (AfterLastVar n) h k = line-one ls (LastVariable n) after_line h k
+place-one_of ls (BeforeRule nth g) h k = line-one ls (Rule nth g) before_line h k
+place-one_of ls (AfterRule nth g) h k = line-one ls (Rule nth g) after_rule h k
+
+pub place-one : (d : List LocatedLine) (p : Place) (f g : Found) → IsPicked (classed_lines (located_text d)) (place_address p) f → IsInsertedAt d (place_found (classed_lines (located_text d)) p) g
+    → IsOneAt (classed_lines (located_text d)) (site_number (AtPlace p)) (place_stretches (classed_lines (located_text d)) p) (no_lines g)
+place-one d p f g P N =
+    let ls = classed_lines (located_text d) in
+    let s = N.stretch in
+    let empty : s.lines ≡ [] = place-empty ls p s N.stretch_is in
+    let O = place-one_of ls p P.is_there P.is_one in
+    record {
+      stretch = s;
+      picked_is = place-picked ls p ∙ N.stretch_is;
+      is_there = O.is_there;
+      is_one = O.is_one;
+      meant = record {
+        stretch_is = N.whole ∙ ap (λ z. s.above ++ (z ++ s.below)) (sym empty);
+        place_is = N.place_is;
+        context_is = N.context_is;
+        count_is = ap length empty;
+      };
     }
 
 -- no one line is meant, so no stretch is
-line-not_one : (ls : List ClassedLine) (a : Address) (at : StandingLine → Stretch) (r : Refusal) → IsNotPicked ls (Some a) r → IsNotOne (nth_meant a) (map at (candidates ls a)) r
+pub line-not_one : (ls : List ClassedLine) (a : Address) (at : StandingLine → Stretch) (r : Refusal) → IsNotPicked ls (Some a) r → IsNotOne (nth_meant a) (map at (candidates ls a)) r
 line-not_one ls a at r h =
     let ss = candidates ls a in
     ap (λ b. first_cause (where_holds b NoSuch ∷ where_holds (has_several_stretches (nth_meant a) (map at ss)) (Ambiguous (length (map at ss))) ∷ [])) (missing-lines at (nth_meant a) ss)
     ∙ (ap (λ b. first_cause (where_holds (is_missing (nth_meant a) ss) NoSuch ∷ where_holds b (Ambiguous (length (map at ss))) ∷ [])) (several-lines at (nth_meant a) ss)
     ∙ (ap (λ n. first_cause (where_holds (is_missing (nth_meant a) ss) NoSuch ∷ where_holds (is_several (nth_meant a) ss) (Ambiguous n) ∷ [])) (length-map ss at) ∙ h))
 
-pub place-not_one : (ls : List ClassedLine) (p : Place) (r : Refusal) → IsNotPicked ls (place_address p) r → IsNotOne (site_number (AtPlace p)) (place_stretches ls p) r
+place-not_one : (ls : List ClassedLine) (p : Place) (r : Refusal) → IsNotPicked ls (place_address p) r → IsNotOne (site_number (AtPlace p)) (place_stretches ls p) r
+place-not_one ls Top r h = absurd (cc)
 place-not_one ls Bottom r h = absurd (cc)
 place-not_one ls (BeforeVar nth n) r h = line-not_one ls (Variable nth n) before_line r h
 place-not_one ls (AfterVar nth n) r h = line-not_one ls (Variable nth n) after_line r h
+place-not_one ls (AfterLastVar n) r h = line-not_one ls (LastVariable n) after_line r h
 place-not_one ls (BeforeRule nth t) r h = line-not_one ls (Rule nth t) before_line r h
+place-not_one ls (AfterRule nth t) r h = line-not_one ls (Rule nth t) after_rule r h
 
--- whether a new line goes behind the line that its place names
-abbrev IsAfterVar : Place → Type 0
-IsAfterVar (AfterVar nth n) = Unit {0}
-IsAfterVar p = ⊥
+-- one cause more
+one-more : (n m e : Option Refusal) (r : Refusal) → first_cause (n ∷ m ∷ []) ≡ Some r → first_cause (n ∷ m ∷ e ∷ []) ≡ Some r
+one-more (Some q) m e r h = h
+one-more None (Some q) e r h = h
+one-more None None e r h = absurd (cc)
 
-before-one : (ls : List ClassedLine) (a : Address) (f : Found) → IsPicked ls (Some a) f → IsOneAt ls (nth_meant a) (map before_line (candidates ls a)) (no_lines f)
-before-one ls a f P =
-    line-one ls a f f before_line P (λ s e at context. record { stretch_is = found-spot ls a s e; place_is = at; context_is = context; count_is = refl })
+pub place-not_picked : (ls : List ClassedLine) (p : Place) (r : Refusal) → IsNotPicked ls (place_address p) r → IsNotNew ls (AtPlace p) r
+place-not_picked ls p r h = one-more _ _ _ r (place-not_one ls p r h)
 
-pub place-one : (ls : List ClassedLine) (p : Place) (f : Found) → (IsAfterVar p → ⊥) → IsPicked ls (place_address p) f → IsOneAt ls (site_number (AtPlace p)) (place_stretches ls p) (no_lines f)
-place-one ls Bottom f n P =
-    let E = P.meant in
-    record { stretch = bottom ls; picked_is = refl; is_there = refl; is_one = refl; meant = record { stretch_is = sym (append-nil ls); place_is = E.place_is; context_is = E.context_is; count_is = refl } }
-place-one ls (BeforeVar nth v) f n P = before-one ls (Variable nth v) f P
-place-one ls (AfterVar nth v) f n P = absurd (n tt)
-place-one ls (BeforeRule nth t) f n P = before-one ls (Rule nth t) f P
-
--- a new line goes behind the line that its place names
-pub after-place : (d : List LocatedLine) (p : Place) (nth : Option ℕ) (v : List ℕ) (f : Found) → p ≡ AfterVar nth v → IsPicked (classed_lines (located_text d)) (place_address p) f → IsPlaceOf d f
-after-place d p nth v f i P =
-    let Q = subst (λ (q : Place). IsPicked (classed_lines (located_text d)) (place_address q) f) i P in
-    let F = Q.meant in
-    stretch-place d (this_line F.spot) (record { place = f; count = 1 }) (line-stretch (classed_lines (located_text d)) (Variable nth v) f F)
-
-pub after-in_range : (d : List LocatedLine) (p : Place) (nth : Option ℕ) (v : List ℕ) (f : Found) → IsFaithful d → p ≡ AfterVar nth v → IsPicked (classed_lines (located_text d)) (place_address p) f → f.at + 1 ≤ length d
-after-in_range d p nth v f faithful i P =
-    let Q = subst (λ (q : Place). IsPicked (classed_lines (located_text d)) (place_address q) f) i P in
-    let F = Q.meant in
-    stretch-in_range d (this_line F.spot) (record { place = f; count = 1 }) faithful (line-stretch (classed_lines (located_text d)) (Variable nth v) f F)
-
-pub after-one : (d : List LocatedLine) (p : Place) (nth : Option ℕ) (v : List ℕ) (f g : Found) → p ≡ AfterVar nth v → IsPicked (classed_lines (located_text d)) (place_address p) f → g.at ≡ f.at + 1 → IsPlaceOf d g
-    → IsOneAt (classed_lines (located_text d)) (site_number (AtPlace p)) (place_stretches (classed_lines (located_text d)) p) (no_lines g)
-after-one d p nth v f g i P e place =
-    let ls = classed_lines (located_text d) in
-    let Q = subst (λ (q : Place). IsPicked ls (place_address q) f) i P in
-    subst (λ (q : Place). IsOneAt ls (site_number (AtPlace q)) (place_stretches ls q) (no_lines g)) (sym i)
-    (line-one ls (Variable nth v) f g after_line Q
-    (λ s z at context. stretch-end d (this_line s) (record { place = f; count = 1 }) g (record { stretch_is = found-spot ls (Variable nth v) s z; place_is = at; context_is = context; count_is = refl }) e place))
-
-pub not_after : {A : _} (p : place.Place A) → ((nth : Option ℕ) (name : Vec ℕ A) → p ≡ variants.AfterVar nth name → ⊥) → IsAfterVar (place_of p) → ⊥
-not_after variants.Bottom h k = k
-not_after (variants.BeforeVar nth name) h k = k
-not_after (variants.AfterVar nth name) h k = h nth name refl
-not_after (variants.BeforeRule nth target) h k = k
+-- the rule is split after which new lines go
+pub place-split : (ls : List ClassedLine) (p : Place) (f : Found) (r : Refusal) → IsPicked ls (place_address p) f → straddles_at ls p ≡ Some r → IsNotNew ls (AtPlace p) r
+place-split ls p f r P h =
+    let O = place-one_of ls p P.is_there P.is_one in
+    passed _ _ (Some r) (ap (λ b. where_holds b NoSuch) O.is_there) (passed _ _ (Some r) (ap (λ b. where_holds b (Ambiguous (length (place_stretches ls p)))) O.is_one) (holds _ [] r h))
 
 -- ---- runs
 
@@ -233,17 +258,6 @@ runs-not_one f nth ss r h =
 -- ---- sites
 
 -- the stretch of each kind of site
-pub site-top : (ls : List ClassedLine) (s : Site) (f : Found) → s ≡ Top → f ≡ first_place → IsOneAt ls (site_number s) (site_stretches ls s) (no_lines f)
-site-top ls s f e i =
-    subst (λ z. IsOneAt ls (site_number z) (site_stretches ls z) (no_lines f)) (sym e)
-    (record {
-      stretch = record { above = []; lines = []; below = ls };
-      picked_is = refl;
-      is_there = refl;
-      is_one = refl;
-      meant = record { stretch_is = refl; place_is = sym (ap (λ (z : Found). z.at) i); context_is = sym (ap (λ (z : Found). z.context) i); count_is = refl };
-    })
-
 pub site-place : (ls : List ClassedLine) (s : Site) (p : Place) (w : Window) → s ≡ AtPlace p → IsOneAt ls (site_number (AtPlace p)) (place_stretches ls p) w → IsOneAt ls (site_number s) (site_stretches ls s) w
 site-place ls s p w e R = subst (λ z. IsOneAt ls (site_number z) (site_stretches ls z) w) (sym e) R
 
@@ -257,19 +271,24 @@ site-after d s nth o w f e R i p =
     subst (λ z. IsOneAt ls (site_number z) (site_stretches ls z) (no_lines f)) (sym e) (end-one d nth (runs o ls) w f R i p)
 
 -- or none of them is meant
-pub site-not_place : (ls : List ClassedLine) (s : Site) (p : Place) (r : Refusal) → s ≡ AtPlace p → IsNotOne (site_number (AtPlace p)) (place_stretches ls p) r → IsNotOne (site_number s) (site_stretches ls s) r
-site-not_place ls s p r e h = subst (λ z. IsNotOne (site_number z) (site_stretches ls z) r) (sym e) h
+pub site-not_place : (ls : List ClassedLine) (s : Site) (p : Place) (r : Refusal) → s ≡ AtPlace p → IsNotNew ls (AtPlace p) r → IsNotNew ls s r
+site-not_place ls s p r e h = subst (λ z. IsNotNew ls z r) (sym e) h
 
-pub site-not_before : (ls : List ClassedLine) (s : Site) (nth : Option ℕ) (o : List (List ℕ)) (r : Refusal) → s ≡ BeforeRun nth o → IsNotOne nth (runs o ls) r → IsNotOne (site_number s) (site_stretches ls s) r
-site-not_before ls s nth o r e h = subst (λ z. IsNotOne (site_number z) (site_stretches ls z) r) (sym e) (runs-not_one before_run nth (runs o ls) r h)
+pub site-not_before : (ls : List ClassedLine) (s : Site) (nth : Option ℕ) (o : List (List ℕ)) (r : Refusal) → s ≡ BeforeRun nth o → IsNotOne nth (runs o ls) r → IsNotNew ls s r
+site-not_before ls s nth o r e h = subst (λ z. IsNotNew ls z r) (sym e) (one-more _ _ None r (runs-not_one before_run nth (runs o ls) r h))
 
-pub site-not_after : (ls : List ClassedLine) (s : Site) (nth : Option ℕ) (o : List (List ℕ)) (r : Refusal) → s ≡ AfterRun nth o → IsNotOne nth (runs o ls) r → IsNotOne (site_number s) (site_stretches ls s) r
-site-not_after ls s nth o r e h = subst (λ z. IsNotOne (site_number z) (site_stretches ls z) r) (sym e) (runs-not_one after_run nth (runs o ls) r h)
+pub site-not_after : (ls : List ClassedLine) (s : Site) (nth : Option ℕ) (o : List (List ℕ)) (r : Refusal) → s ≡ AfterRun nth o → IsNotOne nth (runs o ls) r → IsNotNew ls s r
+site-not_after ls s nth o r e h = subst (λ z. IsNotNew ls z r) (sym e) (one-more _ _ None r (runs-not_one after_run nth (runs o ls) r h))
+
+-- no rule is split there
+pub site-whole : (ls : List ClassedLine) (s q : Site) → s ≡ q → straddles_at_site ls q ≡ None → straddles_at_site ls s ≡ None
+site-whole ls s q e h = ap (straddles_at_site ls) e ∙ h
 
 -- a site that is no run
-pub site-new : {A : _} (s : sites.Site A) → ((nth : Option ℕ) (old : Vec ℕ A) → s ≡ site.OfLines nth old → ⊥) → IsOfNew (site_of s)
-site-new site.Top h = tt
-site-new (site.AtPlace p) h = tt
-site-new (site.BeforeLines nth old) h = tt
-site-new (site.AfterLines nth old) h = tt
-site-new (site.OfLines nth old) h = absurd (h nth old refl)
+pub site-new : {A : _} (s : sites.Site A) → ((nth : Option ℕ) (old : Vec ℕ A) → s ≡ site.OfLines nth old → ⊥) → ((nth : Option ℕ) (target : Vec ℕ A) → s ≡ site.OfRule nth target → ⊥)
+    → IsOfNew (site_of s)
+site-new (site.AtPlace p) h k = tt
+site-new (site.BeforeLines nth old) h k = tt
+site-new (site.AfterLines nth old) h k = tt
+site-new (site.OfLines nth old) h k = absurd (h nth old refl)
+site-new (site.OfRule nth target) h k = absurd (k nth target refl)

@@ -61,7 +61,7 @@ target-line c l t e =
     }
 
 -- a part is as wide as its range
-part-width : (cs : List Cell) (s e : ℕ) (b p : List (List Cell)) → IsPart cs s e b p → e ≡ s + width p
+pub part-width : (cs : List Cell) (s e : ℕ) (b p : List (List Cell)) → IsPart cs s e b p → e ≡ s + width p
 part-width cs s e b p h =
     let n : length (text_at (joined_text cs) (span s e)) ≡ e - s = text_at-length (joined_text cs) (span s e) (h.rises, omega (arith, h.within, length-map cs joined_byte)) in
     omega (arith, n, ap length h.text_is, length-map (concat p) joined_byte, h.rises)

@@ -1,12 +1,14 @@
 -- Words that chains list, but for those that are there.
 use Rattle.std.proofs.Common.{◌≡◌, refl, sym, ap, ◌∙◌, subst, ℕ, Bool, false, List, [], ◌∷◌, ◌++◌, append_assoc, map, inl, inr}
 use Rattle.std.specs.Prelude.{◌⊎◌}
+use Rattle.std.proofs.lemmas.List.{map-append}
 use Rattle.mk_tree.specs.LocatedLines.{LocatedLine, text_of_line}
 use Rattle.mk_edit_parts.specs.LocatedParts.{is_unread_located}
 use Rattle.mk_edit_parts.specs.RenamedRanges.{word_parts}
-use Rattle.mk_index.specs.Chains.{AreChainsOf, AreMentioned, IsMentioned, Mention, Stored, hash_of}
+use Rattle.mk_edit_parts.specs.Windows.{first_text}
+use Rattle.mk_index.specs.Chains.{AreChainsOf, AreMentioned, HaveListed, IsMentioned, Mention, Stored, hash_of}
 use Rattle.mk_index.specs.Exchanges.{AreAlike, HaveExchanged, HaveListedBut}
-use Rattle.mk_index.specs.Keys.{IsOneOf, hashes_of, keys_in, unread_key, words_of_parts}
+use Rattle.mk_index.specs.Keys.{IsOneOf, hashes_of, keys_in, listed, text_key, unread_key, words_of_parts}
 use Rattle.mk_index.specs.declared.keys.Scope.{Scope}
 use Rattle.mk_index.proofs.on_chains.KeyLemmas.{is_mentioned-more, mentioned-one}
 use Rattle.mk_index.proofs.on_chains.ListedLemmas.{Lists}
@@ -100,12 +102,22 @@ all-mentioned ms b (h ∷ hs) f = (f h (inl refl), all-mentioned ms b hs (λ x i
 abbrev pub words_hashed : Scope → LocatedLine → List ℕ
 words_hashed s l = map hash_of (words_of_parts s (text_of_line l) (word_parts l.class))
 
-only-words : (s : Scope) (l : LocatedLine) → is_unread_located l ≡ false → keys_in s (text_of_line l) l.class ≡ words_of_parts s (text_of_line l) (word_parts l.class) → hashes_of s l ≡ words_hashed s l
-only-words s l read keys =
-    ap (λ (u : Bool). map hash_of (unread_key u ++ keys_in s (text_of_line l) l.class)) read ∙ ap (map hash_of) keys
+-- the hash of what a line says, if that is listed
+abbrev pub text_hashed : Scope → LocatedLine → List ℕ
+text_hashed s l = map hash_of (listed s.lines (text_key (first_text l.bytes) ∷ []))
 
--- a line takes the place of one that is alike, once its words are listed
-pub alike-exchanged : (s : Scope) (k l : LocatedLine) (b : ℕ) (kept : Bool) (ms : List Mention) (c : Stored) → AreAlike k.class l.class → HaveListedBut (words_hashed s k) (words_hashed s l) b ms c → HaveExchanged s k l b kept ms c
+only-words : (s : Scope) (l : LocatedLine) → is_unread_located l ≡ false → keys_in s (text_of_line l) l.class ≡ words_of_parts s (text_of_line l) (word_parts l.class) → hashes_of s l ≡ text_hashed s l ++ words_hashed s l
+only-words s l read keys =
+    let text = listed s.lines (text_key (first_text l.bytes) ∷ []) in
+    ap (λ (u : Bool). map hash_of (text ++ (unread_key u ++ keys_in s (text_of_line l) l.class))) read
+    ∙ (ap (λ (ks : List (List ℕ)). map hash_of (text ++ ks)) keys ∙ map-append hash_of text (words_of_parts s (text_of_line l) (word_parts l.class)))
+
+-- hashes that are listed whatever is there
+abbrev pub but-all : (hs : List ℕ) (b : ℕ) (ms : List Mention) (c : Stored) → HaveListed hs b ms c → HaveListedBut [] hs b ms c
+but-all hs b ms c h = record { added = h.added; chains_are = h.chains_are; mentioned = λ x is. inr (mentioned-one (h.added ++ ms) b x hs h.mentioned is) }
+
+-- a line takes the place of one that is alike, once what it says and its words are listed
+pub alike-exchanged : (s : Scope) (k l : LocatedLine) (b : ℕ) (kept : Bool) (ms : List Mention) (c : Stored) → AreAlike k.class l.class → HaveListedBut (words_hashed s k) (text_hashed s l ++ words_hashed s l) b ms c → HaveExchanged s k l b kept ms c
 alike-exchanged s k l b kept ms c alike h = record {
   added = h.added;
   chains_are = h.chains_are;
@@ -113,8 +125,8 @@ alike-exchanged s k l b kept ms c alike h = record {
     mentioned = λ there.
         let old = subst (AreMentioned (h.added ++ ms) b) (only-words s k (alike.old_read (text_of_line k)) (alike.old_keys s (text_of_line k))) there in
         subst (AreMentioned (h.added ++ ms) b) (sym (only-words s l (alike.new_read (text_of_line l)) (alike.new_keys s (text_of_line l))))
-        (all-mentioned (h.added ++ ms) b (words_hashed s l) (λ x is. elim (h.mentioned x is) [
-          | inl was ↦ mentioned-one (h.added ++ ms) b x (words_hashed s k) old was
+        (all-mentioned (h.added ++ ms) b (text_hashed s l ++ words_hashed s l) (λ x is. elim (h.mentioned x is) [
+          | inl was ↦ mentioned-one (h.added ++ ms) b x (text_hashed s k ++ words_hashed s k) old (one-of-right x (text_hashed s k) (words_hashed s k) was)
           | inr new ↦ new
         ]));
     unread_is = alike.old_read (text_of_line k) ∙ sym (alike.new_read (text_of_line l));

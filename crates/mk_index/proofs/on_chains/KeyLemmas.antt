@@ -1,5 +1,5 @@
 -- What is mentioned, the keys of lines, and what a line is not whose keys lack a word.
-use Rattle.std.proofs.Common.{◌≡◌, refl, sym, ap, ◌∙◌, subst, ℕ, Bool, true, false, List, [], ◌∷◌, ◌++◌, map, append_assoc, arith, Option, Some, None, inl, inr, ◌||◌, length}
+use Rattle.std.proofs.Common.{◌≡◌, refl, sym, ap, ◌∙◌, subst, ℕ, Bool, true, false, List, [], ◌∷◌, ◌++◌, map, append_assoc, arith, Option, Some, None, inl, inr, ◌&&◌, ◌||◌, get_or, length}
 use Rattle.std.specs.Prelude.{◌⊎◌, nat_lt}
 use Rattle.std.proofs.lemmas.List.{map-append}
 use Rattle.std.specs.Str.{bytes_eq}
@@ -15,17 +15,18 @@ use Rattle.mk_class.specs.declared.class.Class as class
 use Rattle.mk_class.specs.declared.class.Class.TheVariants as variants
 use Rattle.mk_class.specs.Texts.{is_one_of}
 use Rattle.mk_tree.specs.LocatedLines.{LocatedLine, text_of_line}
-use Rattle.mk_edit_language.specs.Addresses.{Address, Variable, Rule}
+use Rattle.mk_edit_language.specs.Addresses.{Address, Variable, LastVariable, Valued, Commented, Rule, place_address}
+use Rattle.mk_edit_language.specs.Edits.{Site, AtPlace, BeforeRun, AfterRun, OfRun, OfRuleRun}
 use Rattle.mk_edit_parts.specs.RenamedRanges.{has_parts, span, word_parts, ArePartsWithin, part_ranges, parts_ranges, renamed_ranges}
 use Rattle.mk_edit_parts.specs.declared.word_parts.WordParts.{WordParts}
-use Rattle.mk_edit_parts.specs.LocatedParts.{IsClassed, assigns_in, is_rule_for_in, is_target_in, is_target_located, is_unread_located}
+use Rattle.mk_edit_parts.specs.LocatedParts.{IsClassed, assigns_in, assigns_located, has_value_located, is_rule_for_in, is_target_in, is_target_located, is_unread_located}
 use Rattle.mk_edit_parts.specs.Seeking.{may_mean}
-use Rattle.mk_edit_parts.specs.Windows.{concerns, concerns_rename}
+use Rattle.mk_edit_parts.specs.Windows.{concerns, concerns_rename, concerns_site, first_text, says_first}
 use Rattle.mk_edit_parts.proofs.on_finding.PartLemmas.{seen-header, seen-target_assign}
 use Rattle.mk_edit_parts.proofs.on_renaming.AbsentWords.{part-lacks}
 use Rattle.mk_edit_parts.proofs.on_renaming.RangeLemmas.{part-within}
 use Rattle.mk_index.specs.Chains.{AreMentioned, IsMentioned, Mention, hash_of}
-use Rattle.mk_index.specs.Keys.{IsListed, IsOneOf, keys_in, listed, words_of_parts, IsKeyOf, hashes_of, keys_of, unread_key}
+use Rattle.mk_index.specs.Keys.{IsListed, IsOneOf, IsSiteKey, IsSiteListed, keys_in, listed, words_of_parts, IsKeyOf, hashes_of, keys_of, text_key, unread_key}
 use Rattle.mk_index.specs.declared.keys.Scope.{Scope}
 
 -- ---- mentions
@@ -157,7 +158,10 @@ not-same v w h = go (bytes_eq v w) refl
 
 -- a word that is no key of a line
 no-key : (s : Scope) (w : List ℕ) (l : LocatedLine) → (IsOneOf (hash_of w) (hashes_of s l) → ⊥) → (is_one_of w (unread_key (is_unread_located l)) ≡ false) × (is_one_of w (keys_in s (text_of_line l) l.class) ≡ false)
-no-key s w l h = not-both w (unread_key (is_unread_located l)) (keys_in s (text_of_line l) l.class) (not-one w (keys_of s l) h)
+no-key s w l h =
+    let words = unread_key (is_unread_located l) ++ keys_in s (text_of_line l) l.class in
+    not-both w (unread_key (is_unread_located l)) (keys_in s (text_of_line l) l.class)
+    (not-both w (listed s.lines (text_key (first_text l.bytes) ∷ [])) words (not-one w (keys_of s l) h)).1
 
 not-unread : (u : Bool) → is_one_of [] (unread_key u) ≡ false → u ≡ false
 not-unread true h = absurd (false≢true (sym h))
@@ -246,10 +250,17 @@ not-rule t w variants.Rough h = refl
 untargeted : (s : Scope) (word : List ℕ) (l : LocatedLine) → s.targets ≡ true → (IsOneOf (hash_of word) (hashes_of s l) → ⊥) → is_target_located word l ≡ false
 untargeted s word l asked h = not-target s (text_of_line l) word l.class asked (no-key s word l h).1
 
+-- a name that is no key of a line is not assigned by it
+not-named : (s : Scope) (n : List ℕ) (l : LocatedLine) (h : ℕ) → s.names ≡ true → h ≡ hash_of n → (IsOneOf h (hashes_of s l) → ⊥) → assigns_located n l ≡ false
+not-named s n l h asked key none = not-assigned s (text_of_line l) n l.class asked (no-key s n l (λ m. none (subst (λ i. IsOneOf i (hashes_of s l)) (sym key) m))).1
+
 -- an address whose key is no key of a line does not mean it
 not-meant : (s : Scope) (a : Option Address) (l : LocatedLine) (h : ℕ) → IsListed s a → IsKeyOf a h → (IsOneOf h (hashes_of s l) → ⊥) → may_mean a l ≡ false
 not-meant s None l h asked key none = refl
-not-meant s (Some (Variable nth n)) l h asked key none = not-assigned s (text_of_line l) n l.class asked (no-key s n l (λ m. none (subst (λ i. IsOneOf i (hashes_of s l)) (sym key) m))).1
+not-meant s (Some (Variable nth n)) l h asked key none = not-named s n l h asked key none
+not-meant s (Some (LastVariable n)) l h asked key none = not-named s n l h asked key none
+not-meant s (Some (Valued nth n v)) l h asked key none = ap (λ q. q && has_value_located v l) (not-named s n l h asked key none)
+not-meant s (Some (Commented nth n)) l h asked key none = absurd asked
 not-meant s (Some (Rule nth t)) l h asked key none = not-rule (text_of_line l) t l.class (untargeted s t l asked (λ m. none (subst (λ i. IsOneOf i (hashes_of s l)) (sym key) m)))
 
 -- a line decides nothing for an address if neither the address's key nor the empty word is a key of
@@ -257,6 +268,38 @@ not-meant s (Some (Rule nth t)) l h asked key none = not-rule (text_of_line l) t
 pub unconcerned : (s : Scope) (a : Option Address) (l : LocatedLine) (h : ℕ) → IsListed s a → IsKeyOf a h → (IsOneOf h (hashes_of s l) → ⊥) → (IsOneOf 0 (hashes_of s l) → ⊥) → concerns a l ≡ false
 unconcerned s a l h asked key none read =
     ap (λ b. b || is_unread_located l) (not-meant s a l h asked key none) ∙ not-unread (is_unread_located l) (no-key s [] l read).0
+
+-- a line that does not begin as a block does
+untexted : (s : Scope) (b : List (List ℕ)) (l : LocatedLine) → s.lines ≡ true → (IsOneOf (hash_of (text_key (get_or b 0 []))) (hashes_of s l) → ⊥) → says_first b l ≡ false
+untexted s b l asked h = go (says_first b l) refl
+  where
+    go : (q : Bool) → says_first b l ≡ q → q ≡ false
+    go false is = refl
+    go true is =
+        let same : first_text l.bytes ≡ get_or b 0 [] = (bytes_eq-Decides (first_text l.bytes) (get_or b 0 [])).0 is in
+        let key = text_key (get_or b 0 []) in
+        let rest = unread_key (is_unread_located l) ++ keys_in s (text_of_line l) l.class in
+        absurd (h (subst (λ a. IsOneOf (hash_of key) (map hash_of (listed a (text_key (first_text l.bytes) ∷ []) ++ rest))) (sym asked) (inl (ap (λ t. hash_of (text_key t)) same))))
+
+-- a line decides nothing for a site if neither that by which the site's lines are found nor the empty
+-- word is a key of the line
+pub unsited : (s : Scope) (t : Site) (l : LocatedLine) (h : ℕ) → IsSiteListed s t → IsSiteKey t h → (IsOneOf h (hashes_of s l) → ⊥) → (IsOneOf 0 (hashes_of s l) → ⊥) → concerns_site t l ≡ false
+unsited s t l h asked key none read = go t asked key
+  where
+    run : (b : List (List ℕ)) → s.lines ≡ true → h ≡ hash_of (text_key (get_or b 0 [])) → (concerns None l || says_first b l) ≡ false
+    run b a k =
+        ap (λ q. q || says_first b l) (unconcerned s None l 0 tt tt read read)
+        ∙ untexted s b l a (λ m. none (subst (λ i. IsOneOf i (hashes_of s l)) (sym k) m))
+
+    other : (a : Option Address) → IsListed s a → IsKeyOf a h → (concerns a l || false) ≡ false
+    other a i k = ap (λ q. q || false) (unconcerned s a l h i k none read)
+
+    go : (t : Site) → IsSiteListed s t → IsSiteKey t h → concerns_site t l ≡ false
+    go (AtPlace p) a k = other (place_address p) a k
+    go (BeforeRun nth o) a k = run o a k
+    go (AfterRun nth o) a k = run o a k
+    go (OfRun nth o) a k = run o a k
+    go (OfRuleRun nth g) a k = other (Some (Rule nth g)) a k
 
 -- a line of which a word is no key has no range in which a rename replaces the word
 unrenamed : (s : Scope) (old : List ℕ) (l : LocatedLine) → s.targets ≡ true → s.prerequisites ≡ true → IsClassed l → (IsOneOf (hash_of old) (hashes_of s l) → ⊥) → renamed_ranges old l ≡ []

@@ -1,5 +1,5 @@
 -- A line in the place of another, which assigns the same variable.
-use Rattle.std.proofs.Common.{◌≡◌, sym, ap, ◌∙◌, subst, arith, ℕ, zero, suc, ◌+◌, ◌-◌, ◌≤◌, ◌||◌, List, [], ◌∷◌, ◌++◌, Bool, true, length, take, drop, map, Option, Some, None, if◌then◌else◌, inl, inr}
+use Rattle.std.proofs.Common.{◌≡◌, refl, sym, ap, ◌∙◌, subst, arith, ℕ, zero, suc, ◌+◌, ◌-◌, ◌≤◌, ◌||◌, List, [], ◌∷◌, ◌++◌, Bool, true, false, length, take, drop, map, Option, Some, None, if◌then◌else◌, inl, inr}
 use Rattle.std.specs.Prelude.{IfSome, slice_get, ◌⊎◌}
 use Rattle.std.specs.List.{list_any}
 use Rattle.mk_class.specs.Contexts.{Context, context_after_located, start}
@@ -9,23 +9,26 @@ use Rattle.mk_tree.specs.UnreadPrefixes.{IsEndOf}
 use Rattle.mk_tree.specs.declared.end.DocEnd.{DocEnd}
 use Rattle.std.specs.Str.{bytes_eq}
 use Rattle.mk_edit_parts.specs.LocatedParts.{AreEachClassed, IsClassed, assigns_in, assigns_located, is_unread_in, is_unread_located}
+use Rattle.mk_edit_parts.specs.Windows.{first_text}
 use Rattle.mk_edit_parts.specs.SeekWalks.{noted, noted_by, nothing_seen, seek}
 use Rattle.mk_edit_parts.specs.declared.seek.Sought.{Sought}
 use Rattle.mk_patch.specs.Moves.{Move, Exchange, after_moves}
 use Rattle.mk_index.specs.Blocks.{AreBlocks, AreLinesMentioned, expected_after}
 use Rattle.mk_index.specs.Chains.{AreMentioned, Mention, hash_of}
-use Rattle.mk_index.specs.Effects.{AssignSame, IsKnownFor, Known, StaysRight}
+use Rattle.mk_index.specs.Effects.{AssignSame, IsKnownFor, Known, ListsNoTexts, StaysRight}
 use Rattle.mk_index.specs.Exchanges.{IsHeld, TakesPlace}
 use Rattle.mk_index.specs.Indexes as indexes
 use Rattle.mk_index.specs.Indexes.{IsIndexOf}
-use Rattle.mk_index.specs.Keys.{hashes_of, keys_in, listed, unread_key}
+use Rattle.mk_index.specs.Keys.{hashes_of, keys_in, listed, text_key, unread_key}
 use Rattle.mk_index.specs.declared.blocks.Block.{Block}
 use Rattle.mk_index.specs.declared.keys.Scope.{Scope}
+use Rattle.mk_index.proofs.on_chains.KeyLemmas.{listed-none}
 use Rattle.mk_index.proofs.on_blocks.ChangedLines.{with-back, with-front, with-length, with_lines}
 
--- a line that assigns the same variable takes the place of another one, in each block
-same-place : (k l : LocatedLine) → AssignSame k l → (s : Scope) (ms : List Mention) (n : ℕ) → TakesPlace s ms n k l
-same-place k l h s ms n = record {
+-- a line that assigns the same variable takes the place of another one, in each block, unless what lines
+-- say is listed
+same-place : (k l : LocatedLine) → AssignSame k l → (s : Scope) (ms : List Mention) (n : ℕ) → s.lines ≡ false → TakesPlace s ms n k l
+same-place k l h s ms n none = record {
   mentioned = λ there. subst (AreMentioned ms n) hashes there;
   unread_is = unread;
   context_is = λ c. ap (context_after_located c) h.old_is ∙ sym (ap (context_after_located c) h.new_is);
@@ -35,9 +38,13 @@ same-place k l h s ms n = record {
     unread = ap (is_unread_in (text_of_line k)) h.old_is ∙ (ap is_prefix_name h.name_is ∙ sym (ap (is_unread_in (text_of_line l)) h.new_is))
 
     hashes : hashes_of s k ≡ hashes_of s l
-    hashes = ap (λ (b : Bool). map hash_of (unread_key b ++ keys_in s (text_of_line k) k.class)) unread
-        ∙ ap (λ (keys : List (List ℕ)). map hash_of (unread_key (is_unread_located l) ++ keys))
-        (ap (keys_in s (text_of_line k)) h.old_is ∙ (ap (λ (n : List ℕ). listed s.names (n ∷ [])) h.name_is ∙ sym (ap (keys_in s (text_of_line l)) h.new_is)))
+    hashes =
+        let text : LocatedLine → List (List ℕ) = λ x. listed s.lines (text_key (first_text x.bytes) ∷ []) in
+        let same : text k ≡ text l = listed-none s.lines (text_key (first_text k.bytes) ∷ []) none ∙ sym (listed-none s.lines (text_key (first_text l.bytes) ∷ []) none) in
+        ap (λ (t : List (List ℕ)). map hash_of (t ++ (unread_key (is_unread_located k) ++ keys_in s (text_of_line k) k.class))) same
+        ∙ (ap (λ (b : Bool). map hash_of (text l ++ (unread_key b ++ keys_in s (text_of_line k) k.class))) unread
+        ∙ ap (λ (keys : List (List ℕ)). map hash_of (text l ++ (unread_key (is_unread_located l) ++ keys)))
+        (ap (keys_in s (text_of_line k)) h.old_is ∙ (ap (λ (n : List ℕ). listed s.names (n ∷ [])) h.name_is ∙ sym (ap (keys_in s (text_of_line l)) h.new_is))))
 
 -- some lines with another at an index
 abbrev with_line : (at : ℕ) → LocatedLine → List LocatedLine → List LocatedLine
@@ -139,9 +146,10 @@ blocks-same s ms n o ls (b ∷ bs) end at k l there place h =
           }
     ]
 
-index-same : (ls : List LocatedLine) (at : ℕ) (k l : LocatedLine) (o : Option indexes.Stored) → Some k ≡ slice_get ls at → ((s : Scope) (ms : List Mention) (n : ℕ) → TakesPlace s ms n k l) → IfSome o (IsIndexOf ls) → IfSome o (IsIndexOf (with_line at l ls))
-index-same ls at k l None there same h = tt
-index-same ls at k l (Some i) there same h = record { mentions = h.mentions; chains_are = h.chains_are; blocks_are = blocks-same i.scope h.mentions 0 (Some start) ls i.blocks i.end at k l there (λ m number e held. same i.scope h.mentions number) h.blocks_are }
+index-same : (ls : List LocatedLine) (at : ℕ) (k l : LocatedLine) (o : Option indexes.Stored) → Some k ≡ slice_get ls at → ((s : Scope) (ms : List Mention) (n : ℕ) → s.lines ≡ false → TakesPlace s ms n k l) → IfSome o (λ i. i.scope.lines ≡ false) → IfSome o (IsIndexOf ls)
+    → IfSome o (IsIndexOf (with_line at l ls))
+index-same ls at k l None there same none h = tt
+index-same ls at k l (Some i) there same none h = record { mentions = h.mentions; chains_are = h.chains_are; blocks_are = blocks-same i.scope h.mentions 0 (Some start) ls i.blocks i.end at k l there (λ m number e held. same i.scope h.mentions number none) h.blocks_are }
 
 -- the lines end as before
 pub end-same-of : (ls : List LocatedLine) (at : ℕ) (k l : LocatedLine) (e : DocEnd) → Some k ≡ slice_get ls at → LeadsAlike k l → is_unread_located k ≡ is_unread_located l → IsEndOf ls e → IsEndOf (with_line at l ls) e
@@ -152,12 +160,12 @@ end-same ls at k l None there leads unread h = tt
 end-same ls at k l (Some e) there leads unread h = end-same-of ls at k l e there leads unread h
 
 -- what is known stays right
-exchanged-same : (doc : List LocatedLine) (ms : List Move) (at : ℕ) (k l : LocatedLine) → ms ≡ Exchange at l ∷ [] → Some k ≡ slice_get doc at → AssignSame k l → (known : Known) → IsKnownFor doc known → IsKnownFor (after_moves ms doc) known
-exchanged-same doc ms at k l is there same known h =
+exchanged-same : (doc : List LocatedLine) (ms : List Move) (at : ℕ) (k l : LocatedLine) → ms ≡ Exchange at l ∷ [] → Some k ≡ slice_get doc at → AssignSame k l → (known : Known) → ListsNoTexts known → IsKnownFor doc known → IsKnownFor (after_moves ms doc) known
+exchanged-same doc ms at k l is there same known none h =
     let place = same-place k l same in
-    let every : Scope = record { names = true; targets = true; prerequisites = true } in
-    let one = place every [] 0 in
-    subst (λ (ns : List Move). IsKnownFor (after_moves ns doc) known) (sym is) (record { index_is = index-same doc at k l known.index there place h.index_is; end_is = end-same doc at k l known.end there one.context_is one.unread_is h.end_is })
+    let every : Scope = record { names = true; targets = true; prerequisites = true; lines = false } in
+    let one = place every [] 0 refl in
+    subst (λ (ns : List Move). IsKnownFor (after_moves ns doc) known) (sym is) (record { index_is = index-same doc at k l known.index there place none h.index_is; end_is = end-same doc at k l known.end there one.context_is one.unread_is h.end_is })
 
 -- ---- the lines that assign a variable
 
@@ -181,7 +189,7 @@ seek-same p w s (x ∷ ls) (suc at) k l there test unread leads = ap (seek p w s
 -- what is known stays right, and the lines that assign a variable are noted as they are
 pub exchanged-right : (doc : List LocatedLine) (ms : List Move) (at : ℕ) (k l : LocatedLine) → ms ≡ Exchange at l ∷ [] → Some k ≡ slice_get doc at → AssignSame k l → StaysRight doc (after_moves ms doc)
 exchanged-right doc ms at k l is there same =
-    let one = same-place k l same (record { names = true; targets = true; prerequisites = true }) [] 0 in
+    let one = same-place k l same (record { names = true; targets = true; prerequisites = true; lines = false }) [] 0 refl in
     record {
       known = exchanged-same doc ms at k l is there same;
       named = λ n h w.

@@ -9,10 +9,10 @@ ghost use Rattle.mk_tree.specs.Printing.{Gathers};
 
 use crate::caveat::Caveat;
 use crate::gathering::put_parts;
+use crate::listing::numbered;
 use crate::walk::line_caveats;
 use mk_lines::Fault;
 use mk_lines::sink::{ByteSink, write_all};
-use mk_listing::numbered;
 use mk_tree::Doc;
 use mk_tree::gathering::Gathered;
 use std::alloc::Allocator;

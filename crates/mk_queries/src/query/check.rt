@@ -7,10 +7,10 @@ ghost use Rattle.mk_queries.specs.Queries.{check_text};
 ghost use Rattle.mk_queries.specs.Texts.{end_text, open_text, unread_text};
 
 use crate::gathering::put_parts;
+use crate::listing::numbered;
 use mk_class::{Class, Context};
 use mk_lines::Fault;
 use mk_lines::sink::{ByteSink, write_all};
-use mk_listing::numbered;
 use mk_tree::Doc;
 use mk_tree::gathering::Gathered;
 use std::alloc::Allocator;

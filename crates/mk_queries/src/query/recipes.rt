@@ -3,16 +3,16 @@ ghost use Rattle.std.specs.Prelude.{◌≡◌, Some, None, false};
 ghost use Rattle.std.specs.List.{flat_map};
 ghost use Rattle.mk_lines.specs.Device.{Writes};
 ghost use Rattle.mk_tree.specs.Printing.{Gathers};
-ghost use Rattle.mk_listing.specs.Items.{recipe_spot, rule_spot};
+ghost use Rattle.mk_queries.specs.Items.{recipe_spot, rule_spot};
 ghost use Rattle.mk_queries.specs.Queries.{recipes_text, rule_recipes};
 ghost use Rattle.mk_queries.specs.Texts.{before_recipe, recipe_text};
 
 use crate::gathering::put_parts;
+use crate::listing::{RecipeLine, RuleLine, Rules};
 use crate::position::put_position;
 use crate::words::put_targets;
 use mk_lines::Fault;
 use mk_lines::sink::{ByteSink, write_all};
-use mk_listing::{RecipeLine, RuleLine, Rules};
 use mk_tree::Doc;
 use mk_tree::gathering::{Gathered, put};
 use std::alloc::Allocator;
@@ -43,7 +43,7 @@ pub fn recipes<A: Allocator, W: ByteSink>(doc: &Doc<A>, out: &mut W) -> Result<(
     ensures { Writes W.contents W.failed W.flushes out.old out.new result
         (recipes_text None doc.now) }
 {
-    write_recipes(mk_listing::rule_lines(doc), out)
+    write_recipes(crate::listing::rule_lines(doc), out)
 }
 
 /// Writes those lines of [`recipes`] alone that tell of a rule for this target, or of its recipe lines.
@@ -61,7 +61,7 @@ pub fn recipes_named<A: Allocator, W: ByteSink>(
     ensures { Writes W.contents W.failed W.flushes out.old out.new result
         (recipes_text (Some target.now) doc.now) }
 {
-    write_recipes(mk_listing::rule_lines_for(doc, target), out)
+    write_recipes(crate::listing::rule_lines_for(doc, target), out)
 }
 
 // Writes the lines on the recipe lines of some rules.

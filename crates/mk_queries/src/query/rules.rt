@@ -3,16 +3,16 @@ ghost use Rattle.std.specs.Prelude.{◌≡◌, ◌≤◌, Some, None, false, opt
 ghost use Rattle.std.specs.List.{flat_map};
 ghost use Rattle.mk_lines.specs.Device.{Writes};
 ghost use Rattle.mk_tree.specs.Printing.{Gathers};
-ghost use Rattle.mk_listing.specs.Items.{rule_spot};
+ghost use Rattle.mk_queries.specs.Items.{rule_spot};
 ghost use Rattle.mk_queries.specs.Queries.{rules_text};
 ghost use Rattle.mk_queries.specs.Texts.{count_text, inline_count, order_only_text, pattern_text, rule_text};
 
 use crate::gathering::put_parts;
+use crate::listing::{RuleLine, Rules};
 use crate::position::put_position;
 use crate::words::{put_targets, put_words};
 use mk_lines::Fault;
 use mk_lines::sink::{ByteSink, write_all};
-use mk_listing::{RuleLine, Rules};
 use mk_tree::gathering::Gathered;
 use mk_tree::{Doc, RuleRef, WordTexts};
 use std::alloc::Allocator;
@@ -38,7 +38,7 @@ pub fn rules<A: Allocator, W: ByteSink>(doc: &Doc<A>, out: &mut W) -> Result<(),
     requires { W.failed out.old ≡ false }
     ensures { Writes W.contents W.failed W.flushes out.old out.new result (rules_text None doc.now) }
 {
-    write_rules(mk_listing::rule_lines(doc), out)
+    write_rules(crate::listing::rule_lines(doc), out)
 }
 
 /// Writes those lines of [`rules`] alone that tell of a rule for this target. Nothing is flushed.
@@ -56,7 +56,7 @@ pub fn rules_named<A: Allocator, W: ByteSink>(
     ensures { Writes W.contents W.failed W.flushes out.old out.new result
         (rules_text (Some target.now) doc.now) }
 {
-    write_rules(mk_listing::rule_lines_for(doc, target), out)
+    write_rules(crate::listing::rule_lines_for(doc, target), out)
 }
 
 // Writes a line on each of some rules.

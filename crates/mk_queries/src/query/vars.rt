@@ -8,16 +8,16 @@ ghost use Rattle.mk_lines.specs.Spacing.{after_space};
 ghost use Rattle.mk_class.specs.OperatorTexts.{operator_text};
 ghost use Rattle.mk_tree.specs.Printing.{Gathers};
 ghost use Rattle.mk_tree.specs.Trees.{line_view};
-ghost use Rattle.mk_listing.specs.Listings.{is_of};
+ghost use Rattle.mk_queries.specs.Listings.{is_of};
 ghost use Rattle.mk_queries.specs.Queries.{said_if, variable_line, vars_text};
 ghost use Rattle.mk_queries.specs.Texts.{assigned_text, position_text, target_assigned_text};
 
 use crate::gathering::put_parts;
+use crate::listing::{Position, is_of, numbered};
 use crate::position::put_position;
 use crate::words::{put_targets, put_words};
 use mk_lines::Fault;
 use mk_lines::sink::{ByteSink, write_all};
-use mk_listing::{Position, is_of, numbered};
 use mk_tree::gathering::Gathered;
 use mk_tree::{AssignmentRef, Doc, Line, TargetAssignmentRef};
 use std::alloc::Allocator;

@@ -10,7 +10,7 @@ use Rattle.mk_class.specs.OperatorTexts.{operator_text}
 use Rattle.mk_tree.specs.Items.{Sets, Item}
 use Rattle.mk_tree.specs.Items.Item.{Assign, TargetAssign, Header, Recipe, Endef, Body, Opaque, DefineHead, If, Else, Endif, Directive, Rough}
 use Rattle.mk_tree.specs.Readings.{reading}
-use Rattle.mk_edit_language.specs.Edits.{Edit, ChangeLine, EachLine}
+use Rattle.mk_edit_language.specs.Edits.{SetIf, ReplacePrereq, Edit, ChangeValue, ChangeLine, ChangePrereqs, SwitchLine, EachLine}
 use Rattle.mk_edit_language.specs.Refusals.{spans}
 use Rattle.mk_edit_language.specs.Costs.{cost, size}
 use Rattle.mk_edit_language.specs.Changes.{change}
@@ -89,8 +89,8 @@ abbrev pub outcome : (text : List ℕ) → Edit → Outcome
 outcome t e = outcome_by t e (spans t e)
 
 -- The outcome with the measures of the edit: its cost (how many lines it reads again at most), and, if it is accepted, its size
--- (how many lines it takes out or replaces at most) and its spans. An edit that is checked by reading reads its lines where no
--- other cause than `Misread` holds: of the others the tables say that no line is read, and the definitions how many at most, so
+-- (how many lines it takes out or replaces at most) and its spans. Some edits read their lines only where no other cause than
+-- `Misread` holds: of the others the tables say that no line is read, and the definitions how many at most, so
 -- the cost is left out.
 pub data Account : Type 0 where
   Accepted : (cost size : ℕ) → (spans : List Replacement) → Outcome → Account
@@ -99,6 +99,11 @@ pub data Account : Type 0 where
 
 abbrev account_by : (text : List ℕ) → Edit → Result (List Replacement) Refusal → Account
 account_by t e (Ok rs) = Accepted (cost t e) (size t e) rs (outcome_by t e (Ok rs))
+account_by t (ChangeValue w n (SetIf o v)) (Err r) = NotTried r
+account_by t (ChangePrereqs nth g (ReplacePrereq o n)) (Err Misread) = NotMade (cost t (ChangePrereqs nth g (ReplacePrereq o n))) Misread
+account_by t (ChangePrereqs nth g (ReplacePrereq o n)) (Err r) = NotTried r
+account_by t (SwitchLine s nth n) (Err Misread) = NotMade (cost t (SwitchLine s nth n)) Misread
+account_by t (SwitchLine s nth n) (Err r) = NotTried r
 account_by t (ChangeLine nth n c) (Err Misread) = NotMade (cost t (ChangeLine nth n c)) Misread
 account_by t (ChangeLine nth n c) (Err r) = NotTried r
 account_by t (EachLine e) (Err Misread) = NotMade (cost t (EachLine e)) Misread

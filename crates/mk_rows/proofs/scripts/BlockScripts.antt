@@ -2,7 +2,7 @@
 use Rattle.std.proofs.Common.{◌≡◌, refl, ℕ, List, [], ◌∷◌, map, Some, None}
 use Rattle.std.specs.Prelude.{codes, Result, Ok, Err}
 use Rattle.bstr.specs.Text.{line_len, lines_from}
-use Rattle.mk_edit_language.specs.Edits.{Bottom, Top, BeforeVar, BeforeRun, AfterRun}
+use Rattle.mk_edit_language.specs.Edits.{Top, Bottom, BeforeVar, BeforeRun, AfterRun}
 use Rattle.mk_edit_language.specs.Edits.{One, ByText, AtPlace, OfRun, ChangeValue, SetRecipe, ExchangeLines}
 use Rattle.mk_edit_language.specs.Edits as edits
 use Rattle.mk_edit_language.specs.LineRuns.{block_lines}
@@ -13,10 +13,10 @@ use Rattle.mk_rows.proofs.scripts.ScriptReader.{on_line, edit_on, tried_on, read
 abbrev rows_1 : List (List ℕ × Result (List Step) ℕ)
 rows_1 =
     (codes "line-replace <<A <<B\nx\ny\nA\nz\nB\nset X 1\n", Ok (on_line 1 (Apply (ExchangeLines (OfRun None (block_lines (codes "x\ny"))) (block_lines (codes "z")))) ∷ on_line 7 (Apply (ChangeValue (One None) (codes "X") (edits.Set (codes "1")))) ∷ [])) ∷  -- two-blocks
-    (codes "insert top <<E\nset X 1\n# n\nE\n", Ok (on_line 1 (Apply (ExchangeLines Top (block_lines (codes "set X 1\n# n")))) ∷ [])) ∷  -- lines-like-commands
-    (codes "insert top <<\nset X 1", Ok (on_line 1 (Apply (ExchangeLines Top (block_lines (codes "<<")))) ∷ on_line 2 (Apply (ChangeValue (One None) (codes "X") (edits.Set (codes "1")))) ∷ [])) ∷  -- a-mark-without-a-word
-    (codes "insert top \"<<E\"\nset X 1", Ok (on_line 1 (Apply (ExchangeLines Top (block_lines (codes "<<E")))) ∷ on_line 2 (Apply (ChangeValue (One None) (codes "X") (edits.Set (codes "1")))) ∷ [])) ∷  -- a-mark-between-quotes
-    (codes "insert top <<E\r\nx\r\ny\r\nE\r\nset X 1\r\n", Ok (on_line 1 (Apply (ExchangeLines Top (block_lines (codes "x\ny")))) ∷ on_line 5 (Apply (ChangeValue (One None) (codes "X") (edits.Set (codes "1")))) ∷ [])) ∷  -- line-ends-of-two-bytes
+    (codes "insert top <<E\nset X 1\n# n\nE\n", Ok (on_line 1 (Apply (ExchangeLines (AtPlace Top) (block_lines (codes "set X 1\n# n")))) ∷ [])) ∷  -- lines-like-commands
+    (codes "insert top <<\nset X 1", Ok (on_line 1 (Apply (ExchangeLines (AtPlace Top) (block_lines (codes "<<")))) ∷ on_line 2 (Apply (ChangeValue (One None) (codes "X") (edits.Set (codes "1")))) ∷ [])) ∷  -- a-mark-without-a-word
+    (codes "insert top \"<<E\"\nset X 1", Ok (on_line 1 (Apply (ExchangeLines (AtPlace Top) (block_lines (codes "<<E")))) ∷ on_line 2 (Apply (ChangeValue (One None) (codes "X") (edits.Set (codes "1")))) ∷ [])) ∷  -- a-mark-between-quotes
+    (codes "insert top <<E\r\nx\r\ny\r\nE\r\nset X 1\r\n", Ok (on_line 1 (Apply (ExchangeLines (AtPlace Top) (block_lines (codes "x\ny")))) ∷ on_line 5 (Apply (ChangeValue (One None) (codes "X") (edits.Set (codes "1")))) ∷ [])) ∷  -- line-ends-of-two-bytes
     (codes "set X 1\nor insert bottom <<E\na\nb\nE\nor set X 2", Ok (Chain (edit_on 1 (ChangeValue (One None) (codes "X") (edits.Set (codes "1")))) (edit_on 2 (ExchangeLines (AtPlace Bottom) (block_lines (codes "a\nb")))) ((edit_on 6 (ChangeValue (One None) (codes "X") (edits.Set (codes "2")))) ∷ []) ∷ [])) ∷  -- or-with-a-block
     (codes "try nth 2 line-remove <<E\na\nb\nE", Ok (tried_on 1 (ExchangeLines (OfRun (Some 2) (block_lines (codes "a\nb"))) []) ∷ [])) ∷  -- try-and-nth-with-a-block
     (codes "insert top <<E\na\nb", Err 1) ∷  -- a-word-that-never-comes
@@ -27,8 +27,8 @@ rows_1 =
     (codes "insert before-line a <<E-F\nset X 1", Ok (on_line 1 (Apply (ExchangeLines (BeforeRun None (block_lines (codes "a"))) (block_lines (codes "<<E-F")))) ∷ on_line 2 (Apply (ChangeValue (One None) (codes "X") (edits.Set (codes "1")))) ∷ [])) ∷  -- a-mark-with-another-byte
     (codes "insert after-line <<1 \"\"\n\n1", Ok (on_line 1 (Apply (ExchangeLines (AfterRun None (block_lines [])) (block_lines []))) ∷ [])) ∷  -- a-block-of-one-empty-line
     (codes "recipe-replace a <<E <<E", Ok (on_line 1 (Apply (SetRecipe None (codes "a") (ByText (codes "<<E")) (codes "<<E"))) ∷ [])) ∷  -- marks-of-a-command-without-blocks
-    (codes "insert top <<E\n\nE", Ok (on_line 1 (Apply (ExchangeLines Top (block_lines []))) ∷ [])) ∷  -- an-empty-line-alone
-    (codes "\"insert\" \"top\" <<_\n\tx\n_\n\n", Ok (on_line 1 (Apply (ExchangeLines Top (block_lines (codes "\tx")))) ∷ [])) ∷  -- words-between-quotes
+    (codes "insert top <<E\n\nE", Ok (on_line 1 (Apply (ExchangeLines (AtPlace Top) (block_lines []))) ∷ [])) ∷  -- an-empty-line-alone
+    (codes "\"insert\" \"top\" <<_\n\tx\n_\n\n", Ok (on_line 1 (Apply (ExchangeLines (AtPlace Top) (block_lines (codes "\tx")))) ∷ [])) ∷  -- words-between-quotes
     (codes "# c\ninsert top <<E x\nE", Err 2) ∷  -- a-field-behind-a-mark
     (codes "or insert top <<E\na\nE", Err 1) ∷  -- a-stray-or-with-a-block
     (codes "nth 1 line-replace x <<Ab0\nAb0 \nab0\nAb0", Ok (on_line 1 (Apply (ExchangeLines (OfRun (Some 1) (block_lines (codes "x"))) (block_lines (codes "Ab0 \nab0")))) ∷ [])) ∷  -- lines-nearly-the-word

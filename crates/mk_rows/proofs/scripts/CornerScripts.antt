@@ -4,9 +4,10 @@ use Rattle.std.specs.Prelude.{codes, Result, Ok, Err}
 use Rattle.bstr.specs.Text.{line_len, lines_from}
 use Rattle.mk_class.specs.declared.assignment.Flavor.TheVariants.{Recursive, Simple, PosixSimple, Immediate, Conditional, Append, Shell}
 use Rattle.mk_edit_language.specs.declared.edit.RuleSeparator.TheVariants.{Single, Double}
-use Rattle.mk_edit_language.specs.Edits.{Bottom, BeforeVar, AfterVar, BeforeRule}
-use Rattle.mk_edit_language.specs.Edits.{One, Every, NewAssign, NewRule, AddPrereq, RemovePrereq, ByNumber, Last, OfAssign, OfRule, OfRecipe, ChangeEach, SubstValues, SubstRecipe, SubstRecipes, ChangeValue, ChangePrereqs, AddLine, AddRecipe, SetRecipe, RemoveLines, RenameTarget, EachLine}
+use Rattle.mk_edit_language.specs.Edits.{Top, Bottom, AfterLastVar, BeforeVar, AfterVar, BeforeRule, AfterRule}
+use Rattle.mk_edit_language.specs.Edits.{One, Every, NewAssign, NewRule, AddPrereq, RemovePrereq, ReplacePrereq, ByNumber, Last, OfAssign, OfRule, OfRecipe, CommentOut, Uncomment, OfRuleRun, ChangeEach, SubstValues, SubstRecipe, SubstRecipes, ChangeValue, ChangePrereqs, AddLine, AddRecipe, SetRecipe, RemoveLines, SwitchLine, RenameTarget, ExchangeLines, EachLine}
 use Rattle.mk_edit_language.specs.Edits as edits
+use Rattle.mk_edit_language.specs.LineRuns.{block_lines}
 use Rattle.mk_history.specs.Machine.{Apply, Undo, Redo, Begin, End, Cancel}
 use Rattle.mk_script.specs.Scripts.{Step, Chain}
 use Rattle.mk_rows.proofs.scripts.ScriptReader.{on_line, edit_on, tried_on, read_script}
@@ -115,8 +116,8 @@ rows_2 =
     (codes "assign bottom X == 1", Err 1) ∷  -- no-operator
     (codes "rule bottom a &: b", Err 1) ∷  -- no-separator
     (codes "rule bottom a ::: b", Err 1) ∷  -- three-colons
-    (codes "assign top X = 1", Err 1) ∷  -- no-place
-    (codes "assign after-rule t X = 1", Err 1) ∷  -- a-place-after-a-rule
+    (codes "assign end X = 1", Err 1) ∷  -- no-place
+    (codes "assign behind-rule t X = 1", Err 1) ∷  -- a-place-behind-a-rule
     (codes "rule bottom a = b", Err 1) ∷  -- an-operator-where-a-separator-stands
     (codes "assign bottom X =", Err 1) ∷  -- no-value
     (codes "assign bottom X = \"\"", Ok (on_line 1 (Apply (AddLine Bottom (NewAssign (codes "X") Recursive []))) ∷ [])) ∷  -- an-empty-value
@@ -233,8 +234,30 @@ rows_4 =
     (codes "nth 1 recipes-subst a b", Err 1) ∷  -- nth-before-a-change-of-all-recipes
     (codes "values-subst a b\nor recipes-subst a b\nor recipe-subst t a b\nor all subst X a b", Ok (Chain (edit_on 1 (EachLine (SubstValues (codes "a") (codes "b")))) (edit_on 2 (EachLine (SubstRecipes (codes "a") (codes "b")))) ((edit_on 3 (EachLine (SubstRecipe None (codes "t") (codes "a") (codes "b")))) ∷ (edit_on 4 (EachLine (ChangeEach (codes "X") (edits.Substitute (codes "a") (codes "b"))))) ∷ []) ∷ [])) ∷  -- a-chain-of-edits-of-several-lines
     (codes "values-subst <<E <<F\nset X 1", Ok (on_line 1 (Apply (EachLine (SubstValues (codes "<<E") (codes "<<F")))) ∷ on_line 2 (Apply (ChangeValue (One None) (codes "X") (edits.Set (codes "1")))) ∷ [])) ∷  -- a-mark-in-a-change-of-all-values
+    (codes "nth 2 assign after-rule t X = 1", Ok (on_line 1 (Apply (AddLine (AfterRule (Some 2) (codes "t")) (NewAssign (codes "X") Recursive (codes "1")))) ∷ [])) ∷  -- a-place-after-a-rule
+    (codes "rule after-last-var X a : b", Ok (on_line 1 (Apply (AddLine (AfterLastVar (codes "X")) (NewRule (codes "a") Single (codes "b")))) ∷ [])) ∷  -- a-place-after-the-last-variable
+    (codes "assign top X = 1", Ok (on_line 1 (Apply (AddLine Top (NewAssign (codes "X") Recursive (codes "1")))) ∷ [])) ∷  -- a-place-at-the-top
+    (codes "nth 1 assign top X = 1", Err 1) ∷  -- a-number-before-the-top
     []
 
 answers_4 : map (λ row. read_script row.0) rows_4 ≡ map (λ row. row.1) rows_4
 unfolding line_len lines_from
 answers_4 = refl
+
+abbrev rows_5 : List (List ℕ × Result (List Step) ℕ)
+rows_5 =
+    (codes "nth 1 insert after-last-var X y", Err 1) ∷  -- a-number-before-the-last-variable
+    (codes "insert after-last-var y", Err 1) ∷  -- no-name-of-the-last-variable
+    (codes "nth 2 set-if A B C", Ok (on_line 1 (Apply (ChangeValue (One (Some 2)) (codes "A") (edits.SetIf (codes "B") (codes "C")))) ∷ [])) ∷  -- a-value-that-is-expected
+    (codes "all set-if A \"\" C", Ok (on_line 1 (Apply (ChangeValue Every (codes "A") (edits.SetIf [] (codes "C")))) ∷ [])) ∷  -- all-that-have-a-value
+    (codes "set-if A B", Err 1) ∷  -- a-value-that-is-expected-alone
+    (codes "depend-replace t a b", Ok (on_line 1 (Apply (ChangePrereqs None (codes "t") (ReplacePrereq (codes "a") (codes "b")))) ∷ [])) ∷  -- a-prerequisite-replaced
+    (codes "comment-out A\nnth 3 uncomment B", Ok (on_line 1 (Apply (SwitchLine CommentOut None (codes "A"))) ∷ on_line 2 (Apply (SwitchLine Uncomment (Some 3) (codes "B"))) ∷ [])) ∷  -- comments-that-switch
+    (codes "all uncomment A", Err 1) ∷  -- all-comments
+    (codes "nth 2 rule-replace t x", Ok (on_line 1 (Apply (ExchangeLines (OfRuleRun (Some 2) (codes "t")) (block_lines (codes "x")))) ∷ [])) ∷  -- a-rule-replaced
+    (codes "rule-remove t", Ok (on_line 1 (Apply (ExchangeLines (OfRuleRun None (codes "t")) [])) ∷ [])) ∷  -- a-rule-removed
+    []
+
+answers_5 : map (λ row. read_script row.0) rows_5 ≡ map (λ row. row.1) rows_5
+unfolding line_len lines_from
+answers_5 = refl

@@ -1,7 +1,7 @@
 -- `all` begins the edits of every assignment of a name, and no other command.
 use Rattle.std.proofs.Common.{◌≡◌, ℕ, List, [], ◌∷◌, ◌++◌, map, refl, sym, ap, ◌∙◌, subst, codes}
 use Rattle.std.specs.Prelude.{Some, option_map, option_and_then}
-use Rattle.mk_edit_language.specs.Edits.{Every, ValueChange, Set, Append, Add, Remove, LineChange, Prepend, ReplaceWord, InsertWord, Substitute, SetOperator, ChangeEach, Edit, ChangeValue, EachLine}
+use Rattle.mk_edit_language.specs.Edits.{Every, ValueChange, Set, SetIf, Append, Add, Remove, LineChange, Prepend, ReplaceWord, InsertWord, Substitute, SetOperator, ChangeEach, Edit, ChangeValue, EachLine}
 use Rattle.mk_history.specs.Machine.{Command, Apply}
 use Rattle.mk_script.specs.Lines.{Plain}
 use Rattle.mk_script.specs.Fields.{Field, text}
@@ -9,7 +9,7 @@ use Rattle.mk_script.specs.CommandTable.{command_fields, IsCommand}
 use Rattle.mk_script.specs.BlockReading.{plain_behind_try, plain_fields}
 use Rattle.mk_script.proofs.on_commands.TextContents.{AreCommand}
 use Rattle.mk_script.specs.ScriptLaws.{IsOfEveryLine, BeginWith, AllBeginsItsEdits}
-use Rattle.mk_script.specs.CommandReading.{Texts, front, two, worded, line_change, change_each, edit_with, edit_by}
+use Rattle.mk_script.specs.CommandReading.{Texts, front, two, three, worded, line_change, change_each, edit_with, edit_by}
 use Rattle.mk_script.specs.declared.table.Word.{Word}
 use Rattle.mk_script.specs.declared.table.Word.TheVariants as word
 use Rattle.mk_script.proofs.on_commands.TableLemmas.{mapped, chained}
@@ -35,6 +35,8 @@ change_each-every w fs e h = each-every w fs e h
 
 with-every : (w : Word) (fs : Texts) (e : Edit) → edit_with Every w fs ≡ Some e → IsOfEveryLine (Apply e)
 with-every word.Set fs e h = change-every Set fs e h
+with-every word.SetIf fs e h =
+    subst (λ x. IsOfEveryLine (Apply x)) (mapped (λ (p : List ℕ × List ℕ × List ℕ). ChangeValue Every p.0 (SetIf p.1 p.2)) (three fs) e h).2 tt
 with-every word.Append fs e h = change-every Append fs e h
 with-every word.Add fs e h = change-every Add fs e h
 with-every word.Drop fs e h = change-every Remove fs e h

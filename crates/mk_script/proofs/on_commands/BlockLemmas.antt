@@ -2,7 +2,7 @@
 use Rattle.std.proofs.Common.{◌≡◌, refl, sym, ap, ◌∙◌, ℕ, List, [], ◌∷◌, ◌++◌, Bool, true, false, codes}
 use Rattle.std.specs.Prelude.{◌==◌, Option, Some, None}
 use Rattle.std.proofs.lemmas.Bool.{eqb-true}
-use Rattle.mk_edit_language.specs.Edits.{Site, Top, AtPlace, BeforeRun, AfterRun, OfRun, InsertWord, ChangeEach, Edit, ExchangeLines, EachLine}
+use Rattle.mk_edit_language.specs.Edits.{Site, AtPlace, BeforeRun, AfterRun, OfRun, OfRuleRun, InsertWord, ChangeEach, Edit, ExchangeLines, EachLine}
 use Rattle.mk_edit_language.specs.LineRuns.{before_texts, block_lines}
 use Rattle.mk_edit_language.proofs.on_line_runs.BlockTexts.{block-some}
 use Rattle.mk_history.specs.Machine.{Apply}
@@ -28,11 +28,11 @@ some_lines site t = go site (block_lines t) (block-some t)
   where
     go : (site : Site) (ls : List (List ℕ)) → (ls ≡ [] → ⊥) → has_no_command (ExchangeLines site ls) ≡ false
     go site [] some = absurd (some refl)
-    go Top (l ∷ ls) some = refl
     go (AtPlace place) (l ∷ ls) some = refl
     go (BeforeRun nth old) (l ∷ ls) some = refl
     go (AfterRun nth old) (l ∷ ls) some = refl
     go (OfRun nth old) (l ∷ ls) some = refl
+    go (OfRuleRun nth target) (l ∷ ls) some = refl
 
 -- no field has no lines
 never-had : (contents : List Content) (fields : List Field) (below : List (List ℕ)) → HaveContents fields below (contents ++ Block [] ∷ []) → ⊥
@@ -47,7 +47,6 @@ never-inserted (Some n) site fields below h = never-had (Text (codes "nth") ∷ 
 
 -- no command is an edit that lacks its block, or puts words beside others in each value
 pub never-said : (e : Edit) → has_no_command e ≡ true → (fields : List Field) (below : List (List ℕ)) → IsCommand fields below (Apply e) → ⊥
-never-said (ExchangeLines Top []) h fields below is = never-inserted None (Text (codes "top") ∷ []) fields below is
 never-said (ExchangeLines (AtPlace place) []) h fields below is = never-inserted (nth_of_place place) (texts (place_words place)) fields below is
 never-said (ExchangeLines (BeforeRun nth old) []) h fields below is = never-inserted nth (Text (codes "before-line") ∷ Block old ∷ []) fields below is
 never-said (ExchangeLines (AfterRun nth old) []) h fields below is = never-inserted nth (Text (codes "after-line") ∷ Block old ∷ []) fields below is

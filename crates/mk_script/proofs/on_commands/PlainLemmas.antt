@@ -3,7 +3,7 @@ use Rattle.std.proofs.Common.{◌≡◌, ℕ, ◌+◌, ◌-◌, ◌≤◌, true,
 use Rattle.std.specs.Prelude.{nat_lt, Option, Some, None, option_map}
 use Rattle.std.proofs.lemmas.Bool.{lt-ltb}
 use Rattle.mk_class.specs.OperatorTexts.{operator_text}
-use Rattle.mk_edit_language.specs.Edits.{Place, Bottom, BeforeVar, AfterVar, BeforeRule, Site, Top, AtPlace, BeforeRun, AfterRun, OfRun, NewAssign, NewRule, One, Every, ValueChange, Set, Append, Add, Remove, LineChange, Prepend, ReplaceWord, InsertWord, Substitute, SetOperator, EachEdit, ChangeEach, SubstValues, SubstRecipe, SubstRecipes, AddPrereq, RemovePrereq, ByNumber, ByText, Last, At, OfAssign, OfRule, OfRecipe, Edit, ChangeValue, ChangeLine, ChangePrereqs, AddLine, AddRecipe, SetRecipe, RemoveLines, RenameTarget, ExchangeLines, EachLine}
+use Rattle.mk_edit_language.specs.Edits.{Place, Top, Bottom, BeforeVar, AfterVar, AfterLastVar, BeforeRule, AfterRule, Site, AtPlace, BeforeRun, AfterRun, OfRun, OfRuleRun, NewAssign, NewRule, One, Every, ValueChange, Set, SetIf, Append, Add, Remove, LineChange, Prepend, ReplaceWord, InsertWord, Substitute, SetOperator, EachEdit, ChangeEach, SubstValues, SubstRecipe, SubstRecipes, AddPrereq, RemovePrereq, ReplacePrereq, ByNumber, ByText, Last, At, OfAssign, OfRule, OfRecipe, CommentOut, Uncomment, Edit, ChangeValue, ChangeLine, ChangePrereqs, AddLine, AddRecipe, SetRecipe, RemoveLines, RenameTarget, ExchangeLines, SwitchLine, EachLine}
 use Rattle.mk_edit_language.specs.declared.edit.Side.TheVariants.{Before, After}
 use Rattle.mk_edit_language.specs.NewLines.{rule_separator_text}
 use Rattle.mk_history.specs.Machine.{Command, Apply, Undo, Redo, Begin, End, Cancel}
@@ -56,9 +56,7 @@ at-some (Some spot.Top) = refl
 at-some (Some spot.Bottom) = refl
 at-some (Some spot.BeforeLine) = refl
 at-some (Some spot.AfterLine) = refl
-at-some (Some spot.BeforeVar) = refl
-at-some (Some spot.AfterVar) = refl
-at-some (Some spot.BeforeRule) = refl
+at-some (Some w) = refl
 
 same-in_place : (ts us : Texts) → Agree (plain_in_place ts) ts us → plain_in_place ts ≡ plain_in_place us
 same-in_place [] [] h = refl
@@ -70,6 +68,7 @@ same-behind : (w : Word) (ts us : Texts) → Agree (plain_behind w ts) ts us →
 same-behind word.Insert ts us h = same-in_place ts us h
 same-behind word.LineReplace ts us h = refl
 same-behind word.LineRemove ts us h = refl
+same-behind word.RuleReplace ts us h = refl
 same-behind w ts us h = refl
 
 same-behind_nth : (w : Word) (ts us : Texts) → Agree (plain_behind_nth w ts) ts us → plain_behind_nth w ts ≡ plain_behind_nth w us
@@ -146,12 +145,14 @@ text-edit nth w us is no_nth no_try all few = numbered-fit nth w (texts us) is n
 change-fit : (nth : Option ℕ) (name : List ℕ) (change : ValueChange) (ts : Texts) → HavePlain ts (after_nth nth (texts (change_words name change)))
     → AreFit ts (after_nth nth (texts (change_words name change)))
 change-fit nth name (Set value) = text-edit nth word.Set (name ∷ value ∷ []) refl (λ fs. refl) (λ fs. refl) (λ fs. refl) (omega arith)
+change-fit nth name (SetIf old value) = text-edit nth word.SetIf (name ∷ old ∷ value ∷ []) refl (λ fs. refl) (λ fs. refl) (λ fs. refl) (omega arith)
 change-fit nth name (Append value) = text-edit nth word.Append (name ∷ value ∷ []) refl (λ fs. refl) (λ fs. refl) (λ fs. refl) (omega arith)
 change-fit nth name (Add x) = text-edit nth word.Add (name ∷ x ∷ []) refl (λ fs. refl) (λ fs. refl) (λ fs. refl) (omega arith)
 change-fit nth name (Remove x) = text-edit nth word.Drop (name ∷ x ∷ []) refl (λ fs. refl) (λ fs. refl) (λ fs. refl) (omega arith)
 
 change-few : (name : List ℕ) (change : ValueChange) → length (change_words name change) ≤ 9
 change-few name (Set value) = omega arith
+change-few name (SetIf old value) = omega arith
 change-few name (Append value) = omega arith
 change-few name (Add x) = omega arith
 change-few name (Remove x) = omega arith
@@ -166,10 +167,13 @@ line_change-fit nth name (Substitute from to) = text-edit nth word.Subst (name �
 line_change-fit nth name (SetOperator flavor) = text-edit nth word.Operator (name ∷ operator_text flavor ∷ []) refl (λ fs. refl) (λ fs. refl) (λ fs. refl) (omega arith)
 
 place-few : (place : Place) (a b c : List ℕ) → length (place_words place ++ a ∷ b ∷ c ∷ []) ≤ 9
+place-few Top a b c = omega arith
 place-few Bottom a b c = omega arith
 place-few (BeforeVar nth name) a b c = omega arith
 place-few (AfterVar nth name) a b c = omega arith
+place-few (AfterLastVar name) a b c = omega arith
 place-few (BeforeRule nth target) a b c = omega arith
+place-few (AfterRule nth target) a b c = omega arith
 
 -- ---- whole lines
 
@@ -184,15 +188,19 @@ insert-fit : (nth : Option ℕ) (t : List ℕ) (n : ℕ) (contents : List Conten
 insert-fit nth t n contents is fit = numbered-fit nth word.Insert (Text t ∷ contents) refl (λ fs. refl) (λ fs. refl) (in_place-fit t n contents is fit)
 
 exchange-fit : (site : Site) (new : List (List ℕ)) (ts : Texts) → HavePlain ts (exchange_fields site new) → AreFit ts (exchange_fields site new)
-exchange-fit Top new = insert-fit None (codes "top") 1 (Block new ∷ []) refl (refl, (refl, tt))
+exchange-fit (AtPlace Top) new = insert-fit None (codes "top") 1 (Block new ∷ []) refl (refl, (refl, tt))
 exchange-fit (AtPlace Bottom) new = insert-fit None (codes "bottom") 1 (Block new ∷ []) refl (refl, (refl, tt))
 exchange-fit (AtPlace (BeforeVar nth name)) new = insert-fit nth (codes "before-var") 2 (Text name ∷ Block new ∷ []) refl (refl, (refl, (refl, tt)))
 exchange-fit (AtPlace (AfterVar nth name)) new = insert-fit nth (codes "after-var") 2 (Text name ∷ Block new ∷ []) refl (refl, (refl, (refl, tt)))
+exchange-fit (AtPlace (AfterLastVar name)) new = insert-fit None (codes "after-last-var") 2 (Text name ∷ Block new ∷ []) refl (refl, (refl, (refl, tt)))
 exchange-fit (AtPlace (BeforeRule nth target)) new = insert-fit nth (codes "before-rule") 2 (Text target ∷ Block new ∷ []) refl (refl, (refl, (refl, tt)))
+exchange-fit (AtPlace (AfterRule nth target)) new = insert-fit nth (codes "after-rule") 2 (Text target ∷ Block new ∷ []) refl (refl, (refl, (refl, tt)))
 exchange-fit (BeforeRun nth old) new = insert-fit nth (codes "before-line") 1 (Block old ∷ Block new ∷ []) refl (refl, (refl, (refl, tt)))
 exchange-fit (AfterRun nth old) new = insert-fit nth (codes "after-line") 1 (Block old ∷ Block new ∷ []) refl (refl, (refl, (refl, tt)))
 exchange-fit (OfRun nth old) [] = numbered-fit nth word.LineRemove (Block old ∷ []) refl (λ fs. refl) (λ fs. refl) (λ fs h. (refl, tt))
 exchange-fit (OfRun nth old) (line ∷ lines) = numbered-fit nth word.LineReplace (Block old ∷ Block (line ∷ lines) ∷ []) refl (λ fs. refl) (λ fs. refl) (λ fs h. (refl, (refl, tt)))
+exchange-fit (OfRuleRun nth target) [] = text-edit nth word.RuleRemove (target ∷ []) refl (λ fs. refl) (λ fs. refl) (λ fs. refl) (omega arith)
+exchange-fit (OfRuleRun nth target) (line ∷ lines) = numbered-fit nth word.RuleReplace (Text target ∷ Block (line ∷ lines) ∷ []) refl (λ fs. refl) (λ fs. refl) (λ fs h. (refl, (refl, tt)))
 
 -- ---- edits of several lines
 
@@ -203,7 +211,7 @@ all-fit us few = text-edit None word.All us refl (λ fs. refl) (λ fs. refl) (λ
 each-fit : (e : EachEdit) (ts : Texts) → HavePlain ts (each_fields e) → AreFit ts (each_fields e)
 each-fit (ChangeEach name (Prepend value)) = all-fit (codes "prepend" ∷ name ∷ value ∷ []) (omega arith)
 each-fit (ChangeEach name (ReplaceWord x value)) = all-fit (codes "replace" ∷ name ∷ x ∷ value ∷ []) (omega arith)
-each-fit (ChangeEach name (InsertWord side x new)) = exchange-fit Top []
+each-fit (ChangeEach name (InsertWord side x new)) = exchange-fit (AtPlace Top) []
 each-fit (ChangeEach name (Substitute from to)) = all-fit (codes "subst" ∷ name ∷ from ∷ to ∷ []) (omega arith)
 each-fit (ChangeEach name (SetOperator flavor)) = all-fit (codes "operator" ∷ name ∷ operator_text flavor ∷ []) (omega arith)
 each-fit (SubstValues from to) = text-edit None word.ValuesSubst (from ∷ to ∷ []) refl (λ fs. refl) (λ fs. refl) (λ fs. refl) (omega arith)
@@ -230,6 +238,9 @@ edit-fit (RemoveLines (OfRecipe nth target (ByText old))) = text-edit nth word.R
 edit-fit (ChangePrereqs nth target (AddPrereq false x)) = text-edit nth word.Depend (target ∷ x ∷ []) refl (λ fs. refl) (λ fs. refl) (λ fs. refl) (omega arith)
 edit-fit (ChangePrereqs nth target (AddPrereq true x)) = text-edit nth word.DependOrder (target ∷ x ∷ []) refl (λ fs. refl) (λ fs. refl) (λ fs. refl) (omega arith)
 edit-fit (ChangePrereqs nth target (RemovePrereq x)) = text-edit nth word.Undepend (target ∷ x ∷ []) refl (λ fs. refl) (λ fs. refl) (λ fs. refl) (omega arith)
+edit-fit (ChangePrereqs nth target (ReplacePrereq old new)) = text-edit nth word.DependReplace (target ∷ old ∷ new ∷ []) refl (λ fs. refl) (λ fs. refl) (λ fs. refl) (omega arith)
+edit-fit (SwitchLine CommentOut nth name) = text-edit nth word.CommentOut (name ∷ []) refl (λ fs. refl) (λ fs. refl) (λ fs. refl) (omega arith)
+edit-fit (SwitchLine Uncomment nth name) = text-edit nth word.Uncomment (name ∷ []) refl (λ fs. refl) (λ fs. refl) (λ fs. refl) (omega arith)
 edit-fit (AddRecipe nth target Last line) = text-edit nth word.Recipe (target ∷ line ∷ []) refl (λ fs. refl) (λ fs. refl) (λ fs. refl) (omega arith)
 edit-fit (AddRecipe nth target (At n) line) =
     numbered-fit nth word.RecipeInsert (Text target ∷ Number n ∷ texts (line ∷ [])) refl (λ fs. refl) (λ fs. refl) (λ fs h. (refl, (refl, (refl, tt))))

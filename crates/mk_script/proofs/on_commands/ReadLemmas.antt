@@ -2,7 +2,7 @@
 use Rattle.std.proofs.Common.{◌≡◌, ℕ, ◌≤◌, true, false, List, [], ◌∷◌, ◌++◌, length, refl, ap, ◌∙◌, arith, codes}
 use Rattle.std.specs.Prelude.{Option, Some, None, option_map, option_and_then}
 use Rattle.mk_class.specs.OperatorTexts.{operator_text}
-use Rattle.mk_edit_language.specs.Edits.{Place, Bottom, BeforeVar, AfterVar, BeforeRule, Site, Top, AtPlace, BeforeRun, AfterRun, OfRun, NewLine, NewAssign, NewRule, One, Every, ValueChange, Set, Append, Add, Remove, LineChange, Prepend, ReplaceWord, InsertWord, Substitute, SetOperator, EachEdit, ChangeEach, SubstValues, SubstRecipe, SubstRecipes, AddPrereq, RemovePrereq, ByNumber, ByText, Last, At, OfAssign, OfRule, OfRecipe, Edit, ChangeValue, ChangeLine, ChangePrereqs, AddLine, AddRecipe, SetRecipe, RemoveLines, RenameTarget, ExchangeLines, EachLine}
+use Rattle.mk_edit_language.specs.Edits.{Place, Top, Bottom, BeforeVar, AfterVar, AfterLastVar, BeforeRule, AfterRule, Site, AtPlace, BeforeRun, AfterRun, OfRun, OfRuleRun, NewLine, NewAssign, NewRule, One, Every, ValueChange, Set, SetIf, Append, Add, Remove, LineChange, Prepend, ReplaceWord, InsertWord, Substitute, SetOperator, EachEdit, ChangeEach, SubstValues, SubstRecipe, SubstRecipes, AddPrereq, RemovePrereq, ReplacePrereq, ByNumber, ByText, Last, At, OfAssign, OfRule, OfRecipe, CommentOut, Uncomment, Edit, ChangeValue, ChangeLine, ChangePrereqs, AddLine, AddRecipe, SetRecipe, RemoveLines, RenameTarget, ExchangeLines, SwitchLine, EachLine}
 use Rattle.mk_edit_language.specs.declared.edit.Side.TheVariants.{Before, After}
 use Rattle.mk_edit_language.specs.LineRuns.{block_lines}
 use Rattle.mk_edit_language.specs.NewLines.{rule_separator_text}
@@ -60,22 +60,27 @@ number-read nth w t n ts e reads (f ∷ d ∷ fs) h =
 -- a new line and its place
 add_line-read : (place : Place) (line : Texts → Option NewLine) (a b c : List ℕ) (l : NewLine) → line (a ∷ b ∷ c ∷ []) ≡ Some l
     → add_line (nth_of_place place) line (place_words place ++ a ∷ b ∷ c ∷ []) ≡ Some (AddLine place l)
+add_line-read Top line a b c l h = rw h refl
 add_line-read Bottom line a b c l h = rw h refl
 add_line-read (BeforeVar nth name) line a b c l h = rw h refl
 add_line-read (AfterVar nth name) line a b c l h = rw h refl
+add_line-read (AfterLastVar name) line a b c l h = rw h refl
 add_line-read (BeforeRule nth target) line a b c l h = rw h refl
+add_line-read (AfterRule nth target) line a b c l h = rw h refl
 
 -- ---- each edit
 
 change-read : (nth : Option ℕ) (name : List ℕ) (change : ValueChange) (fields : Texts) → HaveTexts fields (after_nth nth (texts (change_words name change)))
     → edit_in fields ≡ Some (ChangeValue (One nth) name change)
 change-read nth name (Set value) = text-read nth word.Set (name ∷ value ∷ []) _ refl (λ fs. refl) refl
+change-read nth name (SetIf old value) = text-read nth word.SetIf (name ∷ old ∷ value ∷ []) _ refl (λ fs. refl) refl
 change-read nth name (Append value) = text-read nth word.Append (name ∷ value ∷ []) _ refl (λ fs. refl) refl
 change-read nth name (Add x) = text-read nth word.Add (name ∷ x ∷ []) _ refl (λ fs. refl) refl
 change-read nth name (Remove x) = text-read nth word.Drop (name ∷ x ∷ []) _ refl (λ fs. refl) refl
 
 all-read : (name : List ℕ) (change : ValueChange) → edit_in (codes "all" ∷ change_words name change) ≡ Some (ChangeValue Every name change)
 all-read name (Set value) = refl
+all-read name (SetIf old value) = refl
 all-read name (Append value) = refl
 all-read name (Add x) = refl
 all-read name (Remove x) = refl
@@ -91,7 +96,7 @@ line_change-read nth name (SetOperator flavor) =
     text-read nth word.Operator (name ∷ operator_text flavor ∷ []) _ refl (λ fs. refl) (ap (λ o. option_map (λ c. ChangeLine nth name c) (option_map SetOperator o)) (operator-named flavor))
 
 -- no text is an insert without a new line
-none-read : (fields : Texts) → HaveTexts fields (exchange_fields Top []) → ⊥
+none-read : (fields : Texts) → HaveTexts fields (exchange_fields (AtPlace Top) []) → ⊥
 none-read [] h = h
 none-read (f ∷ []) h = h.1
 none-read (f ∷ g ∷ []) h = h.1.1
@@ -150,19 +155,31 @@ remove-read nth old [] h = absurd h
 remove-read nth old (o ∷ []) h = ap (λ lines. Some (ExchangeLines (OfRun nth lines) [])) h.0
 remove-read nth old (o ∷ g ∷ fs) h = absurd h.1
 
+rule_replace-read : (nth : Option ℕ) (target : List ℕ) (new : List (List ℕ)) (fs : Texts) → HaveTexts fs (Text target ∷ Block new ∷ []) → edit_with (One nth) word.RuleReplace fs ≡ Some (ExchangeLines (OfRuleRun nth target) new)
+rule_replace-read nth target new [] h = absurd h
+rule_replace-read nth target new (t ∷ []) h = absurd h.1
+rule_replace-read nth target new (t ∷ b ∷ []) h = ap (λ (z : List ℕ). Some (ExchangeLines (OfRuleRun nth z) (block_lines b))) h.0 ∙ ap (λ lines. Some (ExchangeLines (OfRuleRun nth target) lines)) h.1.0
+rule_replace-read nth target new (t ∷ b ∷ g ∷ fs) h = absurd h.1.1
+
 exchange-read : (site : Site) (new : List (List ℕ)) (fields : Texts) → HaveTexts fields (exchange_fields site new) → edit_in fields ≡ Some (ExchangeLines site new)
-exchange-read Top new = numbered-read None word.Insert _ _ refl (λ fs. refl) (insert-read None Top (codes "top" ∷ []) new (λ b. refl))
+exchange-read (AtPlace Top) new = numbered-read None word.Insert _ _ refl (λ fs. refl) (insert-read None (AtPlace Top) (place_words Top) new (λ b. refl))
 exchange-read (AtPlace Bottom) new = numbered-read None word.Insert _ _ refl (λ fs. refl) (insert-read None (AtPlace Bottom) (place_words Bottom) new (λ b. refl))
 exchange-read (AtPlace (BeforeVar nth name)) new =
     numbered-read nth word.Insert _ _ refl (λ fs. refl) (insert-read nth (AtPlace (BeforeVar nth name)) (place_words (BeforeVar nth name)) new (λ b. refl))
 exchange-read (AtPlace (AfterVar nth name)) new =
     numbered-read nth word.Insert _ _ refl (λ fs. refl) (insert-read nth (AtPlace (AfterVar nth name)) (place_words (AfterVar nth name)) new (λ b. refl))
+exchange-read (AtPlace (AfterLastVar name)) new =
+    numbered-read None word.Insert _ _ refl (λ fs. refl) (insert-read None (AtPlace (AfterLastVar name)) (place_words (AfterLastVar name)) new (λ b. refl))
+exchange-read (AtPlace (AfterRule nth target)) new =
+    numbered-read nth word.Insert _ _ refl (λ fs. refl) (insert-read nth (AtPlace (AfterRule nth target)) (place_words (AfterRule nth target)) new (λ b. refl))
 exchange-read (AtPlace (BeforeRule nth target)) new =
     numbered-read nth word.Insert _ _ refl (λ fs. refl) (insert-read nth (AtPlace (BeforeRule nth target)) (place_words (BeforeRule nth target)) new (λ b. refl))
 exchange-read (BeforeRun nth old) new = numbered-read nth word.Insert _ _ refl (λ fs. refl) (beside-read nth (λ lines. BeforeRun nth lines) (codes "before-line") old new (λ o b. refl))
 exchange-read (AfterRun nth old) new = numbered-read nth word.Insert _ _ refl (λ fs. refl) (beside-read nth (λ lines. AfterRun nth lines) (codes "after-line") old new (λ o b. refl))
 exchange-read (OfRun nth old) [] = numbered-read nth word.LineRemove _ _ refl (λ fs. refl) (remove-read nth old)
 exchange-read (OfRun nth old) (line ∷ lines) = numbered-read nth word.LineReplace _ _ refl (λ fs. refl) (replace-read nth old (line ∷ lines))
+exchange-read (OfRuleRun nth target) [] = text-read nth word.RuleRemove (target ∷ []) _ refl (λ fs. refl) refl
+exchange-read (OfRuleRun nth target) (line ∷ lines) = numbered-read nth word.RuleReplace _ _ refl (λ fs. refl) (rule_replace-read nth target (line ∷ lines))
 
 -- ---- and each edit
 
@@ -174,6 +191,8 @@ edit-read fields (AddLine place (NewAssign name flavor value)) h =
     text-read (nth_of_place place) word.Assign (place_words place ++ name ∷ operator_text flavor ∷ value ∷ []) _ refl (λ fs. refl)
     (add_line-read place new_assign name (operator_text flavor) value _ (ap (λ o. option_map (λ f. NewAssign name f value) o) (operator-named flavor))) fields h
 edit-read fields (RemoveLines (OfAssign nth name)) h = text-read nth word.Unset (name ∷ []) _ refl (λ fs. refl) refl fields h
+edit-read fields (SwitchLine CommentOut nth name) h = text-read nth word.CommentOut (name ∷ []) _ refl (λ fs. refl) refl fields h
+edit-read fields (SwitchLine Uncomment nth name) h = text-read nth word.Uncomment (name ∷ []) _ refl (λ fs. refl) refl fields h
 edit-read fields (AddLine place (NewRule targets colons prereqs)) h =
     text-read (nth_of_place place) word.Rule (place_words place ++ targets ∷ rule_separator_text colons ∷ prereqs ∷ []) _ refl (λ fs. refl)
     (add_line-read place new_rule targets (rule_separator_text colons) prereqs _ (ap (λ o. option_map (λ s. NewRule targets s prereqs) o) (separator-named colons))) fields h
@@ -181,6 +200,7 @@ edit-read fields (RemoveLines (OfRule nth target)) h = text-read nth word.Unrule
 edit-read fields (ChangePrereqs nth target (AddPrereq false x)) h = text-read nth word.Depend (target ∷ x ∷ []) _ refl (λ fs. refl) refl fields h
 edit-read fields (ChangePrereqs nth target (AddPrereq true x)) h = text-read nth word.DependOrder (target ∷ x ∷ []) _ refl (λ fs. refl) refl fields h
 edit-read fields (ChangePrereqs nth target (RemovePrereq x)) h = text-read nth word.Undepend (target ∷ x ∷ []) _ refl (λ fs. refl) refl fields h
+edit-read fields (ChangePrereqs nth target (ReplacePrereq old new)) h = text-read nth word.DependReplace (target ∷ old ∷ new ∷ []) _ refl (λ fs. refl) refl fields h
 edit-read fields (AddRecipe nth target Last line) h = text-read nth word.Recipe (target ∷ line ∷ []) _ refl (λ fs. refl) refl fields h
 edit-read fields (AddRecipe nth target (At n) line) h =
     numbered-read nth word.RecipeInsert (Text target ∷ Number n ∷ texts (line ∷ [])) _ refl (λ fs. refl)
@@ -235,8 +255,9 @@ nth-few : (nth : Option ℕ) (contents : List Content) → length contents ≤ 6
 nth-few None contents h = omega (arith, h)
 nth-few (Some n) contents h = omega (arith, h)
 
-change-few : (name : List ℕ) (change : ValueChange) → length (texts (change_words name change)) ≤ 3
+change-few : (name : List ℕ) (change : ValueChange) → length (texts (change_words name change)) ≤ 4
 change-few name (Set value) = omega arith
+change-few name (SetIf old value) = omega arith
 change-few name (Append value) = omega arith
 change-few name (Add x) = omega arith
 change-few name (Remove x) = omega arith
@@ -250,21 +271,28 @@ line_change-few name (Substitute from to) = omega arith
 line_change-few name (SetOperator flavor) = omega arith
 
 place-few : (place : Place) (x a b c : List ℕ) → length (texts (x ∷ (place_words place ++ a ∷ b ∷ c ∷ []))) ≤ 6
+place-few Top x a b c = omega arith
 place-few Bottom x a b c = omega arith
 place-few (BeforeVar nth name) x a b c = omega arith
 place-few (AfterVar nth name) x a b c = omega arith
+place-few (AfterLastVar name) x a b c = omega arith
 place-few (BeforeRule nth target) x a b c = omega arith
+place-few (AfterRule nth target) x a b c = omega arith
 
 exchange-few : (site : Site) (new : List (List ℕ)) → length (exchange_fields site new) ≤ 8
-exchange-few Top new = omega arith
+exchange-few (AtPlace Top) new = omega arith
 exchange-few (AtPlace Bottom) new = omega arith
 exchange-few (AtPlace (BeforeVar nth name)) new = nth-few nth _ (omega arith)
 exchange-few (AtPlace (AfterVar nth name)) new = nth-few nth _ (omega arith)
+exchange-few (AtPlace (AfterLastVar name)) new = omega arith
 exchange-few (AtPlace (BeforeRule nth target)) new = nth-few nth _ (omega arith)
+exchange-few (AtPlace (AfterRule nth target)) new = nth-few nth _ (omega arith)
 exchange-few (BeforeRun nth old) new = nth-few nth _ (omega arith)
 exchange-few (AfterRun nth old) new = nth-few nth _ (omega arith)
 exchange-few (OfRun nth old) [] = nth-few nth _ (omega arith)
 exchange-few (OfRun nth old) (line ∷ lines) = nth-few nth _ (omega arith)
+exchange-few (OfRuleRun nth target) [] = nth-few nth _ (omega arith)
+exchange-few (OfRuleRun nth target) (line ∷ lines) = nth-few nth _ (omega arith)
 
 each-few : (e : EachEdit) → length (each_fields e) ≤ 8
 each-few (ChangeEach name (Prepend value)) = omega arith
@@ -288,6 +316,9 @@ few (Apply (RemoveLines (OfRecipe nth target (ByNumber n)))) = nth-few nth _ (om
 few (Apply (RemoveLines (OfRecipe nth target (ByText old)))) = nth-few nth _ (omega arith)
 few (Apply (ChangePrereqs nth target (AddPrereq order x))) = nth-few nth _ (omega arith)
 few (Apply (ChangePrereqs nth target (RemovePrereq x))) = nth-few nth _ (omega arith)
+few (Apply (ChangePrereqs nth target (ReplacePrereq old new))) = nth-few nth _ (omega arith)
+few (Apply (SwitchLine CommentOut nth name)) = nth-few nth _ (omega arith)
+few (Apply (SwitchLine Uncomment nth name)) = nth-few nth _ (omega arith)
 few (Apply (AddRecipe nth target Last line)) = nth-few nth _ (omega arith)
 few (Apply (AddRecipe nth target (At n) line)) = nth-few nth _ (omega arith)
 few (Apply (SetRecipe nth target (ByNumber n) line)) = nth-few nth _ (omega arith)

@@ -5,7 +5,7 @@ use Rattle.std.proofs.lemmas.List.{take-append-drop}
 use Rattle.mk_class.specs.declared.assignment.Flavor.{Flavor}
 use Rattle.mk_class.specs.OperatorTexts.{operator_text}
 use Rattle.mk_edit_language.specs.declared.edit.RuleSeparator.{RuleSeparator}
-use Rattle.mk_edit_language.specs.Edits.{Place, Bottom, BeforeVar, AfterVar, BeforeRule, Site, Top, AtPlace, BeforeRun, AfterRun, OfRun, NewLine, NewAssign, NewRule, Which, One, Every, ValueChange, Set, Append, Add, Remove, LineChange, Prepend, ReplaceWord, InsertWord, Substitute, SetOperator, ChangeEach, SubstValues, SubstRecipe, SubstRecipes, AddPrereq, RemovePrereq, ByNumber, ByText, Last, At, OfAssign, OfRule, OfRecipe, Edit, ChangeValue, ChangeLine, ChangePrereqs, AddLine, AddRecipe, SetRecipe, RemoveLines, RenameTarget, ExchangeLines, EachLine}
+use Rattle.mk_edit_language.specs.Edits.{Place, Top, Bottom, BeforeVar, AfterVar, AfterLastVar, BeforeRule, AfterRule, Site, AtPlace, BeforeRun, AfterRun, OfRun, OfRuleRun, NewLine, NewAssign, NewRule, Which, One, Every, ValueChange, Set, SetIf, Append, Add, Remove, LineChange, Prepend, ReplaceWord, InsertWord, Substitute, SetOperator, ChangeEach, SubstValues, SubstRecipe, SubstRecipes, AddPrereq, RemovePrereq, ReplacePrereq, ByNumber, ByText, Last, At, OfAssign, OfRule, OfRecipe, CommentOut, Uncomment, Edit, ChangeValue, ChangeLine, ChangePrereqs, AddLine, AddRecipe, SetRecipe, RemoveLines, RenameTarget, ExchangeLines, SwitchLine, EachLine}
 use Rattle.mk_edit_language.specs.declared.edit.Side.{Side}
 use Rattle.mk_edit_language.specs.declared.edit.Side.TheVariants.{Before, After}
 use Rattle.mk_edit_language.specs.LineRuns.{block_lines}
@@ -16,7 +16,7 @@ use Rattle.mk_script.specs.Numbers.{number}
 use Rattle.mk_script.specs.CommandTable.{Content, Text, Number, Block, texts, after_nth, place_words, nth_of_place, change_words, line_change_words, exchange_fields, command_fields}
 use Rattle.mk_script.proofs.on_commands.TextContents.{HaveTexts, AreCommand}
 use Rattle.mk_script.specs.WordReading.{named, words, places, operators, separators}
-use Rattle.mk_script.specs.CommandReading.{Texts, front, one, two, three, numbered, worded, place_with, place_in, site_with, site_in, before_last, last_fields, new_assign, new_rule, insert_lines, line_change, change_line, change_each, edit_with, edit_by, edit_after, edit_in, alone, command_after}
+use Rattle.mk_script.specs.CommandReading.{Texts, front, one, two, three, numbered, worded, plain_place, place_with, place_in, site_with, site_in, before_last, last_fields, new_assign, new_rule, insert_lines, line_change, change_line, change_each, edit_with, edit_by, edit_after, edit_in, alone, command_after}
 use Rattle.mk_script.specs.declared.table.Word.{Word}
 use Rattle.mk_script.specs.declared.table.Word.TheVariants as word
 use Rattle.mk_script.specs.declared.word.PlaceWord.{PlaceWord}
@@ -55,14 +55,18 @@ numbered-is fields p h =
 
 -- ---- places
 
+plain-place : (w : PlaceWord) (f : List ℕ) (fs : Texts) (place : Place) → f ≡ place_text w → plain_place w fs ≡ Some place → (None ≡ nth_of_place place) × (f ∷ fs ≡ place_words place)
+plain-place spot.Top f [] place is h = let same : Top ≡ place = cc in (ap nth_of_place same, ap (λ z. z ∷ []) is ∙ ap place_words same)
+plain-place spot.Top f (g ∷ fs) place is h = absurd (cc)
+plain-place spot.Bottom f [] place is h = let same : Bottom ≡ place = cc in (ap nth_of_place same, ap (λ z. z ∷ []) is ∙ ap place_words same)
+plain-place spot.Bottom f (g ∷ fs) place is h = absurd (cc)
+plain-place spot.AfterLastVar f [] place is h = absurd (cc)
+plain-place spot.AfterLastVar f (g ∷ []) place is h = let same : AfterLastVar g ≡ place = cc in (ap nth_of_place same, ap (λ z. z ∷ g ∷ []) is ∙ ap place_words same)
+plain-place spot.AfterLastVar f (g ∷ k ∷ fs) place is h = absurd (cc)
+plain-place w f fs place is h = absurd (cc)
+
 place-with : (nth : Option ℕ) (w : PlaceWord) (f : List ℕ) (fs : Texts) (place : Place) → f ≡ place_text w → place_with nth w fs ≡ Some place
     → (nth ≡ nth_of_place place) × (f ∷ fs ≡ place_words place)
-place-with nth spot.Top f fs place is h = absurd (cc)
-place-with nth spot.BeforeLine f fs place is h = absurd (cc)
-place-with nth spot.AfterLine f fs place is h = absurd (cc)
-place-with None spot.Bottom f [] place is h = let same : Bottom ≡ place = cc in (ap nth_of_place same, ap (λ z. z ∷ []) is ∙ ap place_words same)
-place-with None spot.Bottom f (g ∷ fs) place is h = absurd (cc)
-place-with (Some n) spot.Bottom f fs place is h = absurd (cc)
 place-with nth spot.BeforeVar f fs place is h =
     let m = mapped (λ (name : List ℕ). BeforeVar nth name) (one fs) place h in
     (ap nth_of_place m.2, ap (λ z. z ∷ fs) is ∙ (ap (λ zs. codes "before-var" ∷ zs) (one-is fs m.0 m.1) ∙ ap place_words m.2))
@@ -72,6 +76,11 @@ place-with nth spot.AfterVar f fs place is h =
 place-with nth spot.BeforeRule f fs place is h =
     let m = mapped (λ (target : List ℕ). BeforeRule nth target) (one fs) place h in
     (ap nth_of_place m.2, ap (λ z. z ∷ fs) is ∙ (ap (λ zs. codes "before-rule" ∷ zs) (one-is fs m.0 m.1) ∙ ap place_words m.2))
+place-with nth spot.AfterRule f fs place is h =
+    let m = mapped (λ (target : List ℕ). AfterRule nth target) (one fs) place h in
+    (ap nth_of_place m.2, ap (λ z. z ∷ fs) is ∙ (ap (λ zs. codes "after-rule" ∷ zs) (one-is fs m.0 m.1) ∙ ap place_words m.2))
+place-with None w f fs place is h = plain-place w f fs place is h
+place-with (Some n) w f fs place is h = absurd (cc)
 
 place-is : (nth : Option ℕ) (fields : Texts) (place : Place) → place_in nth fields ≡ Some place → (nth ≡ nth_of_place place) × (fields ≡ place_words place)
 place-is nth [] place h = absurd (cc)
@@ -248,9 +257,6 @@ beside-written nth t f fs site make is h are =
     }
 
 site-with : (nth : Option ℕ) (w : PlaceWord) (f : List ℕ) (fs : Texts) (site : Site) → f ≡ place_text w → site_with nth w fs ≡ Some site → IsWrittenSite nth (f ∷ fs) site
-site-with None spot.Top f [] site is h = let same : Top ≡ site = cc in record { contents = Text (codes "top") ∷ []; have = (is, tt); fields_are = λ new. ap (λ s. exchange_fields s new) (sym same) }
-site-with None spot.Top f (g ∷ fs) site is h = absurd (cc)
-site-with (Some n) spot.Top f fs site is h = absurd (cc)
 site-with nth spot.BeforeLine f fs site is h = beside-written nth (codes "before-line") f fs site (λ old. BeforeRun nth old) is h (λ old new. refl)
 site-with nth spot.AfterLine f fs site is h = beside-written nth (codes "after-line") f fs site (λ old. AfterRun nth old) is h (λ old new. refl)
 site-with nth w f fs site is h =
@@ -308,6 +314,21 @@ line_remove-written nth fields e h =
       command = ap (λ x. command_fields (Apply x)) (sym m.2);
     }
 
+-- a rule in the place of another
+pub rule-fields : (nth : Option ℕ) (target : List ℕ) (new : List (List ℕ)) → (new ≡ [] → ⊥) → exchange_fields (OfRuleRun nth target) new ≡ after_nth nth (Text (codes "rule-replace") ∷ Text target ∷ Block new ∷ [])
+rule-fields nth target [] some = absurd (some refl)
+rule-fields nth target (line ∷ lines) some = refl
+
+rule_replace-written : (nth : Option ℕ) (fields : Texts) (e : Edit) → edit_with (One nth) word.RuleReplace fields ≡ Some e → IsWrittenEdit (One nth) word.RuleReplace fields e
+rule_replace-written nth fields e h =
+    let m = mapped (λ (p : List ℕ × List ℕ). ExchangeLines (OfRuleRun nth p.0) (block_lines p.1)) (two fields) e h in
+    let contents : List Content = Text m.0.0 ∷ Block (block_lines m.0.1) ∷ [] in
+    record {
+      contents = contents;
+      have = subst (λ z. HaveTexts z contents) (sym (two-is fields m.0 m.1)) (refl, (refl, tt));
+      command = ap (λ x. command_fields (Apply x)) (sym m.2) ∙ rule-fields nth m.0.0 (block_lines m.0.1) (block-some m.0.1);
+    }
+
 assign-written : (nth : Option ℕ) (fields : Texts) (e : Edit) → edit_with (One nth) word.Assign fields ≡ Some e → IsWrittenEdit (One nth) word.Assign fields e
 assign-written nth fields e h =
     let c = chained (λ (l : NewLine). option_map (λ p. AddLine p l) (place_in nth (before_last 3 fields))) (new_assign (last_fields 3 fields)) e h in
@@ -332,16 +353,20 @@ change-fields Every name change = refl
 
 with-written : (which : Which) (w : Word) (fields : Texts) (e : Edit) → edit_with which w fields ≡ Some e → IsWrittenEdit which w fields e
 with-written which word.Set fields e h = two-written which word.Set fields e (λ a b. ChangeValue which a (Set b)) h (λ a b. change-fields which a (Set b))
+with-written which word.SetIf fields e h = three-written which word.SetIf fields e (λ a b c. ChangeValue which a (SetIf b c)) h (λ a b c. change-fields which a (SetIf b c))
 with-written which word.Append fields e h = two-written which word.Append fields e (λ a b. ChangeValue which a (Append b)) h (λ a b. change-fields which a (Append b))
 with-written which word.Add fields e h = two-written which word.Add fields e (λ a b. ChangeValue which a (Add b)) h (λ a b. change-fields which a (Add b))
 with-written which word.Drop fields e h = two-written which word.Drop fields e (λ a b. ChangeValue which a (Remove b)) h (λ a b. change-fields which a (Remove b))
 with-written (One nth) word.Unset fields e h = one-written (One nth) word.Unset fields e (λ a. RemoveLines (OfAssign nth a)) h (λ a. refl)
+with-written (One nth) word.CommentOut fields e h = one-written (One nth) word.CommentOut fields e (λ a. SwitchLine CommentOut nth a) h (λ a. refl)
+with-written (One nth) word.Uncomment fields e h = one-written (One nth) word.Uncomment fields e (λ a. SwitchLine Uncomment nth a) h (λ a. refl)
 with-written (One nth) word.Assign fields e h = assign-written nth fields e h
 with-written (One nth) word.Rule fields e h = rule-written nth fields e h
 with-written (One nth) word.Unrule fields e h = one-written (One nth) word.Unrule fields e (λ a. RemoveLines (OfRule nth a)) h (λ a. refl)
 with-written (One nth) word.Depend fields e h = two-written (One nth) word.Depend fields e (λ a b. ChangePrereqs nth a (AddPrereq false b)) h (λ a b. refl)
 with-written (One nth) word.DependOrder fields e h = two-written (One nth) word.DependOrder fields e (λ a b. ChangePrereqs nth a (AddPrereq true b)) h (λ a b. refl)
 with-written (One nth) word.Undepend fields e h = two-written (One nth) word.Undepend fields e (λ a b. ChangePrereqs nth a (RemovePrereq b)) h (λ a b. refl)
+with-written (One nth) word.DependReplace fields e h = three-written (One nth) word.DependReplace fields e (λ a b c. ChangePrereqs nth a (ReplacePrereq b c)) h (λ a b c. refl)
 with-written (One nth) word.Recipe fields e h = two-written (One nth) word.Recipe fields e (λ a b. AddRecipe nth a Last b) h (λ a b. refl)
 with-written (One nth) word.RecipeInsert fields e h = numbered-written (One nth) word.RecipeInsert fields e (λ a n c. AddRecipe nth a (At n) c) h (λ a n c. refl)
 with-written (One nth) word.RecipeSet fields e h = numbered-written (One nth) word.RecipeSet fields e (λ a n c. SetRecipe nth a (ByNumber n) c) h (λ a n c. refl)
@@ -351,6 +376,8 @@ with-written (One nth) word.RecipeRemove fields e h = two-written (One nth) word
 with-written (One nth) word.Insert fields e h = insert-written nth fields e h
 with-written (One nth) word.LineReplace fields e h = line_replace-written nth fields e h
 with-written (One nth) word.LineRemove fields e h = line_remove-written nth fields e h
+with-written (One nth) word.RuleReplace fields e h = rule_replace-written nth fields e h
+with-written (One nth) word.RuleRemove fields e h = one-written (One nth) word.RuleRemove fields e (λ a. ExchangeLines (OfRuleRun nth a) []) h (λ a. refl)
 with-written (One nth) word.RecipeSubst fields e h = three-written (One nth) word.RecipeSubst fields e (λ a b c. EachLine (SubstRecipe nth a b c)) h (λ a b c. refl)
 with-written (One None) word.Rename fields e h = two-written (One None) word.Rename fields e (λ a b. RenameTarget a b) h (λ a b. refl)
 with-written (One (Some n)) word.Rename fields e h = absurd (cc)

@@ -5,7 +5,7 @@ use Rattle.std.specs.List.{AllByRecursion}
 use Rattle.std.proofs.lemmas.List.{map-append}
 use Rattle.mk_lines.specs.Lists.{concat}
 use Rattle.mk_lines.specs.Spacing.{each_after_space, spaced_words}
-use Rattle.mk_edit_language.specs.Edits.{Site, Top, AtPlace, BeforeRun, AfterRun, OfRun}
+use Rattle.mk_edit_language.specs.Edits.{Site, AtPlace, BeforeRun, AfterRun, OfRun, OfRuleRun}
 use Rattle.mk_edit_language.specs.LineRuns.{block_lines}
 use Rattle.mk_edit_language.proofs.on_line_runs.BlockTexts.{block-some}
 use Rattle.mk_script.specs.Blocks.{block_text, is_word}
@@ -14,7 +14,7 @@ use Rattle.mk_script.specs.ScriptLaws.{CanBeWritten}
 use Rattle.mk_script.specs.WrittenEdits.{each_ended, field_in_line, free_word, has_line, has_line_feed, lines_below, written}
 use Rattle.mk_script.specs.WrittenLines.{HasBlockMore, HasFreeWord, IsCommandText, site_fields}
 use Rattle.mk_script.proofs.on_commands.BlockLemmas.{block-text}
-use Rattle.mk_script.proofs.on_commands.WrittenLemmas.{replace-fields}
+use Rattle.mk_script.proofs.on_commands.WrittenLemmas.{replace-fields, rule-fields}
 use Rattle.mk_script.proofs.on_fields.BlockTexts.{block-ended}
 use Rattle.mk_script.proofs.on_fields.EndedLines.{ended-append}
 use Rattle.mk_script.proofs.on_written.WrittenContents.{all-append}
@@ -155,7 +155,6 @@ with-said nth word fs b line below now under h put = block-said nth (Text word) 
 -- an exchange with its new lines
 pub exchange-said : (site : Site) (b line below now under : List ℕ) → IsCommandText (site_fields site) line below → HasBlockMore (block_lines b) line below now under
     → IsCommandText (exchange_fields site (block_lines b)) now under
-exchange-said Top b line below now under h put = block-said None (Text (codes "insert")) (Text (codes "top") ∷ []) (block_lines b) line below now under h (b, refl) put
 exchange-said (AtPlace place) b line below now under h put =
     block-said (nth_of_place place) (Text (codes "insert")) (texts (place_words place)) (block_lines b) line below now under h (b, refl) put
 exchange-said (BeforeRun nth old) b line below now under h put =
@@ -165,6 +164,9 @@ exchange-said (AfterRun nth old) b line below now under h put =
 exchange-said (OfRun nth old) b line below now under h put =
     subst (λ cs. IsCommandText cs now under) (sym (replace-fields nth old (block_lines b) (block-some b)))
     (block-said nth (Text (codes "line-replace")) (Block old ∷ []) (block_lines b) line below now under h (b, refl) put)
+exchange-said (OfRuleRun nth target) b line below now under h put =
+    subst (λ cs. IsCommandText cs now under) (sym (rule-fields nth target (block_lines b) (block-some b)))
+    (block-said nth (Text (codes "rule-replace")) (Text target ∷ []) (block_lines b) line below now under h (b, refl) put)
 
 -- a place without a field behind it
 pub place-said : (nth : Option ℕ) (words : List (List ℕ)) (line below : List ℕ) → IsCommandText (after_nth nth (texts (codes "insert" ∷ (words ++ [])))) line below

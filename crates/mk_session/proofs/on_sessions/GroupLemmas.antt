@@ -1,15 +1,16 @@
 -- Edits in turn: what they make of a text and of a document, what they cost, and what is seen of them as a group.
-use Rattle.std.proofs.Common.{◌≡◌, refl, sym, ap, ◌∙◌, subst, ℕ, zero, suc, ◌<◌, ◌≤◌, ◌+◌, List, [], ◌∷◌, ◌++◌, length, map, take, slice_get, get_or, Some, None, Result, Ok, Err, inr, arith, add-one, append-nil, length-append}
+use Rattle.std.proofs.Common.{◌≡◌, refl, sym, ap, ◌∙◌, subst, ℕ, zero, suc, ◌<◌, ◌≤◌, ◌+◌, List, [], ◌∷◌, ◌++◌, length, map, take, slice_get, get_or, Some, None, Result, Ok, Err, inl, inr, arith, add-one, append-nil, length-append}
 use Rattle.std.proofs.lemmas.List.{take_all}
 use Rattle.std.proofs.Math.Seq.{take-suc}
 use Rattle.std.proofs.lemmas.Option.{get_or_from_slice_get, slice_get-map, slice_get_read, slice_get_within}
-use Rattle.std.specs.Prelude.{Option, option_map, is_some, false, min, ◌-◌, ◌^◌}
+use Rattle.std.specs.Prelude.{Option, option_map, is_some, true, false, min, ◌-◌, ◌^◌}
 use Rattle.mk_tree.specs.Counting.{AreCounted}
 use Rattle.mk_tree.specs.Documents.{IsFaithful}
 use Rattle.mk_tree.specs.LocatedLines.{LocatedLine, located_text}
 use Rattle.mk_edit_language.specs.Edits.{Edit}
 use Rattle.mk_edit_language.specs.Costs.{cost}
 use Rattle.mk_edit_language.specs.declared.refusal.Refusal.{Refusal}
+use Rattle.mk_edit_language.specs.declared.refusal.Refusal.TheVariants.{GroupOpen}
 use Rattle.mk_edit.specs.Planned.{IsPlanned, IsRefusal}
 use Rattle.mk_patch.specs.Moves.{Move, FitMoves, after_moves}
 use Rattle.mk_history.specs.Machine as machine
@@ -17,7 +18,7 @@ use Rattle.mk_history.specs.Machine.{Command, Apply, Begin, End}
 use Rattle.mk_history.specs.Shown.{Shown, shown_answer, shown_edited}
 use Rattle.mk_history.specs.Stacks.{Stacks}
 use Rattle.mk_history.proofs.on_histories.HistoryLemmas.{edit-steps}
-use Rattle.mk_session.specs.Sessions.{answer, edited}
+use Rattle.mk_session.specs.Sessions.{answer, edited, IsRefusedBy}
 use Rattle.mk_session.specs.StoredSessions.{Patches, after_patches, shown_stored, IsStored}
 use Rattle.mk_session.specs.InTurn.{answers, as_group}
 use Rattle.mk_session.specs.Groups.{begun_with, costs_in_turn, edited_in_turn, AreMade, IsRefusedInTurn, IsRefusedInGroup, IsGroupRefusal}
@@ -243,3 +244,11 @@ group-stored es h new_h group back old new s seen shut kept made pushed =
 pub group-refused : (es : List Edit) (h : Stacks Patches) (group : Option Patches) (doc : List LocatedLine) (s : Shown (List ℕ)) (i : ℕ) (r : Refusal) → shown_stored h group doc ≡ s → is_some s.begun ≡ false → IsRefusedInTurn es (located_text doc) i r
     → IsGroupRefusal es s i r
 group-refused es h group doc s i r seen shut refused = inr (in-group-refused es s (located_text doc) i r (not-begun h group doc s seen shut) (text-shown h group doc s seen) refused)
+
+-- a group cannot begin while one is open
+pub group-open : (es : List Edit) (s : Shown (List ℕ)) → is_some s.begun ≡ true → IsGroupRefusal es s 0 GroupOpen
+group-open es s some = inl (go s.begun refl some, refl)
+  where
+    go : (begun : Option (List ℕ)) → s.begun ≡ begun → is_some begun ≡ true → IsRefusedBy (answer Begin s) GroupOpen
+    go (Some t) e h = rw e refl
+    go None e h = absurd (cc)

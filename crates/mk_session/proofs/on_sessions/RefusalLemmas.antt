@@ -11,16 +11,16 @@ use Rattle.mk_history.specs.Machine as machine
 use Rattle.mk_history.specs.Machine.{Command, Apply, Undo, Redo, Begin, End, Cancel}
 use Rattle.mk_history.specs.Shown.{Shown, shown_edited, shown_ended, shown_back, shown_forward}
 use Rattle.mk_session.specs.Sessions.{answer, edited, text_with, session_refusal}
-use Rattle.mk_edit_language.specs.Edits.{Place, Bottom, Site, AtPlace, Every, Add, Remove, AddPrereq, RemovePrereq, RecipeLine, ByNumber, ByText, At, OfRule, OfRecipe, LineChange, InsertWord, Edit, ChangeValue, ChangeLine, ChangePrereqs, AddLine, AddRecipe, SetRecipe, RemoveLines, RenameTarget, ExchangeLines, EachLine}
+use Rattle.mk_edit_language.specs.Edits.{Place, Bottom, AfterRule, Site, AtPlace, OfRuleRun, Which, One, Every, ValueChange, Set, SetIf, Append, Add, Remove, AddPrereq, RemovePrereq, ReplacePrereq, RecipeLine, ByNumber, ByText, At, OfRule, OfRecipe, LineChange, InsertWord, Edit, ChangeValue, ChangeLine, ChangePrereqs, AddLine, AddRecipe, SetRecipe, RemoveLines, RenameTarget, SwitchLine, ExchangeLines, EachLine}
 use Rattle.mk_tree.specs.LineTexts.{StandingLine}
 use Rattle.mk_edit_language.specs.Addresses.{Address, Variable, address, each_address}
 use Rattle.mk_edit_language.specs.Stretches.{Stretch}
 use Rattle.mk_edit_language.specs.ValueChanges.{has_value_word}
 use Rattle.mk_edit_language.specs.EditSpans.{spans_of}
-use Rattle.mk_edit_language.specs.Causes.{where_holds}
+use Rattle.mk_edit_language.specs.Causes.{or_else, where_holds}
 use Rattle.mk_edit_language.specs.ArgumentCauses.{FieldTest, Tested, first_failed, field_tests, bad_argument, reserved}
-use Rattle.mk_edit_language.specs.AddressCauses.{unread_prefix, no_such, no_such_line, ambiguous, ambiguous_line, prefix_led}
-use Rattle.mk_edit_language.specs.RuleCauses.{class_meant, not_one, no_recipe, absent, count_of_word, not_beside, not_inserted, already, taken, shared_rule, straddles}
+use Rattle.mk_edit_language.specs.AddressCauses.{unread_prefix, no_such, no_such_line, no_such_value, ambiguous, ambiguous_line, misplaced}
+use Rattle.mk_edit_language.specs.RuleCauses.{class_meant, not_one, no_recipe, absent, count_of_word, not_beside, not_inserted, already, taken, shared_by, shared_rule, straddles, straddles_at}
 use Rattle.mk_edit_language.specs.LineCauses.{open_value, open_line, open_define, open_define_at, leaning, too_long, misread}
 use Rattle.mk_edit_language.specs.LineRuns.{site_found}
 use Rattle.mk_edit_language.specs.ExchangeCauses.{exchange_causes}
@@ -54,8 +54,16 @@ no_such_line-other : (ls : List ClassedLine) (a : Option Address) → IsOther (n
 no_such_line-other ls None h = absurd (cc)
 no_such_line-other ls (Some a) h = where_holds-other _ NoSuch (λ k. absurd (cc)) h
 
+no_such_value-other : (ls : List ClassedLine) (w : Which) (n : List ℕ) (c : ValueChange) → IsOther (no_such_value ls w n c)
+no_such_value-other ls Every n c h = where_holds-other _ NoSuch (λ k. absurd (cc)) h
+no_such_value-other ls (One nth) n (SetIf o v) h = where_holds-other _ NoSuch (λ k. absurd (cc)) h
+no_such_value-other ls (One nth) n (Set v) h = no_such_line-other ls (Some (Variable nth n)) h
+no_such_value-other ls (One nth) n (Append v) h = no_such_line-other ls (Some (Variable nth n)) h
+no_such_value-other ls (One nth) n (Add w) h = no_such_line-other ls (Some (Variable nth n)) h
+no_such_value-other ls (One nth) n (Remove w) h = no_such_line-other ls (Some (Variable nth n)) h
+
 no_such-other : (ls : List ClassedLine) (e : Edit) → IsOther (no_such ls e)
-no_such-other ls (ChangeValue Every n c) h = where_holds-other _ NoSuch (λ k. absurd (cc)) h
+no_such-other ls (ChangeValue w n c) h = no_such_value-other ls w n c h
 no_such-other ls (RenameTarget o n) h = where_holds-other _ NoSuch (λ k. absurd (cc)) h
 no_such-other ls (EachLine e) h = no_such_line-other ls (each_address e) h
 no_such-other ls e h = no_such_line-other ls (address e) h
@@ -64,10 +72,18 @@ ambiguous_line-other : (ls : List ClassedLine) (a : Option Address) → IsOther 
 ambiguous_line-other ls None h = absurd (cc)
 ambiguous_line-other ls (Some a) h = where_holds-other _ (Ambiguous _) (λ k. absurd (cc)) h
 
-prefix_led-other : (ls : List ClassedLine) (e : Edit) → IsOther (prefix_led ls e)
-prefix_led-other ls (AddLine p l) h = where_holds-other _ RecipePrefix (λ k. absurd (cc)) h
-prefix_led-other ls (RenameTarget o n) h = where_holds-other _ RecipePrefix (λ k. absurd (cc)) h
-prefix_led-other ls e h = nothing-other h
+straddles_at-other : (ls : List ClassedLine) (p : Place) → IsOther (straddles_at ls p)
+straddles_at-other ls (AfterRule nth t) h = where_holds-other _ Straddles (λ k. absurd (cc)) h
+straddles_at-other ls p h = nothing-other h
+
+or_else-other : (o c : Option Refusal) → IsOther o → IsOther c → IsOther (or_else o c)
+or_else-other None c h k = k
+or_else-other (Some r) c h k = h
+
+misplaced-other : (ls : List ClassedLine) (e : Edit) → IsOther (misplaced ls e)
+misplaced-other ls (AddLine p l) h = or_else-other (straddles_at ls p) _ (straddles_at-other ls p) (where_holds-other _ RecipePrefix (λ k. absurd (cc))) h
+misplaced-other ls (RenameTarget o n) h = where_holds-other _ RecipePrefix (λ k. absurd (cc)) h
+misplaced-other ls e h = nothing-other h
 
 not_one-other : (ss : List StandingLine) → IsOther (not_one ss)
 not_one-other [] h = absurd (cc)
@@ -80,8 +96,10 @@ no_recipe-other ls nth t (ByText o) h = not_one-other _ h
 
 absent-other : (ls : List ClassedLine) (e : Edit) → IsOther (absent ls e)
 absent-other ls (ChangeValue w n (Remove x)) h = where_holds-other _ Absent (λ k. absurd (cc)) h
+absent-other ls (ChangeValue w n (SetIf o v)) h = where_holds-other _ Absent (λ k. absurd (cc)) h
 absent-other ls (ChangeLine nth n c) h = where_holds-other _ Absent (λ k. absurd (cc)) h
 absent-other ls (ChangePrereqs nth t (RemovePrereq w)) h = where_holds-other _ Absent (λ k. absurd (cc)) h
+absent-other ls (ChangePrereqs nth t (ReplacePrereq o n)) h = where_holds-other _ Absent (λ k. absurd (cc)) h
 absent-other ls (AddRecipe nth t (At k) c) h = where_holds-other _ Absent (λ j. absurd (cc)) h
 absent-other ls (SetRecipe nth t w c) h = no_recipe-other ls nth t w h
 absent-other ls (RemoveLines (OfRecipe nth t w)) h = no_recipe-other ls nth t w h
@@ -103,6 +121,7 @@ already-other : (ls : List ClassedLine) (e : Edit) → IsOther (already ls e)
 already-other ls (ChangeValue w n (Add x)) h = where_holds-other _ Already (λ k. absurd (cc)) h
 already-other ls (ChangeLine nth n c) h = not_inserted-other c (class_meant ls (Variable nth n)) h
 already-other ls (ChangePrereqs nth t (AddPrereq o w)) h = where_holds-other _ Already (λ k. absurd (cc)) h
+already-other ls (ChangePrereqs nth t (ReplacePrereq o n)) h = where_holds-other _ Already (λ k. absurd (cc)) h
 already-other ls e h = nothing-other h
 
 taken-other : (ls : List ClassedLine) (e : Edit) → IsOther (taken ls e)
@@ -132,6 +151,7 @@ open_define-other ls e h = nothing-other h
 
 misread-other : (ls : List ClassedLine) (e : Edit) → IsOther (misread ls e)
 misread-other ls (ChangeLine nth n c) h = where_holds-other _ Misread (λ k. absurd (cc)) h
+misread-other ls (SwitchLine w nth n) h = where_holds-other _ Misread (λ k. absurd (cc)) h
 misread-other ls (EachLine e) h = where_holds-other _ Misread (λ k. absurd (cc)) h
 misread-other ls e h = nothing-other h
 
@@ -150,8 +170,16 @@ first-other : (cs : List (Option Refusal)) → AreOther cs → IsOther (first_ca
 first-other [] h = nothing-other
 first-other (c ∷ cs) h = first_cause-other c cs h.0 (first-other cs h.1)
 
--- of the causes of whole lines, the sixth is that of a place
-place-other : (t : List ℕ) (ls : List ClassedLine) (s : Site) (ts : List (List ℕ)) (found : Option Stretch) → AreOther (take 1 (drop 5 (exchange_causes t ls s ts found)))
+-- of the causes of whole lines, the fourth and the fifth are those of a rule, and the eighth is that of a place
+shared_by-other : (ts : List (List ℕ)) → IsOther (shared_by ts)
+shared_by-other ts h = where_holds-other _ (SharedRule _) (λ k. absurd (cc)) h
+
+rule-other : (t : List ℕ) (ls : List ClassedLine) (s : Site) (ts : List (List ℕ)) (found : Option Stretch) → AreOther (take 2 (drop 3 (exchange_causes t ls s ts found)))
+rule-other t ls (AtPlace p) ts found = (nothing-other, (straddles_at-other ls p, tt))
+rule-other t ls (OfRuleRun nth g) ts found = (shared_by-other _, (where_holds-other _ Straddles (λ k. absurd (cc)), tt))
+rule-other t ls s ts found = (nothing-other, (nothing-other, tt))
+
+place-other : (t : List ℕ) (ls : List ClassedLine) (s : Site) (ts : List (List ℕ)) (found : Option Stretch) → AreOther (take 1 (drop 7 (exchange_causes t ls s ts found)))
 place-other t ls (AtPlace p) ts found = (open_define_at-other ls p, tt)
 place-other t ls s ts found = (nothing-other, tt)
 
@@ -163,13 +191,15 @@ exchange_causes-other t ls s ts found =
     and (where_holds-other _ NoSuch (λ k. absurd (cc)))
     (and (where_holds-other _ Already (λ k. absurd (cc)))
     (and (where_holds-other _ (Ambiguous _) (λ k. absurd (cc)))
+    (and (rule-other t ls s ts found).0
+    (and (rule-other t ls s ts found).1.0
     (and (where_holds-other _ Already (λ k. absurd (cc)))
     (and (where_holds-other _ OpenLine (λ k. absurd (cc)))
     (and (place-other t ls s ts found).0
     (and (where_holds-other _ TooLong (λ k. absurd (cc)))
     (and (where_holds-other _ Misread (λ k. absurd (cc)))
     (and (where_holds-other _ Leans (λ k. absurd (cc)))
-    tt))))))))
+    tt))))))))))
 
 not_exchanged-other : (t : List ℕ) (ls : List ClassedLine) (e : Edit) → IsOther (not_exchanged t ls e)
 not_exchanged-other t ls (ExchangeLines s ts) h = first-other (exchange_causes t ls s ts (site_found ls s)) (exchange_causes-other t ls s ts (site_found ls s)) h
@@ -182,7 +212,7 @@ causes-other t ls e =
     (first_cause-other (unread_prefix ls) _ (where_holds-other _ RecipePrefix (λ k. absurd (cc)))
     (first_cause-other (no_such ls e) _ (no_such-other ls e)
     (first_cause-other (ambiguous ls e) _ (ambiguous_line-other ls (address e))
-    (first_cause-other (prefix_led ls e) _ (prefix_led-other ls e)
+    (first_cause-other (misplaced ls e) _ (misplaced-other ls e)
     (first_cause-other (absent ls e) _ (absent-other ls e)
     (first_cause-other (already ls e) _ (already-other ls e)
     (first_cause-other (taken ls e) _ (taken-other ls e)

@@ -19,6 +19,7 @@ use Rattle.mk_session.specs.Statement.{Does, IsCall, AreCalls, AreTakenBack}
 use Rattle.mk_session.proofs.on_sessions.StepLemmas.{edited-ok}
 use Rattle.mk_session.proofs.on_statement.ValuesStated.{value-stated, values-stated, unset-stated, assign-stated}
 use Rattle.mk_session.proofs.on_statement.LinesStated.{line-stated}
+use Rattle.mk_session.proofs.on_statement.CommentsStated.{comment_out-stated, uncomment-stated}
 use Rattle.mk_session.proofs.on_statement.RulesStated.{prereqs-stated, new_recipe-stated, set_recipe-stated, no_recipe-stated}
 use Rattle.mk_session.proofs.on_statement.NewRulesStated.{rule-stated}
 use Rattle.mk_session.proofs.on_statement.RuleGoesStated.{no_rule-stated}
@@ -30,6 +31,7 @@ use Rattle.mk_session.proofs.on_statement.ExchangesStated.{exchange-stated}
 
 edit-stated : {A : _} (e : Edit A) (t : List ℕ) (rs : List Replacement) → spans t (edit_of e) ≡ Ok rs → Does e (logical_lines t) (logical_lines (text_after t (edit_of e)))
 edit-stated (edit.SetValue k n v) t rs h = value-stated k n.items (edits.Set v.items) t rs h
+edit-stated (edit.SetValueIf k n o v) t rs h = value-stated k n.items (edits.SetIf o.items v.items) t rs h
 edit-stated (edit.AppendValue k n v) t rs h = value-stated k n.items (edits.Append v.items) t rs h
 edit-stated (edit.AddWord k n w) t rs h = value-stated k n.items (edits.Add w.items) t rs h
 edit-stated (edit.RemoveWord k n w) t rs h = value-stated k n.items (edits.Remove w.items) t rs h
@@ -40,11 +42,14 @@ edit-stated (edit.ChangeLine k n (line.InsertWord s w v)) t rs h = line-stated k
 edit-stated (edit.ChangeLine k n (line.Substitute f u)) t rs h = line-stated k n.items (edits.Substitute f.items u.items) t rs h
 edit-stated (edit.ChangeLine k n (line.SetOperator f)) t rs h = line-stated k n.items (edits.SetOperator f) t rs h
 edit-stated (edit.AddAssign p n f v) t rs h = assign-stated (place_of p) n.items f v.items t rs h
+edit-stated (edit.CommentOut k n) t rs h = comment_out-stated k n.items t rs h
+edit-stated (edit.Uncomment k n) t rs h = uncomment-stated k n.items t rs h
 edit-stated (edit.RemoveAssign k n) t rs h = unset-stated k n.items t rs h
 edit-stated (edit.AddRule p gs s ws) t rs h = rule-stated (place_of p) gs.items s ws.items t rs h
 edit-stated (edit.RemoveRule k g) t rs h = no_rule-stated k g.items t rs h
 edit-stated (edit.AddPrereq o k g w) t rs h = prereqs-stated k g.items (edits.AddPrereq o w.items) t rs h
 edit-stated (edit.RemovePrereq k g w) t rs h = prereqs-stated k g.items (edits.RemovePrereq w.items) t rs h
+edit-stated (edit.ReplacePrereq k g o w) t rs h = prereqs-stated k g.items (edits.ReplacePrereq o.items w.items) t rs h
 edit-stated (edit.AddRecipe k g c) t rs h = new_recipe-stated k g.items edits.Last c.items t rs h
 edit-stated (edit.SetRecipe k g i c) t rs h = set_recipe-stated k g.items (edits.ByNumber i) c.items t rs h
 edit-stated (edit.RemoveRecipe k g i) t rs h = no_recipe-stated k g.items (edits.ByNumber i) t rs h

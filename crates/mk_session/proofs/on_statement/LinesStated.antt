@@ -40,7 +40,7 @@ use Rattle.mk_edit_language.proofs.on_edits.MadeEdits.{line_change-by_itself, on
 use Rattle.mk_edit_language.proofs.on_lines.SpotLemmas.{picked-is}
 use Rattle.mk_session.specs.Statement.{Has, Names, Line, Become}
 use Rattle.mk_session.proofs.on_statement.CellTexts.{has-nothing, has-all, has-left, has-right, has-front}
-use Rattle.mk_session.proofs.on_statement.LineWords.{names-in, assign-names, assign-line}
+use Rattle.mk_session.proofs.on_statement.LineWords.{assign-names, assign-line}
 use Rattle.mk_session.proofs.on_statement.PlacedLines.{lines-become}
 use Rattle.mk_session.proofs.on_statement.ValuesStated.{some-mapped}
 

@@ -15,7 +15,7 @@ use Rattle.mk_tree.specs.LineTexts.{context_of, bytes_of}
 use Rattle.mk_tree.specs.NewLineEnds.{lacks_line_end, line_ended, last_ended, above_ended}
 use Rattle.mk_tree.proofs.on_documents.LinesInText.{bytes_of-classed, run-in_text}
 use Rattle.mk_tree.proofs.on_changes.NewLineLemmas.{file_line_end-some, line-ended}
-use Rattle.mk_edit_language.specs.Edits.{Edit, ChangeValue, ChangeLine, ChangePrereqs, AddLine, AddRecipe, SetRecipe, RemoveLines, RenameTarget, ExchangeLines, EachLine}
+use Rattle.mk_edit_language.specs.Edits.{Edit, ChangeValue, ChangeLine, ChangePrereqs, AddLine, AddRecipe, SetRecipe, RemoveLines, RenameTarget, SwitchLine, ExchangeLines, EachLine}
 use Rattle.mk_edit_language.specs.Stretches.{Stretch, between, insertion, touched_by}
 use Rattle.mk_edit_language.specs.LineCauses.{follows_open_line}
 use Rattle.mk_edit_language.specs.KeptLines.{edited_bytes, edited_lines, above_after}
@@ -97,6 +97,7 @@ above-ended t (ChangeLine nth n c) rs s h k = same-lines (bytes_of s.above)
 above-ended t (ChangePrereqs nth g c) rs s h k = same-lines (bytes_of s.above)
 above-ended t (SetRecipe nth g w c) rs s h k = same-lines (bytes_of s.above)
 above-ended t (RemoveLines r) rs s h k = same-lines (bytes_of s.above)
+above-ended t (SwitchLine w nth n) rs s h k = same-lines (bytes_of s.above)
 above-ended t (RenameTarget o n) rs s h k = same-lines (bytes_of s.above)
 above-ended t (ExchangeLines a ts) rs s h k = absurd (cc)
 above-ended t (EachLine d) rs s h k = absurd (cc)

@@ -1,5 +1,5 @@
 -- What a rename does to the lines of a makefile, in bytes.
-use Rattle.std.proofs.Common.{◌≡◌, refl, sym, ℕ, List, [], ◌∷◌, ◌++◌, Bool, true, false, subst}
+use Rattle.std.proofs.Common.{◌≡◌, refl, ℕ, List, [], ◌∷◌, Bool, true, false, subst}
 use Rattle.std.specs.Prelude.{Ok, nat_lt, if◌then◌else◌, All, ◌<◌}
 use Rattle.std.specs.List.{AllZip, list_any}
 use Rattle.std.proofs.lemmas.Slice.Eq.{bytes_eq-Decides}

@@ -1,33 +1,39 @@
 -- What an edit of rules and recipes does to the lines of a makefile, in bytes.
-use Rattle.std.proofs.Common.{◌≡◌, refl, sym, ap, ◌∙◌, subst, ℕ, ◌+◌, List, [], ◌∷◌, ◌++◌, length, take, drop, Bool, true, false, append_assoc, Option, option_map}
-use Rattle.std.specs.Prelude.{Ok, codes, if◌then◌else◌}
+use Rattle.std.proofs.Common.{◌≡◌, refl, sym, ap, ◌∙◌, subst, ℕ, ◌+◌, List, [], ◌∷◌, ◌++◌, length, take, drop, Bool, true, false, append_assoc, Option, Some, option_map}
+use Rattle.std.specs.Prelude.{Ok, ◌||◌, codes, if◌then◌else◌, not, map}
 use Rattle.std.specs.List.{Any}
 use Rattle.std.proofs.lemmas.List.{append-nil}
-use Rattle.std.proofs.lemmas.Bool.{eq-eqb}
+use Rattle.std.specs.Str.{bytes_eq}
+use Rattle.std.proofs.lemmas.Bool.{eq-eqb, false≢true, not-false}
+use Rattle.std.proofs.lemmas.Slice.Eq.{bytes_eq-Decides}
 use Rattle.mk_lines.specs.Lists.{concat, trim_end, trailing}
 use Rattle.mk_lines.specs.LogicalLines.{logical_lines}
 use Rattle.mk_lines.specs.PhysicalLines.{line_end, line_end_bytes, without_line_end}
 use Rattle.mk_lines.specs.Cells.{Cell, joined_byte, raw_text}
-use Rattle.mk_lines.specs.Words.{is_gap, tokens}
+use Rattle.mk_lines.specs.Words.{Token, Gap, Word, is_gap, token_words, tokens}
 use Rattle.mk_lines.proofs.on_units.TokenLemmas.{token_text-tokens}
-use Rattle.mk_lines.specs.Pieces.{Replacement, Piece, old_cells, new_bytes, old_bytes, replacements}
-use Rattle.mk_lines.proofs.on_lists.PieceLemmas.{raw_text-old_cells}
+use Rattle.mk_lines.specs.Pieces.{Replacement, Piece, Keep, Replace, old_cells, new_bytes, old_bytes, replacements}
+use Rattle.mk_lines.proofs.on_lists.PieceLemmas.{new_bytes-append, raw_text-old_cells}
 use Rattle.mk_class.specs.ListTests.{is_empty}
 use Rattle.mk_class.specs.Headers
 use Rattle.mk_class.specs.Headers.{header_units}
+use Rattle.mk_class.specs.Classes.{Class}
 use Rattle.mk_class.specs.ClassedLines.{classed_lines}
-use Rattle.mk_tree.specs.LineTexts.{text_of, context_of, bytes_of}
+use Rattle.mk_class.specs.Texts.{is_one_of, unit_text}
+use Rattle.mk_tree.specs.LineTexts.{StandingLine, text_of, context_of, bytes_of}
 use Rattle.mk_tree.proofs.on_documents.LinesInText.{line-in_text, run-in_text}
-use Rattle.mk_edit_language.specs.Edits.{PrereqChange, AddPrereq, RemovePrereq, RecipeLine, RecipePlace, OfRecipe, ChangePrereqs, AddRecipe, SetRecipe, RemoveLines}
+use Rattle.mk_edit_language.specs.Edits.{PrereqChange, AddPrereq, RemovePrereq, ReplacePrereq, RecipeLine, RecipePlace, OfRecipe, ChangePrereqs, AddRecipe, SetRecipe, RemoveLines}
 use Rattle.mk_edit_language.specs.Addresses as addresses
 use Rattle.mk_edit_language.specs.Addresses.{is_rule_for, found}
 use Rattle.mk_edit_language.specs.Stretches.{Stretch, this_line, between, recipe_found, recipe_place}
 use Rattle.mk_edit_language.specs.NewLines.{new_line_end}
-use Rattle.mk_edit_language.specs.WordPieces.{kept, header_pieces, put_last, prerequisite_text, removed_words, normal_pieces, add_pieces}
+use Rattle.mk_edit_language.specs.RuleCauses.{class_found, header_passes, is_normal, is_order_only, is_prereq}
+use Rattle.mk_edit_language.specs.WordPieces.{kept, header_pieces, put_last, prerequisite_text, is_word_of, removed_words, renamed_tokens, renamed_words, normal_pieces, add_pieces, replace_pieces}
 use Rattle.mk_edit_language.specs.EditSpans.{prereq_pieces, word_spans, recipe_span, where_found}
 use Rattle.mk_edit_language.specs.KeptLines.{respanned_bytes}
 use Rattle.mk_edit_language.specs.Refusals.{spans, text_after}
-use Rattle.mk_edit_language.proofs.on_edits.Accepted.{accepted}
+use Rattle.mk_edit_language.specs.declared.refusal.Refusal.TheVariants.{Absent}
+use Rattle.mk_edit_language.proofs.on_edits.Accepted.{accepted, where_holds-none}
 use Rattle.mk_edit_language.proofs.on_edits.EditedLineLemmas.{respanned-one, respanned-pieces}
 use Rattle.mk_edit_language.proofs.on_edits.MadeEdits.{one_place-made}
 use Rattle.mk_edit_language.proofs.on_lines.SpotLemmas.{picked-is, recipe_found-is}
@@ -35,6 +41,7 @@ use Rattle.mk_edit_language.proofs.on_lines.HeaderChanges.{middle_units, header-
 use Rattle.mk_edit_language.proofs.on_prerequisites.HeaderEdits.{header_pieces-whole, kept-old, word_spans-header}
 use Rattle.mk_edit_language.proofs.on_prerequisites.AddPrereqLemmas.{put_last-old}
 use Rattle.mk_edit_language.proofs.on_prerequisites.WordsRemoved.{removed-old_cells}
+use Rattle.mk_edit_language.proofs.on_renames.WordsRenamed.{renamed-old_cells}
 use Rattle.mk_session.specs.Statement.{Has, Names, Line, Recipe, Become}
 use Rattle.mk_session.proofs.on_statement.CellTexts.{has-nothing, has-left, has-right, has-front}
 use Rattle.mk_session.proofs.on_statement.LineWords.{header-front, rule-for, rule-names}
@@ -48,6 +55,7 @@ use Rattle.mk_session.proofs.on_statement.ValuesStated.{some-mapped, no-lines}
 abbrev word_put : PrereqChange → List ℕ
 word_put (AddPrereq order w) = w
 word_put (RemovePrereq w) = []
+word_put (ReplacePrereq o w) = w
 
 -- A change keeps the targets of a rule and what stands before its prerequisites, and its pieces are the line's.
 record KeepTargets (h : Headers.Header Cell) (w : List ℕ) (ps : List Piece) : Type 0 where
@@ -84,10 +92,68 @@ order-keeps w h = go (is_empty h.bar)
 removed-cells : (w : List ℕ) (us : List (List Cell)) → old_cells (removed_words w us) ≡ concat us
 removed-cells w us = removed-old_cells w [] (tokens joined_byte us) ∙ token_text-tokens joined_byte us
 
-change-keeps : (c : PrereqChange) (h : Headers.Header Cell) → KeepTargets h (word_put c) (prereq_pieces c h)
-change-keeps (AddPrereq true w) h = order-keeps w h
-change-keeps (AddPrereq false w) h = normal-keeps w h
-change-keeps (RemovePrereq w) h = kept-first h [] (removed_words w h.normal) (removed_words w h.order_only) (removed-cells w h.normal) (removed-cells w h.order_only) (has-nothing _)
+-- a new word in the place of an old one that is there
+differ-turned : (s t : List ℕ) → bytes_eq s t ≡ false → bytes_eq t s ≡ false
+differ-turned s t h = go (bytes_eq t s) refl
+  where
+    go : (b : Bool) → bytes_eq t s ≡ b → b ≡ false
+    go true e = absurd (false≢true (sym h ∙ (bytes_eq-Decides s t).1 (sym ((bytes_eq-Decides t s).0 e))))
+    go false e = refl
+
+module _ (o n : List ℕ) where
+  tokens-put : (ts : List (Token Cell)) → is_one_of o (map (map joined_byte) (token_words ts)) ≡ true → Has n (new_bytes (renamed_tokens o n ts))
+  tokens-put [] h = absurd (cc)
+  tokens-put (Gap u ∷ ts) h = has-right n (raw_text u) (new_bytes (renamed_tokens o n ts)) (tokens-put ts h)
+  tokens-put (Word w ∷ ts) h = go (is_word_of o w) refl (tokens-put ts)
+    where
+      go : (b : Bool) → is_word_of o w ≡ b → (is_one_of o (map (map joined_byte) (token_words ts)) ≡ true → Has n (new_bytes (renamed_tokens o n ts)))
+          → Has n (new_bytes ((if b then Replace (concat w) n else Keep (concat w)) ∷ renamed_tokens o n ts))
+      go true e k = has-front n (new_bytes (renamed_tokens o n ts))
+      go false e k =
+          let other : bytes_eq o (unit_text joined_byte w) ≡ false = differ-turned (unit_text joined_byte w) o e in
+          has-right n (raw_text (concat w)) (new_bytes (renamed_tokens o n ts)) (k (ap (λ z. z || is_one_of o (map (map joined_byte) (token_words ts))) (sym other) ∙ h))
+
+  words-old : (us : List (List Cell)) → old_cells (renamed_words o n us) ≡ concat us
+  words-old us = renamed-old_cells o n (tokens joined_byte us) ∙ token_text-tokens joined_byte us
+
+  -- the pieces before others
+  has-first : (ps qs : List Piece) → Has n (new_bytes ps) → Has n (new_bytes (ps ++ qs))
+  has-first ps qs h = subst (Has n) (sym (new_bytes-append ps qs)) (has-left n (new_bytes ps) (new_bytes qs) h)
+
+  has-last : (ps qs : List Piece) → Has n (new_bytes qs) → Has n (new_bytes (ps ++ qs))
+  has-last ps qs h = subst (Has n) (sym (new_bytes-append ps qs)) (has-right n (new_bytes ps) (new_bytes qs) h)
+
+  replaced-keeps : (h : Headers.Header Cell) → is_prereq o h ≡ true → KeepTargets h n (replace_pieces o n h)
+  replaced-keeps h e =
+      kept-first h n (renamed_words o n h.normal) (renamed_words o n h.order_only) (words-old h.normal) (words-old h.order_only)
+      (go (is_normal o h) refl (is_order_only o h) refl e)
+    where
+      go : (a : Bool) → is_normal o h ≡ a → (b : Bool) → is_order_only o h ≡ b → (a || b) ≡ true → Has n (new_bytes (renamed_words o n h.normal ++ (kept h.bar ++ (renamed_words o n h.order_only ++ kept h.tail))))
+      go true i b j k = has-first (renamed_words o n h.normal) _ (tokens-put (tokens joined_byte h.normal) i)
+      go false i true j k =
+          has-last (renamed_words o n h.normal) _ (has-last (kept h.bar) (renamed_words o n h.order_only ++ kept h.tail) (has-first (renamed_words o n h.order_only) (kept h.tail) (tokens-put (tokens joined_byte h.order_only) j)))
+      go false i false j k = absurd (cc)
+
+-- a word of a header that is replaced is there
+abbrev IsThere : PrereqChange → Headers.Header Cell → Type 0
+IsThere (ReplacePrereq o n) h = is_prereq o h ≡ true
+IsThere c h = Unit {0}
+
+change-keeps : (c : PrereqChange) (h : Headers.Header Cell) → IsThere c h → KeepTargets h (word_put c) (prereq_pieces c h)
+change-keeps (AddPrereq true w) h i = order-keeps w h
+change-keeps (AddPrereq false w) h i = normal-keeps w h
+change-keeps (ReplacePrereq o n) h i = replaced-keeps o n h i
+change-keeps (RemovePrereq w) h i = kept-first h [] (removed_words w h.normal) (removed_words w h.order_only) (removed-cells w h.normal) (removed-cells w h.order_only) (has-nothing _)
+
+-- which an accepted edit tells
+there : (nth : Option ℕ) (g : List ℕ) (c : PrereqChange) (t : List ℕ) (rs : List Replacement) (s : StandingLine) (h : Headers.Header Cell) → spans t (ChangePrereqs nth g c) ≡ Ok rs
+    → found (classed_lines t) (addresses.Rule nth g) ≡ Some s → s.line.class ≡ Class.Header h → IsThere c h
+there nth g (AddPrereq o w) t rs s h k f e = tt
+there nth g (RemovePrereq w) t rs s h k f e = tt
+there nth g (ReplacePrereq o n) t rs s h k f e =
+    let none : not (header_passes (is_prereq o) (class_found (found (classed_lines t) (addresses.Rule nth g)))) ≡ false = where_holds-none _ Absent (accepted t (ChangePrereqs nth g (ReplacePrereq o n)) rs k).not_absent in
+    let passes : header_passes (is_prereq o) (class_found (found (classed_lines t) (addresses.Rule nth g))) ≡ true = not-false _ none in
+    sym (ap (λ (y : Option StandingLine). header_passes (is_prereq o) (class_found y)) f ∙ ap (λ (y : Class Cell). header_passes (is_prereq o) (Some y)) e) ∙ passes
 
 -- the line of a rule becomes another
 pub prereqs-stated : (nth : Option ℕ) (g : List ℕ) (c : PrereqChange) (t : List ℕ) (rs : List Replacement) → spans t (ChangePrereqs nth g c) ≡ Ok rs
@@ -104,7 +170,7 @@ prereqs-stated nth g c t rs h =
     let k = L.class ∙ F.class_is in
     let W = header-here (context_of s.above) s.line.bytes H k in
     let ps = prereq_pieces c H in
-    let P = change-keeps c H in
+    let P = change-keeps c H (there nth g c t rs s H h M.1 F.class_is) in
     let end = line_end_bytes (line_end s.line.bytes) in
     let T = raw_text (concat H.targets) in
     let C = raw_text (concat (middle_units H)) in

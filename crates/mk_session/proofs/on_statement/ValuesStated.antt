@@ -1,6 +1,6 @@
 -- What an edit of assignments does to the lines of a makefile, in bytes.
 use Rattle.std.proofs.Common.{◌≡◌, refl, sym, ap, ◌∙◌, subst, arith, ℕ, ◌+◌, ◌-◌, ◌≤◌, List, [], ◌∷◌, ◌++◌, map, length, take, drop, cond, Bool, true, false, append_assoc, Option, Some, None, option_map, inl, inr}
-use Rattle.std.specs.Prelude.{Ok, ◌⊎◌, codes, if◌then◌else◌}
+use Rattle.std.specs.Prelude.{Ok, ◌&&◌, ◌⊎◌, codes, if◌then◌else◌}
 use Rattle.std.specs.List.{AllZip}
 use Rattle.std.proofs.lemmas.List.{append-nil}
 use Rattle.std.proofs.lemmas.Bool.{and_parts}
@@ -18,10 +18,10 @@ use Rattle.mk_class.specs.Classes.{Class}
 use Rattle.mk_class.specs.Contexts.{Context, start, context_after}
 use Rattle.mk_class.specs.ClassTable.{class_of}
 use Rattle.mk_class.specs.ClassedLines.{ClassedLine, classed_lines}
-use Rattle.mk_tree.specs.LineTexts.{text_of, context_of, bytes_of}
+use Rattle.mk_tree.specs.LineTexts.{StandingLine, text_of, context_of, bytes_of}
 use Rattle.mk_tree.proofs.on_documents.LinesInText.{AreClassed, AreClassed-class, AreClassed-tail, AreClassed-lines, bytes_of-classed, line-in_text}
-use Rattle.mk_edit_language.specs.Edits.{Place, NewAssign, One, Every, ValueChange, Set, Append, Add, Remove, OfAssign, ChangeValue, AddLine, RemoveLines}
-use Rattle.mk_edit_language.specs.Addresses.{Variable, assigns, found}
+use Rattle.mk_edit_language.specs.Edits.{Place, NewAssign, One, Every, ValueChange, Set, SetIf, Append, Add, Remove, OfAssign, ChangeValue, AddLine, RemoveLines}
+use Rattle.mk_edit_language.specs.Addresses.{Variable, assigns, found, has_value, value_address}
 use Rattle.mk_edit_language.specs.Stretches.{Stretch, this_line, between, place_found, touched_by}
 use Rattle.mk_edit_language.specs.NewLines.{assign_text, new_line_end}
 use Rattle.mk_edit_language.specs.ValueChanges.{value_start, value_end, blanks_end, set_value_span, append_value_span, assignment_spans, value_spans, led_words, staying, remove_word_pieces, remove_word_spans, has_effect, is_class_changed, change_spans}
@@ -45,6 +45,7 @@ use Rattle.mk_session.proofs.on_statement.PlacedLines.{Nothing, lines-become}
 -- the text that a change puts into a value
 abbrev put_in : ValueChange → List ℕ
 put_in (Set v) = v
+put_in (SetIf o v) = v
 put_in (Append v) = v
 put_in (Add w) = w
 put_in (Remove w) = []
@@ -66,6 +67,7 @@ set-rises v at a = go (is_empty v) refl
 
 change-rises : (c : ValueChange) (at : ℕ) (a : Assignment Cell) → (b : ℕ) × Rise (value_start at a) b (change_spans c at a)
 change-rises (Set v) at a = set-rises v at a
+change-rises (SetIf o v) at a = set-rises v at a
 change-rises (Append v) at a = (value_end at a, (omega arith, omega arith, omega arith))
 change-rises (Add w) at a = (value_end at a, (omega arith, omega arith, omega arith))
 change-rises (Remove w) at a = go (is_empty (staying w (led_words a.value))) refl
@@ -115,6 +117,7 @@ changed-has ctx n l k c at e h =
   where
     go : (c : ValueChange) (a : Assignment Cell) → Has (put_in c) (replaced at l (change_spans c at a))
     go (Set v) a = first-put at l (set_value_span v at a) []
+    go (SetIf o v) a = first-put at l (set_value_span v at a) []
     go (Append v) a = append-put v at a l
     go (Add w) a = append-put w at a l
     go (Remove w) a = has-nothing (replaced at l (remove_word_spans w at a))
@@ -130,15 +133,35 @@ some-mapped f (Some x) y e = (x, refl, cc)
 pub no-lines : (o : Option Stretch) (s : Stretch) → option_map between o ≡ Some s → bytes_of s.lines ≡ []
 no-lines o s e = let M = some-mapped between o s e in ap (λ (z : Stretch). bytes_of z.lines) (sym M.2)
 
+-- the assignment that a change means
+record IsNamedSpot (ls : List ClassedLine) (n : List ℕ) (s : StandingLine) : Type 0 where
+  whole : ls ≡ s.above ++ s.line ∷ s.below
+  passes : assigns n s.line.class ≡ true
+
+named-spot : (ls : List ClassedLine) (nth : Option ℕ) (n : List ℕ) (c : ValueChange) (s : StandingLine) → found ls (value_address nth n c) ≡ Some s → IsNamedSpot ls n s
+named-spot ls nth n c s h = go c h
+  where
+    named : found ls (Variable nth n) ≡ Some s → IsNamedSpot ls n s
+    named k = let S = picked-is (λ l. assigns n l.class) ls nth s k in record { whole = S.whole; passes = S.passes }
+
+    go : (c : ValueChange) → found ls (value_address nth n c) ≡ Some s → IsNamedSpot ls n s
+    go (SetIf o v) k =
+        let S = picked-is (λ l. assigns n l.class && has_value o l.class) ls nth s k in
+        record { whole = S.whole; passes = (and_parts (assigns n s.line.class) (has_value o s.line.class) S.passes).0 }
+    go (Set v) k = named k
+    go (Append v) k = named k
+    go (Add w) k = named k
+    go (Remove w) k = named k
+
 -- the value of one assignment becomes another
 pub value-stated : (nth : Option ℕ) (n : List ℕ) (c : ValueChange) (t : List ℕ) (rs : List Replacement) → spans t (ChangeValue (One nth) n c) ≡ Ok rs
     → Become (Line n 61 []) (Line n 61 (put_in c)) (logical_lines t) (logical_lines (text_after t (ChangeValue (One nth) n c)))
 value-stated nth n c t rs h =
     let e = ChangeValue (One nth) n c in
     let K = (one_place-made e tt t rs h).kept in
-    let M = some-mapped this_line (found (classed_lines t) (Variable nth n)) K.touched K.place in
+    let M = some-mapped this_line (found (classed_lines t) (value_address nth n c)) K.touched K.place in
     let s = M.0 in
-    let S = picked-is (λ l. assigns n l.class) (classed_lines t) nth s M.1 in
+    let S = named-spot (classed_lines t) nth n c s M.1 in
     let L = line-in_text t s.above s.line s.below S.whole in
     let at = length (text_of s.above) in
     let touched : touched_by (classed_lines t) e ≡ Some (this_line s) = ap (option_map this_line) M.1 in

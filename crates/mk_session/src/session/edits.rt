@@ -27,6 +27,15 @@ impl<A: Allocator + Copy> Session<A> {
         self.apply_made(Edit::set(self.alloc, name, value))
     }
 
+    /// `set-if NAME OLD VALUE`: makes the edit of [`Edit::set_if`].
+    pub fn set_if(&mut self, name: &[u8], old: &[u8], value: &[u8]) -> Result<(), Refusal>
+        ensures { IsApplied
+            (edits.ChangeValue (edits.One None) name.now (edits.SetIf old.now value.now))
+            result self.old self.new }
+    {
+        self.apply_made(Edit::set_if(self.alloc, name, old, value))
+    }
+
     /// `append NAME VALUE`: makes the edit of [`Edit::append`].
     pub fn append(&mut self, name: &[u8], value: &[u8]) -> Result<(), Refusal>
         ensures { IsApplied (edits.ChangeValue (edits.One None) name.now (edits.Append value.now))
@@ -107,6 +116,14 @@ impl<A: Allocator + Copy> Session<A> {
             result self.old self.new }
     {
         self.apply_made(Edit::all_set(self.alloc, name, value))
+    }
+
+    /// `all set-if NAME OLD VALUE`: makes the edit of [`Edit::all_set_if`].
+    pub fn all_set_if(&mut self, name: &[u8], old: &[u8], value: &[u8]) -> Result<(), Refusal>
+        ensures { IsApplied (edits.ChangeValue edits.Every name.now (edits.SetIf old.now value.now))
+            result self.old self.new }
+    {
+        self.apply_made(Edit::all_set_if(self.alloc, name, old, value))
     }
 
     /// `all append NAME VALUE`: makes the edit of [`Edit::all_append`].
@@ -209,6 +226,22 @@ impl<A: Allocator + Copy> Session<A> {
         self.apply_made(Edit::unset(self.alloc, name))
     }
 
+    /// `comment-out NAME`: makes the edit of [`Edit::comment_out`].
+    pub fn comment_out(&mut self, name: &[u8]) -> Result<(), Refusal>
+        ensures { IsApplied (edits.SwitchLine edits.CommentOut None name.now)
+            result self.old self.new }
+    {
+        self.apply_made(Edit::comment_out(self.alloc, name))
+    }
+
+    /// `uncomment NAME`: makes the edit of [`Edit::uncomment`].
+    pub fn uncomment(&mut self, name: &[u8]) -> Result<(), Refusal>
+        ensures { IsApplied (edits.SwitchLine edits.Uncomment None name.now)
+            result self.old self.new }
+    {
+        self.apply_made(Edit::uncomment(self.alloc, name))
+    }
+
     /// `assign PLACE NAME OP VALUE`: makes the edit of [`Place::assign`].
     pub fn assign(
         &mut self,
@@ -269,6 +302,14 @@ impl<A: Allocator + Copy> Session<A> {
             result self.old self.new }
     {
         self.apply_made(Edit::undepend(self.alloc, target, word))
+    }
+
+    /// `depend-replace TARGET OLD NEW`: makes the edit of [`Edit::depend_replace`].
+    pub fn depend_replace(&mut self, target: &[u8], old: &[u8], new: &[u8]) -> Result<(), Refusal>
+        ensures { IsApplied (edits.ChangePrereqs None target.now (edits.ReplacePrereq old.now new.now))
+            result self.old self.new }
+    {
+        self.apply_made(Edit::depend_replace(self.alloc, target, old, new))
     }
 
     /// `recipe TARGET LINE`: makes the edit of [`Edit::recipe`].
@@ -352,6 +393,23 @@ impl<A: Allocator + Copy> Session<A> {
             result self.old self.new }
     {
         self.apply_made(Edit::line_remove(self.alloc, old))
+    }
+
+    /// `rule-replace TARGET BLOCK`: makes the edit of [`Edit::rule_replace`].
+    pub fn rule_replace(&mut self, target: &[u8], block: &[u8]) -> Result<(), Refusal>
+        ensures { IsApplied
+            (edits.ExchangeLines (edits.OfRuleRun None target.now) (block_lines block.now))
+            result self.old self.new }
+    {
+        self.apply_made(Edit::rule_replace(self.alloc, target, block))
+    }
+
+    /// `rule-remove TARGET`: makes the edit of [`Edit::rule_remove`].
+    pub fn rule_remove(&mut self, target: &[u8]) -> Result<(), Refusal>
+        ensures { IsApplied (edits.ExchangeLines (edits.OfRuleRun None target.now) [])
+            result self.old self.new }
+    {
+        self.apply_made(Edit::rule_remove(self.alloc, target))
     }
 
     // Makes an edit, if there was memory to make it of its texts.

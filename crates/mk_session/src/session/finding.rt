@@ -7,7 +7,7 @@ ghost use Rattle.mk_tree.specs.Documents.{IsFaithful};
 ghost use Rattle.mk_edit_language.specs.Addresses.{Rule, Variable};
 ghost use Rattle.mk_edit_language.specs.EditViews.{edit_of};
 ghost use Rattle.mk_edit_parts.specs.Seeking.{IsKnownOf, IsLineKnown};
-ghost use Rattle.mk_lookup.specs.Indices.{assignment_index, rule_index};
+ghost use Rattle.mk_session.specs.Indices.{assignment_index, rule_index};
 
 use super::Session;
 use mk_edit::{Edit, Refusal};
@@ -38,7 +38,7 @@ impl<A: Allocator + Copy> Session<A> {
         ensures none_read { self.new.rereads ≡ self.old.rereads }
     {
         let known = assignment_known(self.alloc, &mut self.doc, nth, name);
-        mk_lookup::find_assignment(self.doc.doc(), nth, name, known)
+        crate::lookup::find_assignment(self.doc.doc(), nth, name, known)
     }
 
     /// The index, from 0, of the line of the rule for this target that an edit takes, as
@@ -54,7 +54,7 @@ impl<A: Allocator + Copy> Session<A> {
         ensures none_read { self.new.rereads ≡ self.old.rereads }
     {
         let known = rule_known(self.alloc, &mut self.doc, nth, target);
-        mk_lookup::find_rule(self.doc.doc(), nth, target, known)
+        crate::lookup::find_rule(self.doc.doc(), nth, target, known)
     }
 }
 

@@ -1,13 +1,8 @@
-use Rattle.std.proofs.Common.{◌≡◌, ◌∙◌, refl, sym, ap, arith, ℕ, List, Bool, true, false, inl, inr}
-use Rattle.mk_lines.specs.Cells.{Cell}
-use Rattle.mk_class.specs.Assignments.{Assignment}
-use Rattle.mk_class.specs.declared.assignment.Assignment as offsets
-use Rattle.mk_tree.specs.LineTexts.{line_in}
-use Rattle.mk_tree.specs.LocatedLines.{located_line}
+use Rattle.std.proofs.Common.{◌≡◌, refl, arith, true, inr}
 use Rattle.mk_tree.specs.Trees.{line_view}
-use Rattle.mk_edit_language.specs.LineChanges.{fits_line, flavor_after}
+use Rattle.mk_edit_language.specs.LineChanges.{fits_line}
 use Rattle.mk_edit_parts.specs.LineChangePlaces.{rewrite_view}
-use Rattle.mk_edit.proofs.on_line_changes.MisreadLines.{bytes-in, fits-by, fits-one, unfit-misread}
+use Rattle.mk_edit.proofs.on_line_changes.MisreadLines.{fits-by, fits-one, unfit-misread}
 use Rattle.mk_edit.proofs.change_line.changed_line.Given.{Over}
 use Rattle.mk_edit.proofs.change_line.changed_line.Goals.{After-flavor_after-flavor}
 use Rattle.mk_edit.proofs.change_line.changed_line.Goals as goal

@@ -4,7 +4,6 @@ use Rattle.std.proofs.lemmas.List.{append-nil}
 use Rattle.mk_lines.specs.Cells.{Cell, joined_byte, line_cells}
 use Rattle.mk_lines.specs.Limits.{max_text}
 use Rattle.mk_lines.specs.declared.split.Span.{Span}
-use Rattle.mk_class.specs.Assignments.{Assignment}
 use Rattle.mk_class.specs.LocatedClasses.{located_class}
 use Rattle.mk_class.specs.declared.assignment.Assignment as offsets
 use Rattle.mk_tree.specs.LocatedLines.{LocatedLine, text_of_line, located_text, size_of}
@@ -20,6 +19,7 @@ use Rattle.mk_edit.specs.LineChangePlans.{first_of_words}
 use Rattle.mk_edit.specs.ValueChangeLines.{value_text_located}
 use Rattle.mk_edit.proofs.on_line_changes.ChangeLinePlans.{IsLineChangeOf, IsLeft, change_line-of, exchanged, handed-on, left-refused, read-anew}
 use Rattle.mk_edit.proofs.on_line_changes.LinesMade.{can-note, has-assignment, separator-within}
+use Rattle.mk_edit.proofs.on_plans.CausePlans.{long-as}
 use Rattle.mk_edit.proofs.on_plans.DocumentPlaces.{place-defines}
 use Rattle.mk_edit.proofs.on_plans.PlanLemmas.{refused-first, moves-made}
 use Rattle.mk_edit.proofs.on_plans.RangePlans.{line-short}
@@ -107,10 +107,6 @@ length-by : (d : LineChange) (n : ℕ) (cells : List Cell) (p q : Option Span) (
 length-by d n cells p q s v w h s-is p-is v-is =
     h ∙ (ap (λ z. length (new_text d z v)) (s-is ∙ ap (separator_bytes cells) p-is) ∙ ap (λ z. length (new_text d (separator_bytes cells q) z)) v-is)
 
-long-by : (r o : Bool) (k b n s K B N S : ℕ) → r ≡ nat_lt (max_text + b) (s + k * n) → k ≡ K → b ≡ B → n ≡ N → s ≡ S → r ≡ o → nat_lt (max_text + B) (S + K * N) ≡ o
-long-by r o k b n s K B N S h k-is b-is n-is s-is e =
-    sym (h ∙ (ap (λ z. nat_lt (max_text + b) (s + z * n)) k-is ∙ (ap (λ z. nat_lt (max_text + z) (s + K * n)) b-is ∙ (ap (λ z. nat_lt (max_text + B) (s + K * z)) n-is ∙ ap (λ z. nat_lt (max_text + B) (z + K * N)) s-is)))) ∙ e
-
 -- whether the text would be too long
 long : (g : Over) (c : After-is_too_long g) (o : Bool) → c.is_too_long.result ≡ o
     → nat_lt (max_text + bytes_in (raw_ranges (line_cells (line_view c.line-line.result.now).bytes) (all (rewrite_view c.args.change) (line_view c.line-line.result.now) c.assignment_of-assignment.result)))
@@ -122,7 +118,7 @@ long g c o e =
     let n =
     length-by d c.new_length-new_length.result (line_cells l.bytes) c.separator_place-separator.result (separator_place d (text_of_line l) p) c.separator_bytes.result.now c.value_text-2.result.now (value_text_located l)
     c.new_length-new_length.ensures c.separator_bytes.ensures c.separator_place-separator.ensures c.value_text-2.ensures in
-    long-by c.is_too_long.result o c.places_of-places.result.count c.places_of-places.result.bytes c.new_length-new_length.result c.size-size.result
+    long-as c.is_too_long.result o c.places_of-places.result.count c.places_of-places.result.bytes c.new_length-new_length.result c.size-size.result
     (length (all d l p)) (bytes_in (raw_ranges (line_cells l.bytes) (all d l p))) (length (made d l p)) (size_of c.args.doc.now) c.is_too_long.ensures (plus-none _ _ c.places_of-places.ensures.count) (plus-none _ _ c.places_of-places.ensures.bytes) n c.size-size.ensures.number e
 
 -- ---- the ends

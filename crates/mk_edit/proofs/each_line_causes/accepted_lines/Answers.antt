@@ -2,7 +2,6 @@ use Rattle.std.proofs.Common.{◌≡◌, ◌∙◌, sym, ap, subst, None}
 use Rattle.mk_edit_language.specs.ArgumentCauses.{bad_argument, reserved}
 use Rattle.mk_edit_language.specs.Causes.{where_holds}
 use Rattle.mk_edit_language.specs.EditViews.{each_edit_of, edit_of}
-use Rattle.mk_edit_language.specs.Edits.{EachLine}
 use Rattle.mk_edit_language.specs.declared.refusal.Refusal.TheVariants.{Reserved}
 use Rattle.mk_edit_parts.specs.AddressViews.{field_refusal}
 use Rattle.mk_edit_parts.proofs.on_finding.FindLemmas.{reserved-holds}

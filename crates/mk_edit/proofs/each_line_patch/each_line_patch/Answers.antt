@@ -1,4 +1,4 @@
-use Rattle.std.proofs.Common.{◌∙◌, arith, map}
+use Rattle.std.proofs.Common.{arith, map}
 use Rattle.std.proofs.lemmas.List.{length-map}
 use Rattle.mk_edit_parts.specs.EachLineWalks.{each_change_view}
 use Rattle.mk_edit.specs.EachLineSurveys.{noted_view}

@@ -1,10 +1,8 @@
-use Rattle.std.proofs.Common.{◌≡◌, ◌∙◌, ◌++◌, ◌<◌, ◌+◌, ap, drop, sym, subst, arith, refl, length, true, false, inl, inr, Some, List, ℕ}
+use Rattle.std.proofs.Common.{◌≡◌, ◌∙◌, ◌++◌, ◌+◌, ap, drop, sym, arith, refl, length, inl, inr}
 use Rattle.mk_lines.specs.LogicalLines.{has_no_line_end, logical_lines}
-use Rattle.mk_class.specs.Contexts.{Context}
 use Rattle.mk_tree.specs.LocatedLines.{located_text}
 use Rattle.mk_edit_language.specs.Causes.{where_holds}
 use Rattle.mk_edit_language.specs.EditViews.{site_of}
-use Rattle.mk_edit_language.specs.ExchangeCauses.{is_exchange_misread, exchange_leans}
 use Rattle.mk_edit_language.specs.LineExchanges.{block_text}
 use Rattle.mk_edit_language.specs.declared.refusal.Refusal.TheVariants.{NoMemory, OpenLine, OpenDefine, TooLong, Misread, Leans}
 use Rattle.mk_edit_parts.specs.LineRunsFound.{block_seen}

@@ -2,6 +2,7 @@ use Rattle.std.proofs.Common.{◌≡◌, ◌∙◌, ap, subst, sym}
 use Rattle.mk_edit_language.specs.Edits.{ExchangeLines}
 use Rattle.mk_edit_language.specs.EditViews.{edit_of, lines_of, site_of}
 use Rattle.mk_edit_parts.specs.LineRunsFound.{block_seen}
+use Rattle.mk_edit_parts.specs.Windows.{IsKnown}
 use Rattle.mk_edit.specs.Planned.{Plans}
 use Rattle.mk_edit.proofs.planning.plan_with.Goals as goal
 
@@ -19,4 +20,10 @@ returns-in-ExchangeLines g c =
     let site = site_of c.in-ExchangeLines.site in
     let lines : block_seen c.block_of.result ≡ lines_of c.in-ExchangeLines.block = c.block_of.ensures in
     let edit : edit_of c.args.edit.now ≡ ExchangeLines site (lines_of c.in-ExchangeLines.block) = ap edit_of c.in-ExchangeLines.is in
-    subst (λ e. Plans e c.args.doc.now c.args.meter.now c.plan_exchange_lines.new.meter c.plan_exchange_lines.result) (ap (ExchangeLines site) lines ∙ sym edit) c.plan_exchange_lines.ensures
+    subst (λ e. Plans e c.args.doc.now c.args.meter.now c.plan_lines.new.meter c.plan_lines.result) (ap (ExchangeLines site) lines ∙ sym edit) c.plan_lines.ensures
+
+pub plan_lines-requires-clause-known : goal.plan_lines-requires-clause-known
+plan_lines-requires-clause-known g c =
+    let site = site_of c.in-ExchangeLines.site in
+    let lines : block_seen c.block_of.result ≡ lines_of c.in-ExchangeLines.block = c.block_of.ensures in
+    subst (λ e. IsKnown e c.args.doc.now c.args.known.now) (ap edit_of c.in-ExchangeLines.is ∙ ap (ExchangeLines site) (sym lines)) c.requires.known

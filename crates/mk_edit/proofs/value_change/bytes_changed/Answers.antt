@@ -1,43 +1,25 @@
-use Rattle.std.proofs.Common.{◌∙◌, refl, sym, ap, subst, arith, length}
+use Rattle.std.proofs.Common.{◌∙◌, refl, sym, ap, subst}
 use Rattle.mk_lines.specs.Cells.{joined_byte}
 use Rattle.mk_class.specs.Contexts.{Context}
 use Rattle.mk_class.specs.LocatedClasses.{located_class}
 use Rattle.mk_tree.specs.LocatedLines.{LocatedLine}
 use Rattle.mk_tree.specs.Trees.{line_view}
-use Rattle.mk_edit_language.specs.Edits.{ValueChange, Set, Append, Add, Remove}
-use Rattle.mk_edit_parts.specs.LineRanges.{value_range_located}
+use Rattle.mk_edit_language.specs.Edits.{ValueChange, Append, Add, Remove}
 use Rattle.mk_edit_parts.specs.LocatedParts.{IsClassed}
 use Rattle.mk_edit.specs.ValueChangeLines.{IsOwnLine, bytes_changed, change_view}
 use Rattle.mk_edit.specs.declared.value_change.Change.{Change}
-use Rattle.mk_edit.proofs.on_value_changes.ChangedBytes.{mapped, own-has, put-bytes, put-within, remove-changed, set-changed, set-ranged}
+use Rattle.mk_edit.proofs.on_value_changes.ChangedBytes.{mapped, own-has, own-set, put-bytes, put-within, remove-changed}
 use Rattle.mk_edit.proofs.value_change.bytes_changed.Goals as goal
 
 -- the line has the class that it has in its context
 classed : (c : ValueChange) (x : Context) (l : LocatedLine) → IsOwnLine c x l → IsClassed l
 classed c x l O = record { context = x; class_is = O.class_is ∙ ap (located_class joined_byte) (sym O.here) }
 
-pub value_range-range-requires : goal.value_range-range-requires
-value_range-range-requires g c = classed _ _ _ c.requires
+pub with_value-requires : goal.with_value-requires
+with_value-requires g c = subst (λ (z : Change). IsOwnLine (change_view z) c.args.place.now.context (line_view c.args.line.now)) c.in-Set.is c.requires
 
-pub with_replaced-requires : goal.with_replaced-requires
-with_replaced-requires g c =
-    let x = c.args.place.now.context in
-    let l = line_view c.args.line.now in
-    let v = c.in-Set.value.now in
-    let O : IsOwnLine (Set v) x l = subst (λ (z : Change). IsOwnLine (change_view z) x l) c.in-Set.is c.requires in
-    let R = set-ranged x l v c.value_range-range.result O (c.value_range-range.ensures ∙ ap (λ b. value_range_located b l) c.is_empty.ensures) in
-    record { rises = R.rises; within = omega (arith, R.within, ap length c.bytes.ensures.bytes) }
-
-pub returns-in-Set : goal.returns-in-Set
-returns-in-Set g c =
-    let x = c.args.place.now.context in
-    let l = line_view c.args.line.now in
-    let v = c.in-Set.value.now in
-    let O : IsOwnLine (Set v) x l = subst (λ (z : Change). IsOwnLine (change_view z) x l) c.in-Set.is c.requires in
-    let k = c.value_range-range.ensures ∙ ap (λ b. value_range_located b l) c.is_empty.ensures in
-    mapped _ _ c.with_replaced.result
-    (λ all e. set-changed x l v c.bytes.result.now all.items c.value_range-range.result O k c.bytes.ensures.bytes e ∙ ap (λ (z : Change). bytes_changed (change_view z) x l) (sym c.in-Set.is))
-    c.with_replaced.ensures
+pub with_value-requires-in-SetIf : goal.with_value-requires-in-SetIf
+with_value-requires-in-SetIf g c = own-set _ _ _ _ (subst (λ (z : Change). IsOwnLine (change_view z) c.args.place.now.context (line_view c.args.line.now)) c.in-SetIf.is c.requires)
 
 pub with_text_after-requires : goal.with_text_after-requires
 with_text_after-requires g c = record { classed = classed _ _ _ c.requires; within = put-within _ _ _ c.requires }

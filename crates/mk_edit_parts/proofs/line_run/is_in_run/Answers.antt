@@ -1,13 +1,20 @@
-use Rattle.std.proofs.Common.{◌≤◌, ◌∙◌, ◌+◌, ◌||◌, ap, sym, arith, length, true, false}
+use Rattle.std.proofs.Common.{◌≡◌, ◌≤◌, ◌∙◌, ◌+◌, ◌-◌, ◌||◌, ap, sym, arith, drop, length, true, false}
 use Rattle.mk_tree.specs.Trees.{line_view}
 use Rattle.mk_tree.proofs.AdmissionLemmas.{drop-none, drop-step}
 use Rattle.mk_edit_language.specs.LineRuns.{block_lines}
 use Rattle.mk_edit_parts.proofs.on_recipes.WalkLemmas.{past-end}
-use Rattle.mk_edit_parts.proofs.on_line_runs.RunsCovered.{in_run_from, in_run-on, in_run-past, in_run-told, run-few}
+use Rattle.mk_edit_parts.proofs.on_line_runs.RunsCovered.{in_run_from, in_run-near, in_run-on, in_run-past, in_run-told, run-few}
 use Rattle.mk_edit_parts.proofs.line_run.is_in_run.Goals as goal
 
 pub lines-init : goal.lines-init
-lines-init g c = (sym c.iter-lines.ensures.lines, ap (in_run_from (block_lines c.args.block.now) c.args.at (c.args.at + c.args.count) 0) c.iter-lines.ensures.lines)
+lines-init g c =
+    let b = block_lines c.args.block.now in
+    let end = c.args.at + c.args.count in
+    let first : c.saturating_sub-first.result ≡ end - length b = c.saturating_sub-first.ensures ∙ ap (λ n. end - n) c.line_count.ensures in (
+      sym c.lines_from-lines.ensures,
+      ap (in_run_from b c.args.at end c.saturating_sub-first.result) c.lines_from-lines.ensures
+          ∙ (ap (λ n. in_run_from b c.args.at end n (drop n c.args.doc.now)) first ∙ in_run-near b c.args.at end c.args.doc.now c.requires.faithful),
+    )
 
 pub unreachable-requires : goal.unreachable-requires
 unreachable-requires g c = drop-none c.args.doc.now c.lines.start (omega arith) (c.lines.invariant.0 ∙ c.in_default.ensures.steps.0)

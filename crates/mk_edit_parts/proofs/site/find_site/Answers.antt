@@ -15,6 +15,7 @@ use Rattle.mk_edit_parts.specs.LineRunsFound.{block_seen}
 use Rattle.mk_edit_parts.specs.Seeking.{IsSought}
 use Rattle.mk_edit_parts.proofs.on_finding.FindLemmas.{reserved-holds, unread-holds}
 use Rattle.mk_edit_parts.proofs.on_line_runs.SiteCauses.{field-refused, reserved-refused, prefix-refused, fields-pass}
+use Rattle.mk_edit_parts.proofs.on_line_runs.SiteWindows.{windows-address}
 use Rattle.mk_edit_parts.proofs.site.find_site.Goals as goal
 
 pub returns-in-Some-clause-refused : goal.returns-in-Some-clause-refused
@@ -37,10 +38,10 @@ returns-then-sought-clause-refused g c =
     let fields : bad_argument (ExchangeLines s ts) ≡ None = sym c.bad_site_field.ensures ∙ ap field_refusal c.in_default.is in
     let told = subst (λ a. c.is_reserved_address.result ≡ (list_any is_prefix_name (address_names a) || list_any is_reserved_word (address_targets a))) c.site_address-address.ensures c.is_reserved_address.ensures in
     let free : reserved (ExchangeLines s ts) ≡ None = reserved-holds (ExchangeLines s ts) c.is_reserved_address.result told ∙ ap (λ b. where_holds b Reserved) c.if-is_reserved_address.false in
-    prefix-refused t s ts RecipePrefix fields free (unread-holds (classed_lines t) c.seek-sought.result.has_unread_prefix c.seek-sought.ensures.unread_is ∙ ap (λ b. where_holds b RecipePrefix) c.if-sought.true)
+    prefix-refused t s ts RecipePrefix fields free (unread-holds (classed_lines t) c.seek_within-sought.result.has_unread_prefix c.seek_within-sought.ensures.unread_is ∙ ap (λ b. where_holds b RecipePrefix) c.if-sought.true)
 
 pub lines_meant-requires-clause-sought : goal.lines_meant-requires-clause-sought
-lines_meant-requires-clause-sought g c = subst (λ a. IsSought (classed_lines (located_text c.args.doc.now)) a c.seek-sought.result) c.site_address-address.ensures c.seek-sought.ensures
+lines_meant-requires-clause-sought g c = subst (λ a. IsSought (classed_lines (located_text c.args.doc.now)) a c.seek_within-sought.result) c.site_address-address.ensures c.seek_within-sought.ensures
 
 pub lines_meant-requires-clause-unrefused : goal.lines_meant-requires-clause-unrefused
 lines_meant-requires-clause-unrefused g c =
@@ -50,5 +51,8 @@ lines_meant-requires-clause-unrefused g c =
     let fields : bad_argument (ExchangeLines s ts) ≡ None = sym c.bad_site_field.ensures ∙ ap field_refusal c.in_default.is in
     let told = subst (λ a. c.is_reserved_address.result ≡ (list_any is_prefix_name (address_names a) || list_any is_reserved_word (address_targets a))) c.site_address-address.ensures c.is_reserved_address.ensures in
     let free : reserved (ExchangeLines s ts) ≡ None = reserved-holds (ExchangeLines s ts) c.is_reserved_address.result told ∙ ap (λ b. where_holds b Reserved) c.if-is_reserved_address.false in
-    let read : unread_prefix (classed_lines t) ≡ None = unread-holds (classed_lines t) c.seek-sought.result.has_unread_prefix c.seek-sought.ensures.unread_is ∙ ap (λ b. where_holds b RecipePrefix) c.if-sought.false in
+    let read : unread_prefix (classed_lines t) ≡ None = unread-holds (classed_lines t) c.seek_within-sought.result.has_unread_prefix c.seek_within-sought.ensures.unread_is ∙ ap (λ b. where_holds b RecipePrefix) c.if-sought.false in
     fields-pass t s ts fields free read
+
+pub seek_within-sought-requires-clause-windows : goal.seek_within-sought-requires-clause-windows
+seek_within-sought-requires-clause-windows g c = windows-address (site_of c.args.site.now) _ c.args.doc.now c.args.windows.now c.site_address-address.ensures c.requires.windows

@@ -1,12 +1,13 @@
-use Rattle.std.proofs.Common.{◌∙◌, ap, sym, subst}
+use Rattle.std.proofs.Common.{◌∙◌, ap, refl, sym, subst}
 use Rattle.mk_class.specs.ClassedLines.{classed_lines}
 use Rattle.mk_tree.specs.LocatedLines.{located_text}
-use Rattle.mk_edit_language.specs.Edits.{BeforeRun, AfterRun}
+use Rattle.mk_edit_language.specs.Edits.{AtPlace, BeforeRun, AfterRun}
 use Rattle.mk_edit_language.specs.EditViews.{place_of, site_of}
 use Rattle.mk_edit_language.specs.LineRuns.{block_lines, site_address}
 use Rattle.mk_edit_parts.specs.Seeking.{IsSought}
 use Rattle.mk_edit_parts.specs.SitesFound.{IsOfNew, no_lines}
-use Rattle.mk_edit_parts.proofs.on_line_runs.SiteStretches.{stretch-in_range, stretch-place, site-top, site-place, site-before, site-after, site-not_place, site-not_before, site-not_after}
+use Rattle.mk_edit_parts.proofs.on_line_runs.SiteStretches.{stretch-in_range, stretch-place, site-place, site-whole, site-before, site-after, site-not_place, site-not_before, site-not_after}
+use Rattle.mk_edit_parts.proofs.on_line_runs.SiteWindows.{windows-before, windows-after}
 use Rattle.mk_edit_parts.proofs.site.new_place.Goals as goal
 
 pub place_meant-requires-clause-sought : goal.place_meant-requires-clause-sought
@@ -25,8 +26,8 @@ after_lines-requires-clause-in_range g c =
 pub unreachable-requires : goal.unreachable-requires
 unreachable-requires g c = subst IsOfNew (ap site_of c.in-OfLines.is) c.requires.new
 
-pub returns-in-Top-clause-found : goal.returns-in-Top-clause-found
-returns-in-Top-clause-found g c = site-top (classed_lines (located_text c.args.doc.now)) (site_of c.args.site.now) c.top.result (ap site_of c.in-Top.is) c.top.ensures
+pub unreachable-requires-in-OfRule : goal.unreachable-requires-in-OfRule
+unreachable-requires-in-OfRule g c = subst IsOfNew (ap site_of c.in-OfRule.is) c.requires.new
 
 pub returns-in-Ok-clause-found : goal.returns-in-Ok-clause-found
 returns-in-Ok-clause-found g c =
@@ -65,3 +66,22 @@ returns-in-Err-one_run-2-clause-refused g c =
     let is = ap site_of c.in-AfterLines.is ∙ ap (λ b. AfterRun c.in-AfterLines.nth (block_lines b)) (sym c.deref-in-AfterLines.ensures.value) in
     site-not_after ls (site_of c.args.site.now) c.in-AfterLines.nth (block_lines o) c.in-Err-one_run-2.refusal is
     (c.in-Err-one_run-2.ensures.refused ls (block_lines o) c.run_matches-in-AfterLines.ensures.matches)
+
+pub returns-in-Ok-clause-whole : goal.returns-in-Ok-clause-whole
+returns-in-Ok-clause-whole g c = site-whole (classed_lines (located_text c.args.doc.now)) (site_of c.args.site.now) (AtPlace (place_of c.in-AtPlace.place)) (ap site_of c.in-AtPlace.is) c.in-Ok.ensures.whole
+
+pub returns-in-Ok-one_run-clause-whole : goal.returns-in-Ok-one_run-clause-whole
+returns-in-Ok-one_run-clause-whole g c = site-whole (classed_lines (located_text c.args.doc.now)) (site_of c.args.site.now) _ (ap site_of c.in-BeforeLines.is) refl
+
+pub returns-in-Ok-one_run-2-clause-whole : goal.returns-in-Ok-one_run-2-clause-whole
+returns-in-Ok-one_run-2-clause-whole g c = site-whole (classed_lines (located_text c.args.doc.now)) (site_of c.args.site.now) _ (ap site_of c.in-AfterLines.is) refl
+
+pub run_matches-requires-clause-windows : goal.run_matches-requires-clause-windows
+run_matches-requires-clause-windows g c =
+    let is = ap site_of c.in-BeforeLines.is ∙ ap (λ b. BeforeRun c.in-BeforeLines.nth (block_lines b)) (sym c.deref.ensures.value) in
+    windows-before (site_of c.args.site.now) c.in-BeforeLines.nth (block_lines c.deref.result.now) c.args.doc.now c.args.windows.now is c.requires.windows
+
+pub run_matches-requires-in-AfterLines-clause-windows : goal.run_matches-requires-in-AfterLines-clause-windows
+run_matches-requires-in-AfterLines-clause-windows g c =
+    let is = ap site_of c.in-AfterLines.is ∙ ap (λ b. AfterRun c.in-AfterLines.nth (block_lines b)) (sym c.deref-in-AfterLines.ensures.value) in
+    windows-after (site_of c.args.site.now) c.in-AfterLines.nth (block_lines c.deref-in-AfterLines.result.now) c.args.doc.now c.args.windows.now is c.requires.windows

@@ -25,7 +25,7 @@ returns-then-is_inserted-clause-refused g c =
     let O = c.requires.one in
     let held = sym (c.is_inserted.ensures O.stretch O.meant.place_is O.meant.count_is) ∙ c.if-is_inserted.true in
     site-refused t s ts Already
-    (one-new t s ts O.stretch c.requires.new c.requires.unrefused O.is_there O.is_one O.picked_is ∙ ap (λ b. where_holds b Already) held)
+    (one-new t s ts O.stretch c.requires.new c.requires.unrefused O.is_there O.is_one c.requires.whole O.picked_is ∙ ap (λ b. where_holds b Already) held)
 
 pub returns-else-is_inserted-clause-found : goal.returns-else-is_inserted-clause-found
 returns-else-is_inserted-clause-found g c =
@@ -40,5 +40,5 @@ returns-else-is_inserted-clause-found g c =
       meant = O.meant;
       in_range = stretch-in_range c.args.doc.now O.stretch (no_lines c.args.place) c.requires.faithful O.meant;
       place_of = stretch-place c.args.doc.now O.stretch (no_lines c.args.place) O.meant;
-      unrefused = one-new t s ts O.stretch c.requires.new c.requires.unrefused O.is_there O.is_one O.picked_is ∙ ap (λ b. where_holds b Already) free;
+      unrefused = one-new t s ts O.stretch c.requires.new c.requires.unrefused O.is_there O.is_one c.requires.whole O.picked_is ∙ ap (λ b. where_holds b Already) free;
     }

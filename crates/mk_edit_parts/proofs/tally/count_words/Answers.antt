@@ -28,32 +28,32 @@ few_words cs o p k j h e b =
 pub count_in_part-targets-requires-clause-few : goal.count_in_part-targets-requires-clause-few
 count_in_part-targets-requires-clause-few g c =
     let f = few_words (line_cells (line_view c.args.line.now).bytes) c.args.from.now c.parts_of-parts.result _ _ c.parts_of-parts.ensures.parts c.requires.class c.requires.few in
-    omega (arith, f)
+    omega (arith, f, ap (λ (t : Tally). t.words) c.none-none.ensures)
 
 pub count_in_part-normal-requires-clause-few : goal.count_in_part-normal-requires-clause-few
 count_in_part-normal-requires-clause-few g c =
     let f = few_words (line_cells (line_view c.args.line.now).bytes) c.args.from.now c.parts_of-parts.result _ _ c.parts_of-parts.ensures.parts c.requires.class c.requires.few in
-    omega (arith, f, ap (λ (t : Tally). t.words) c.count_in_part-targets.ensures)
+    omega (arith, f, ap (λ (t : Tally). t.words) c.none-none.ensures, ap (λ (t : Tally). t.words) c.count_in_part-targets.ensures)
 
 pub count_in_part-requires-clause-few : goal.count_in_part-requires-clause-few
 count_in_part-requires-clause-few g c =
     let f = few_words (line_cells (line_view c.args.line.now).bytes) c.args.from.now c.parts_of-parts.result _ _ c.parts_of-parts.ensures.parts c.requires.class c.requires.few in
-    omega (arith, f, ap (λ (t : Tally). t.words) c.count_in_part-targets.ensures, ap (λ (t : Tally). t.words) c.count_in_part-normal.ensures)
+    omega (arith, f, ap (λ (t : Tally). t.words) c.none-none.ensures, ap (λ (t : Tally). t.words) c.count_in_part-targets.ensures, ap (λ (t : Tally). t.words) c.count_in_part-normal.ensures)
 
 pub count_in_part-targets-requires-clause-few_bytes : goal.count_in_part-targets-requires-clause-few_bytes
 count_in_part-targets-requires-clause-few_bytes g c =
     let f = few (line_cells (line_view c.args.line.now).bytes) c.args.from.now c.parts_of-parts.result _ _ c.parts_of-parts.ensures.parts c.requires.class c.requires.few_bytes in
-    omega (arith, f)
+    omega (arith, f, ap (λ (t : Tally). t.bytes) c.none-none.ensures)
 
 pub count_in_part-normal-requires-clause-few_bytes : goal.count_in_part-normal-requires-clause-few_bytes
 count_in_part-normal-requires-clause-few_bytes g c =
     let f = few (line_cells (line_view c.args.line.now).bytes) c.args.from.now c.parts_of-parts.result _ _ c.parts_of-parts.ensures.parts c.requires.class c.requires.few_bytes in
-    omega (arith, f, ap (λ (t : Tally). t.bytes) c.count_in_part-targets.ensures)
+    omega (arith, f, ap (λ (t : Tally). t.bytes) c.none-none.ensures, ap (λ (t : Tally). t.bytes) c.count_in_part-targets.ensures)
 
 pub count_in_part-requires-clause-few_bytes : goal.count_in_part-requires-clause-few_bytes
 count_in_part-requires-clause-few_bytes g c =
     let f = few (line_cells (line_view c.args.line.now).bytes) c.args.from.now c.parts_of-parts.result _ _ c.parts_of-parts.ensures.parts c.requires.class c.requires.few_bytes in
-    omega (arith, f, ap (λ (t : Tally). t.bytes) c.count_in_part-targets.ensures, ap (λ (t : Tally). t.bytes) c.count_in_part-normal.ensures)
+    omega (arith, f, ap (λ (t : Tally). t.bytes) c.none-none.ensures, ap (λ (t : Tally). t.bytes) c.count_in_part-targets.ensures, ap (λ (t : Tally). t.bytes) c.count_in_part-normal.ensures)
 
 pub returns : goal.returns
 returns g c =
@@ -64,7 +64,7 @@ returns g c =
     let N = part_ranges cs o p.normal in
     let O = part_ranges cs o p.order_only in
     c.count_in_part.ensures
-    ∙ (ap (λ (t : Tally). tallied t O) (c.count_in_part-normal.ensures ∙ ap (λ (t : Tally). tallied t N) c.count_in_part-targets.ensures)
+    ∙ (ap (λ (t : Tally). tallied t O) (c.count_in_part-normal.ensures ∙ ap (λ (t : Tally). tallied t N) (c.count_in_part-targets.ensures ∙ ap (λ (t : Tally). tallied t T) c.none-none.ensures))
     ∙ (tallied-append (tallied no_words T) N O ∙ (tallied-append no_words T (N ++ O) ∙ ap (tallied no_words) (ranges-are cs o p _ _ c.parts_of-parts.ensures.parts c.requires.class))))
 
 pub count_in_part-targets-requires-clause-passed : goal.count_in_part-targets-requires-clause-passed
@@ -91,6 +91,7 @@ returns-in_default g c =
     let T = lacks p.targets within.0 (c.first_place.ensures.targets (passed p.targets.end)) in
     let N = lacks p.normal within.1 (c.first_place.ensures.normal (passed p.normal.end)) in
     let O = lacks p.order_only within.2 (c.first_place.ensures.order_only (passed p.order_only.end)) in
-    sym (ap (tallied no_words) (sym (ranges-are cs o p _ _ c.parts_of-parts.ensures.parts c.requires.class)
+    c.none-none.ensures
+    ∙ sym (ap (tallied no_words) (sym (ranges-are cs o p _ _ c.parts_of-parts.ensures.parts c.requires.class)
     ∙ (ap (λ z. z ++ (part_ranges cs o p.normal ++ part_ranges cs o p.order_only)) T ∙ (ap (λ z. z ++ part_ranges cs o p.order_only) N ∙ O)))
     ∙ tallied-none no_words)

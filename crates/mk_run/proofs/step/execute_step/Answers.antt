@@ -4,6 +4,10 @@ use Rattle.mk_run.specs.RunSteps.{IsExecuted}
 use Rattle.mk_run.proofs.on_runs.StepLemmas.{chain-executed, some-mapped}
 use Rattle.mk_run.proofs.step.execute_step.Goals as goal
 
+pub returns-in-Try-clause-executed : goal.returns-in-Try-clause-executed
+returns-in-Try-clause-executed g c =
+    subst (λ step. IsExecuted (step_of step) c.execute_try.result c.args.session.now.shown c.execute_try.new.session.shown) (sym c.in-Try.is) c.execute_try.ensures.executed
+
 pub returns-in-Chain-clause-executed : goal.returns-in-Chain-clause-executed
 returns-in-Chain-clause-executed g c =
     let first = numbered_edit c.in-Chain.chain.first in

@@ -1,7 +1,7 @@
 use Rattle.std.proofs.Common.{◌≡◌, ◌∙◌, refl, sym, subst, false, Option, Some, None}
 use Rattle.std.specs.Prelude.{is_some, IfSome}
 use Rattle.mk_edit_language.specs.Addresses as addresses
-use Rattle.mk_edit_language.specs.EditViews.{edit_of, value_change_of}
+use Rattle.mk_edit_language.specs.EditViews.{edit_of, lines_of, site_of, value_change_of}
 use Rattle.mk_edit_parts.specs.AddressViews.{address_seen}
 use Rattle.mk_edit_parts.specs.Seeking.{IsKnownOf}
 use Rattle.mk_edit_parts.specs.Windows.{AreWindows, concerns_name, first_place}
@@ -32,3 +32,8 @@ returns-in-ChangeValues g c =
     let w = c.in-ChangeValues in
     let windows = subst (λ n. IfSome c.for_values.result (λ ws. AreWindows (concerns_name n) first_place doc ws.items)) c.deref-in-ChangeValues-2.ensures.value c.for_values.ensures.windows in
     rw w.is (record { known = c.windows_known-in-ChangeValues.ensures.values w.name.items (value_change_of w.change) doc windows; right = c.for_values.ensures.right })
+
+pub returns-in-ExchangeLines : goal.returns-in-ExchangeLines
+returns-in-ExchangeLines g c =
+    let w = c.in-ExchangeLines in
+    rw w.is (record { known = c.windows_known-in-ExchangeLines.ensures.site (site_of w.site) (lines_of w.block) c.args.doc.now c.for_site.ensures.windows; right = c.for_site.ensures.right })

@@ -1,6 +1,6 @@
 use Rattle.std.proofs.Common.{rules, refl}
 use Rattle.std.specs.List.{flat_map}
-use Rattle.mk_listing.specs.Listings.{standing}
+use Rattle.mk_queries.specs.Listings.{standing}
 use Rattle.mk_queries.specs.Texts.{unread_text}
 use Rattle.mk_tree.proofs.Prefixes.{gathers-front, gathers-then, writes-fails, writes-gathered}
 use Rattle.mk_queries.proofs.PutLemmas.{gathers-as, put-done, put-fails, put-more, put-nothing}

@@ -1,6 +1,6 @@
 -- The lines on what was passed were put, and those on what is ahead are to come.
 use Rattle.std.specs.List.{flat_map}
-use Rattle.mk_listing.specs.Listings.{standing, whole}
+use Rattle.mk_queries.specs.Listings.{standing, whole}
 use Rattle.mk_queries.specs.Texts.{unread_text}
 use Rattle.mk_queries.proofs.PutLemmas.{PutSoFar}
 use Rattle.mk_queries.proofs.query.check.check.Given as goal

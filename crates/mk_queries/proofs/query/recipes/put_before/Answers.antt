@@ -1,7 +1,7 @@
 use Rattle.std.proofs.Common.{rules, ◌≡◌, ap, sym, ℕ, ◌++◌}
 use Rattle.std.specs.Prelude.{codes}
-use Rattle.mk_listing.specs.Items.{rule_spot}
-use Rattle.mk_listing.specs.Listings.{RuleSpot}
+use Rattle.mk_queries.specs.Items.{rule_spot}
+use Rattle.mk_queries.specs.Listings.{RuleSpot}
 use Rattle.mk_tree.proofs.Prefixes.{gathers-fails, gathers-front, gathers-then}
 use Rattle.mk_queries.specs.Texts.{before_recipe, position_text, targets_text}
 use Rattle.mk_queries.proofs.PutLemmas.{gathers-as}

@@ -1,6 +1,6 @@
 use Rattle.std.proofs.Common.{rules, refl}
 use Rattle.std.specs.List.{flat_map}
-use Rattle.mk_listing.specs.Items.{rule_spot}
+use Rattle.mk_queries.specs.Items.{rule_spot}
 use Rattle.mk_queries.specs.Texts.{recipe_text}
 use Rattle.mk_queries.proofs.PutLemmas.{put-fails, put-more, put-nothing}
 use Rattle.mk_queries.proofs.query.recipes.put_recipes.Goals as goal

@@ -1,6 +1,6 @@
 -- The lines on what was passed were put, and those on what is ahead are to come.
 use Rattle.std.specs.List.{flat_map}
-use Rattle.mk_listing.specs.Items.{rule_spot}
+use Rattle.mk_queries.specs.Items.{rule_spot}
 use Rattle.mk_queries.specs.Queries.{rule_recipes}
 use Rattle.mk_queries.specs.Texts.{recipe_text}
 use Rattle.mk_queries.proofs.PutLemmas.{PutSoFar}

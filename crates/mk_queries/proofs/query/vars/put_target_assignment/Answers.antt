@@ -1,6 +1,6 @@
 use Rattle.std.proofs.Common.{ap, ◌∙◌}
 use Rattle.std.specs.Prelude.{option_map}
-use Rattle.mk_listing.specs.Listings.{is_of}
+use Rattle.mk_queries.specs.Listings.{is_of}
 use Rattle.mk_tree.proofs.Prefixes.{gathers-fails, gathers-front, gathers-then}
 use Rattle.mk_queries.proofs.PutLemmas.{gathers-as}
 use Rattle.mk_queries.proofs.VariableLemmas.{target-said}

@@ -1,7 +1,7 @@
 use Rattle.std.proofs.Common.{rules, refl}
 use Rattle.std.specs.List.{flat_map}
 use Rattle.std.specs.Prelude.{option_map}
-use Rattle.mk_listing.specs.Listings.{standing}
+use Rattle.mk_queries.specs.Listings.{standing}
 use Rattle.mk_queries.specs.Queries.{variable_line}
 use Rattle.mk_tree.specs.Trees.{line_view}
 use Rattle.mk_queries.proofs.VariableLemmas.{said-standing}

@@ -1,7 +1,7 @@
 -- The lines on what was passed were put, and those on what is ahead are to come.
 use Rattle.std.proofs.Common.{option_map}
 use Rattle.std.specs.List.{flat_map}
-use Rattle.mk_listing.specs.Listings.{standing}
+use Rattle.mk_queries.specs.Listings.{standing}
 use Rattle.mk_queries.specs.Queries.{variable_line, vars_text}
 use Rattle.mk_queries.proofs.PutLemmas.{PutSoFar}
 use Rattle.mk_queries.proofs.query.vars.write_vars.Given as goal

@@ -7,8 +7,14 @@ use Rattle.mk_session.specs.Groups.{costs_in_turn}
 use Rattle.mk_session.specs.StoredSessions.{IsStored, shown_stored}
 use Rattle.mk_session.proofs.on_sessions.StepLemmas.{text-shown}
 use Rattle.mk_session.proofs.on_sessions.StoredLemmas.{some-if-counted, none-if-counted}
-use Rattle.mk_session.proofs.on_sessions.GroupLemmas.{none-counted, group-step, group-of_none, group-refused}
+use Rattle.mk_session.proofs.on_sessions.GroupLemmas.{none-counted, group-step, group-of_none, group-open, group-refused}
 use Rattle.mk_session.proofs.session.Session.dry_run.Goals as goal
+
+pub returns-then-has_open_group-clause-refused : goal.returns-then-has_open_group-clause-refused
+returns-then-has_open_group-clause-refused g c = group-open (map edit_of c.args.edits.now) c.args.self.now.shown (sym c.if-has_open_group.ensures)
+
+pub make_all-requires-clause-some : goal.make_all-requires-clause-some
+make_all-requires-clause-some g c = some-if-counted c.args.edits.now c.if-is_empty.ensures
 
 pub returns-in-Err-clause-refused : goal.returns-in-Err-clause-refused
 returns-in-Err-clause-refused g c =

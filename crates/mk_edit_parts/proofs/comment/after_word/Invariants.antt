@@ -1,0 +1,14 @@
+-- What follows the word of the text is what follows the word of the rest.
+use Rattle.std.proofs.Common.{◌≡◌, ◌≤◌, not, length}
+use Rattle.mk_lines.specs.Lists.{after_leading}
+use Rattle.mk_lines.specs.Bytes.{is_blank_byte}
+use Rattle.mk_edit_parts.proofs.comment.after_word.Given as goal
+
+abbrev pub invariant-loop-rest : goal.invariant-loop-rest
+invariant-loop-rest l = record {
+  same : after_leading (λ b. not (is_blank_byte b)) l.text ≡ after_leading (λ b. not (is_blank_byte b)) l.rest;
+  within : length l.rest ≤ length l.text;
+}
+
+abbrev pub decreases-loop-rest : goal.decreases-loop-rest
+decreases-loop-rest l = length l.rest

@@ -1,2 +1,0 @@
--- # What the public contracts say
-pub mod TextLines
