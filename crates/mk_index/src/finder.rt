@@ -77,8 +77,8 @@ impl<A: Allocator + Copy> Finder<A> {
     /// What is known before an edit is planned. The first edit makes do with a walk over the document,
     /// unless more edits are expected. The second one makes an index, unless the document has fewer
     /// than 1,024 lines. A growth that is refused leaves the finder without an index, and is no refusal
-    /// of the edit. An edit without an address, which goes to the end, needs only where the document
-    /// ends.
+    /// of the edit. An edit without an address, which goes to the top or the end, needs only where the
+    /// document ends, and makes do or makes an index in the same way where that is not known.
     pub fn known(&mut self, alloc: A, doc: &Doc<A>, edit: &Edit<A>) -> Known<A>
         requires faithful { IsFaithful doc.now }
         requires right { IsKnownFor doc.now self.old }
@@ -184,13 +184,15 @@ impl<A: Allocator + Copy> Finder<A> {
         }
     }
 
-    // Finds where the document ends, by the index or by a walk over all lines, unless that is known.
+    // Finds where the document ends, by the index or by a walk over all lines, unless that is known. It makes
+    // an index if one is due.
     fn find_end(&mut self, alloc: A, doc: &Doc<A>)
         requires faithful { IsFaithful doc.now }
         requires right { IsKnownFor doc.now self.old }
         ensures { IsKnownFor doc.now self.new }
     {
         if self.end.is_none() {
+            self.make_due(alloc, doc);
             let sought = self.walk_to_end(alloc, doc);
             self.end = Some(end_of(sought));
         }
