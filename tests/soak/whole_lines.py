@@ -10,7 +10,7 @@ from argument_rows import is_name, is_target
 from tests.lib import reading
 
 from . import document
-from .edits import LIMIT, AtPlace, Edit, Span, items_of, new_line, picked, refuse, refuse_leaning
+from .edits import LIMIT, AtPlace, Edit, OfRule, Span, items_of, new_line, picked, refuse, refuse_leaning
 
 TESTS = {
     "BeforeVar": is_name,
@@ -124,18 +124,11 @@ class OfRun(OfLines):
         return picked(runs_of(doc, self.old), self.nth)
 
 
-class OfRuleRun(OfLines):
+class OfRuleRun(OfRule, OfLines):
     """An edit of a rule with its recipe and the conditionals in it."""
 
-    def __init__(self, nth, target):
-        self.nth, self.target = nth, target
-        self.targets = (target,)
-
-    def fields(self):
-        return [("target", self.target, is_target)]
-
     def find(self, doc):
-        at = picked(doc.rules(self.target), self.nth)
+        at = super().find(doc)
         count = len(doc.lines[at].targets)
         refuse(9, count > 1, count)
         end = doc.rule_end(at)
