@@ -6,6 +6,7 @@ pub mod NotesTold
 pub mod FindingsTold
 pub mod EachCauses
 pub mod EachWalks
+pub mod EachWindows
 pub mod EachLoops
 pub mod EachTurns
 pub mod EachPlans

@@ -1,7 +1,7 @@
 -- What an edit of several lines that is checked by reading finds among the lines of a document, which of
 -- them it changes, and the first cause of refusal that this decides.
 -- Told in docs/ARCHITECTURE.md, "An edit's way, from Edit to moved lines".
-use Rattle.std.specs.Prelude.{◌≡◌, ℕ, ◌+◌, ◌*◌, ◌-◌, ◌^◌, ◌≤◌, ◌==◌, ◌||◌, min, nat_lt, if◌then◌else◌, Bool, false, List, [], ◌∷◌, length, Option}
+use Rattle.std.specs.Prelude.{◌≡◌, ℕ, ◌+◌, ◌*◌, ◌-◌, ◌^◌, ◌≤◌, ◌==◌, ◌||◌, min, nat_lt, if◌then◌else◌, Bool, false, List, [], ◌∷◌, ◌++◌, drop, length, map, take, Option, IfSome}
 use Rattle.mk_lines.specs.Cells.{line_cells}
 use Rattle.mk_lines.specs.Limits.{max_text}
 use Rattle.mk_class.specs.Classes.Class.{Recipe}
@@ -10,7 +10,7 @@ use Rattle.mk_class.specs.Contexts.{Context, start, context_after_located}
 use Rattle.mk_class.specs.RecipePrefix.{is_prefix_name}
 use Rattle.mk_class.specs.declared.class.Class as class
 use Rattle.mk_class.specs.declared.class.Class.TheVariants as variants
-use Rattle.mk_tree.specs.LocatedLines.{LocatedLine, text_of_line}
+use Rattle.mk_tree.specs.LocatedLines.{LocatedLine, size_of, text_of_line}
 use Rattle.mk_tree.specs.Trees.{line_view}
 use Rattle.mk_edit_language.specs.Addresses.{each_address}
 use Rattle.mk_edit_language.specs.Causes.{where_holds}
@@ -24,6 +24,7 @@ use Rattle.mk_edit_parts.specs.LineChangePlaces.{change_places, new_text, raw_ra
 use Rattle.mk_edit_parts.specs.LocatedParts.{is_unread_located}
 use Rattle.mk_edit_parts.specs.RecipeChanges.{recipe_ranges}
 use Rattle.mk_edit_parts.specs.RenamedRanges.{bytes_in}
+use Rattle.mk_edit_parts.specs.Windows.{below_all, first_place}
 use Rattle.mk_edit_parts.specs.declared.each_line.Reach.{Reach}
 use Rattle.mk_edit_parts.specs.declared.seek.Found.{Found}
 use Rattle.mk_edit.specs.declared.each_line_count.PlaceCount.{PlaceCount}
@@ -153,6 +154,24 @@ noted_from e r at x (l ∷ ls) =
 -- the lines of a document that are changed
 abbrev pub noted_lines : EachEdit → List LocatedLine → List NotedLine
 noted_lines e ls = noted_from e no_reach 0 start ls
+
+-- ---- a walk over a document
+
+-- A walk over a document has come to a place. What it has found, with what it finds among the lines
+-- from the place on, is what is found among all lines; and so are its notes, if it has any. There is
+-- room for the numbers of what it finds.
+pub record IsSurveyedTo {A : _} {X : Type 0} (e : EachEdit) (document : List LocatedLine)
+    (place : Found) (findings : Findings) (items : X → List (Noted A)) (notes : Option X)
+    : Type 0 where
+  pub place_is : place ≡ below_all first_place (take place.at document)
+  pub few_lines : findings.lines ≤ place.at
+  pub few_passed : findings.reach.count ≤ place.at
+  pub few_put : findings.put ≤ 2 ^ 64 - 1
+  pub room : findings.taken + size_of (drop place.at document) ≤ max_text
+  pub findings_are : found_with e findings (drop place.at document) ≡ findings_on e document
+  pub notes_are : IfSome notes (λ p. map noted_view (items p)
+      ++ noted_from e findings.reach place.at place.context (drop place.at document)
+      ≡ noted_lines e document)
 
 -- ---- the first cause
 

@@ -2,10 +2,12 @@
 //!
 //! The new line is made of the old one, with a text in some places of it. It is read in the context
 //! of the old one, and the edit is refused as `Misread` where it does not read as the edit says.
-ghost use Rattle.std.specs.Prelude.{◌≡◌, ◌⊎◌, ◌+◌, ◌<◌, ◌≤◌, ◌∷◌, [], true, false, not, ◌&&◌, ◌||◌, ◌*◌, nat_lt, None, length, IfOk, IfErr, OnOk};
+ghost use Rattle.std.specs.Prelude.{◌≡◌, ◌⊎◌, ◌+◌, ◌<◌, ◌≤◌, ◌∷◌, [], true, false, not, ◌&&◌, ◌||◌, ◌*◌, nat_lt, None, drop, length, IfOk, IfErr, OnOk};
+ghost use Rattle.mk_lines.specs.Bytes.{is_blank_byte};
 ghost use Rattle.mk_lines.specs.Cells.{line_cells};
 ghost use Rattle.mk_lines.specs.Limits.{max_text};
 ghost use Rattle.mk_lines.specs.LogicalLines.{ends_line, is_open, logical_lines};
+ghost use Rattle.mk_class.specs.ListTests.{first_passes, last_passes};
 ghost use Rattle.mk_tree.specs.Counting.{AreCounted};
 ghost use Rattle.mk_tree.specs.Documents.{IsFaithful};
 ghost use Rattle.mk_tree.specs.LineTexts.{line_in};
@@ -120,11 +122,13 @@ pub(crate) fn changed_line<A: Allocator + Copy>(
         Ok(made) => made,
         Err(_) => return Err(Refusal::NoMemory),
     };
-    if !fits_line(line.bytes(), &made.bytes) {
+    let Made { bytes, front } = made;
+    if !fits_line(line.bytes(), &bytes) {
         return Err(Refusal::Misread);
     }
     let flavor = flavor_after(change, assignment.flavor);
-    read_back(alloc, line, made, flavor, place.context, meter)
+    let value = stated(change, rest(&front, assignment.value.start));
+    read_back(alloc, line, bytes, value, flavor, place.context, meter)
 }
 
 // The first refusal of a change that finds so many places in a value, but for the text's length: it
@@ -169,12 +173,12 @@ fn flavor_after(change: LineRewrite<'_>, flavor: Flavor) -> Flavor
 struct Made<A: Allocator> {
     /// Its bytes.
     bytes: Vec<u8, A>,
-    /// The value that it is said to have.
-    value: Vec<u8, A>,
+    /// What it is said to be read as, up to the end of its value.
+    front: Vec<u8, A>,
 }
 
 // The line that a change makes in the place of an assignment's line, by the ranges of the line's
-// joined text that it replaces, and the value that it is said to have.
+// joined text that it replaces, and what it is said to be read as.
 fn made_line<A: Allocator + Copy>(
     alloc: A,
     change: LineRewrite<'_>,
@@ -190,16 +194,18 @@ fn made_line<A: Allocator + Copy>(
         ≡ change_places (rewrite_view change) (text_of_line (line_view line.now)) assignment }
     requires one { first_of_words (rewrite_view change) (length ranges.now)
         (value_text_located (line_view line.now)) ≡ None }
-    ensures { IfOk result (λ made. IsMadeOf (rewrite_view change.entry) place.now.context
-        (line_view line.now) made.bytes.items made.value.items) }
+    ensures made { IfOk result (λ made. IsMadeOf (rewrite_view change.entry) place.now.context
+        (line_view line.now) made.bytes.items
+        (stated (rewrite_view change.entry) (drop assignment.value.start made.front.items))) }
+    ensures front { IfOk result (λ made. assignment.value.start ≤ length made.front.items) }
 {
     let value = value_text(line);
     let separator = separator_place(change, line, assignment);
     let written = new_text(alloc, change, separator_bytes(line, separator), value)?;
     let read = new_text(alloc, change, separator_text(line, separator), value)?;
     let bytes = new_bytes(alloc, line, ranges, &written)?;
-    let value = new_value(alloc, change, line, assignment, ranges, &read)?;
-    Ok(Made { bytes, value })
+    let front = new_front(alloc, change, line, assignment, ranges, &read)?;
+    Ok(Made { bytes, front })
 }
 
 // The bytes of a line with a new text in the place of some ranges of its joined text.
@@ -216,15 +222,16 @@ fn new_bytes<A: Allocator + Copy>(
         ≡ rewritten (line_view line.now).bytes new.now
         (raw_ranges (line_cells (line_view line.now).bytes) ranges.now)) }
 {
-    let raw = raw_ranges(alloc, line, ranges)?;
     let more = ranges.len().saturating_mul(new.len());
     let room = line.bytes().len().saturating_add(more);
+    let raw = raw_ranges(alloc, line, ranges)?;
     rewritten(alloc, line.bytes(), &raw, new, room)
 }
 
-// The value that a line is said to have after a change that puts a new text in the place of some ranges
-// of its joined text.
-fn new_value<A: Allocator + Copy>(
+// What a line is said to be read as, up to the end of its value, after a change that puts a new text in
+// the place of some ranges of its joined text. The new operator of a change of the operator, which stands
+// before the value, is not put in.
+fn new_front<A: Allocator + Copy>(
     alloc: A,
     change: LineRewrite<'_>,
     line: &Line<A>,
@@ -234,20 +241,19 @@ fn new_value<A: Allocator + Copy>(
 ) -> Result<Vec<u8, A>, AllocError>
     requires can { CanRewrite (rewrite_view change) (text_of_line (line_view line.now)) assignment
         ranges.now new.now }
-    ensures { IfOk result (λ value. value.items
+    ensures value { IfOk result (λ front.
+        stated (rewrite_view change.entry) (drop assignment.value.start front.items)
         ≡ value_made (rewrite_view change.entry) (text_of_line (line_view line.now)) assignment
         ranges.now new.now) }
+    ensures front { IfOk result (λ front. assignment.value.start ≤ length front.items) }
 {
-    let text = text_of_line(line);
-    if is_operator(change) {
-        return Vec::from_slice(alloc, part(text, assignment.value));
-    }
     let end = assignment.value.end;
-    let front = part(text, Span { start: 0, end });
+    let front = part(text_of_line(line), Span { start: 0, end });
+    if is_operator(change) {
+        return Vec::from_slice(alloc, front);
+    }
     let more = ranges.len().saturating_mul(new.len());
-    let front = rewritten(alloc, front, ranges, new, front.len().saturating_add(more))?;
-    let value = rest(&front, assignment.value.start);
-    Vec::from_slice(alloc, stated(change, value))
+    rewritten(alloc, front, ranges, new, front.len().saturating_add(more))
 }
 
 // Whether a change is one of the operator.
@@ -269,10 +275,13 @@ fn stated<'a>(change: LineRewrite<'_>, value: &'a [u8]) -> &'a [u8]
 }
 
 // A text without the blanks at its two ends. A blank in a reference or after a backslash is none of
-// these.
+// these. Most texts end in no blank, and are not cut into words.
 fn trimmed(text: &[u8]) -> &[u8]
     ensures { result.now ≡ trimmed text.now }
 {
+    if !begins_with_blank(text) && !ends_with_blank(text) {
+        return text;
+    }
     let mut words = words(text);
     let Some(first) = words.next() else {
         return &[];
@@ -283,6 +292,33 @@ fn trimmed(text: &[u8]) -> &[u8]
         end = word.end;
     }
     part(text, Span { start, end })
+}
+
+// Whether the first byte of a text is a blank.
+fn begins_with_blank(text: &[u8]) -> bool
+    ensures { result ≡ first_passes is_blank_byte text.now }
+{
+    match text {
+        [first, ..] => is_blank(*first),
+        [] => false,
+    }
+}
+
+// Whether the last byte of a text is a blank.
+fn ends_with_blank(text: &[u8]) -> bool
+    ensures { result ≡ last_passes is_blank_byte text.now }
+{
+    match text {
+        [.., last] => is_blank(*last),
+        [] => false,
+    }
+}
+
+// Whether a byte is a blank.
+fn is_blank(byte: u8) -> bool
+    ensures { result ≡ is_blank_byte byte }
+{
+    matches!(byte, b' ' | b'\t')
 }
 
 /// Whether a line can stand in the place of another: it is one logical line, it ends a line if the other
@@ -319,33 +355,33 @@ fn ends_line(text: &[u8]) -> bool
 fn read_back<A: Allocator + Copy>(
     alloc: A,
     old: &Line<A>,
-    made: Made<A>,
+    bytes: Vec<u8, A>,
+    value: &[u8],
     flavor: Flavor,
     context: Context,
     meter: &mut Meter,
 ) -> Result<Line<A>, Refusal>
-    requires one { logical_lines made.bytes.items ≡ made.bytes.items ∷ [] }
+    requires one { logical_lines bytes.items ≡ bytes.items ∷ [] }
     requires defines { context.defines < max_text }
     requires own { IsAssigning context (line_view old.now) }
     ensures line { IfOk result (λ line.
-        line_view line ≡ located_line (line_in context made.bytes.items)) }
+        line_view line ≡ located_line (line_in context bytes.items)) }
     ensures reads { IfOk result (λ _.
-        Reads true context (line_view old.now) made.bytes.items flavor made.value.items) }
+        Reads true context (line_view old.now) bytes.items flavor value.now) }
     ensures refused { IfErr result (λ refusal.
         (refusal ≡ Refusal.NoMemory) ⊎ ((refusal ≡ Refusal.Misread)
-        × Reads false context (line_view old.now) made.bytes.items flavor made.value.items)) }
+        × Reads false context (line_view old.now) bytes.items flavor value.now)) }
     ensures counted { OnOk result (AreCounted meter.old 1 meter.new) }
     ensures few_read { meter.new ≤ meter.old + 1 }
     ensures forward { meter.old ≤ meter.new }
 {
-    let Made { bytes, value } = made;
     let line = match Line::read(alloc, bytes, context, meter) {
         Ok(line) => line,
         Err(Fault::NoMemory) => return Err(Refusal::NoMemory),
         // A line that opens one conditional too many is no assignment.
         Err(_) => return Err(Refusal::Misread),
     };
-    if is_read_as(old, &line, flavor, &value) {
+    if is_read_as(old, &line, flavor, value) {
         Ok(line)
     } else {
         Err(Refusal::Misread)

@@ -11,6 +11,7 @@ ghost use Rattle.mk_edit_language.specs.EditViews.{each_edit_of, edit_of};
 ghost use Rattle.mk_edit_language.specs.LineCauses.{misread};
 ghost use Rattle.mk_edit_language.specs.Refusals.{causes, first_cause};
 ghost use Rattle.mk_edit_parts.specs.EachLineWalks.{each_change_view};
+ghost use Rattle.mk_edit_parts.specs.Windows.{AreWindows, concerns_each, first_place};
 ghost use Rattle.mk_edit.specs.EachLinePatches.{AreChangeable};
 ghost use Rattle.mk_edit.specs.EachLineSurveys.{IsOfLines, first_of_findings, noted_lines, noted_view};
 
@@ -19,6 +20,7 @@ use crate::each_line_survey::{Findings, each_line_survey};
 use mk_edit_language::{EachEdit, Edit, Refusal};
 use mk_edit_parts::argument::{bad_field, is_reserved};
 use mk_edit_parts::each_line::{EachChange, is_missing};
+use mk_edit_parts::window::Window;
 use mk_lines::source::MAX_TEXT;
 use mk_tree::Doc;
 use std::alloc::Allocator;
@@ -27,8 +29,8 @@ use std::alloc::Allocator;
 /// perhaps that a new line is misread; `None` if a growth was refused. The call decides, in this order,
 /// whether a field fails its test, or the name or the target is reserved; whether the recipe prefix is
 /// set in a way that is not read; whether there is no such assignment or rule; whether no line would be
-/// changed; and whether the text would be too long. It walks once over the lines and reads none anew.
-/// It takes memory for the notes alone, and decides the same without it.
+/// changed; and whether the text would be too long. It walks over the lines as
+/// [`each_line_survey`] does. It takes memory for the notes alone, and decides the same without it.
 ///
 /// # Errors
 ///
@@ -37,12 +39,15 @@ pub(crate) fn accepted_lines<'a, A: Allocator + Copy>(
     alloc: A,
     doc: &'a Doc<A>,
     edit: &Edit<A>,
+    windows: &[Window],
     each: &EachEdit<A>,
     change: EachChange<'_>,
 ) -> Result<Option<Vec<Noted<'a, A>, A>>, Refusal>
     requires faithful { IsFaithful doc.now }
     requires kind { edit_of edit.now ≡ EachLine (each_edit_of each.now) }
     requires change { each_change_view change ≡ each_change (each_edit_of each.now) }
+    requires windows { AreWindows (concerns_each (each_edit_of each.now)) first_place doc.now
+        windows.now }
     ensures notes { IfOk result (λ noted. IfSome noted (λ notes.
         map noted_view notes.items ≡ noted_lines (each_edit_of each.now) doc.now)) }
     ensures lines { IfOk result (λ _. IsOfLines (each_edit_of each.now)) }
@@ -60,7 +65,7 @@ pub(crate) fn accepted_lines<'a, A: Allocator + Copy>(
     if is_reserved(edit) {
         return Err(Refusal::Reserved);
     }
-    let survey = each_line_survey(alloc, doc, each, change);
+    let survey = each_line_survey(alloc, doc, windows, each, change);
     match first_of_findings(survey.findings, each, doc.size()) {
         Some(refusal) => Err(refusal),
         None => Ok(survey.notes),

@@ -1,13 +1,15 @@
 //! What an edit of several lines finds among the lines of a document, seen by one walk.
-ghost use Rattle.std.specs.Prelude.{◌≡◌, ◌+◌, ◌<◌, ◌≤◌, IfSome, length, map, true};
+ghost use Rattle.std.specs.Prelude.{◌≡◌, ◌+◌, ◌<◌, ◌≤◌, ◌&&◌, IfSome, drop, false, length, map, not, true};
 ghost use Rattle.mk_lines.specs.Limits.{max_text};
+ghost use Rattle.mk_tree.specs.Admissions.{AreAdmitted};
 ghost use Rattle.mk_tree.specs.Documents.{IsFaithful};
 ghost use Rattle.mk_tree.specs.Trees.{line_view};
 ghost use Rattle.mk_edit_language.specs.EachLine.{each_change};
 ghost use Rattle.mk_edit_language.specs.EditViews.{each_edit_of};
 ghost use Rattle.mk_edit_parts.specs.EachLineWalks.{each_change_view, is_meant_located};
 ghost use Rattle.mk_edit_parts.specs.LocatedParts.{IsClassed};
-ghost use Rattle.mk_edit.specs.EachLineSurveys.{IsCountable, IsOfLines, findings_on, found_by, noted_lines, noted_view, nothing_found, places_meant};
+ghost use Rattle.mk_edit_parts.specs.Windows.{AreWindows, concerns_each, first_place};
+ghost use Rattle.mk_edit.specs.EachLineSurveys.{IsCountable, IsOfLines, IsSurveyedTo, findings_on, found_by, noted_lines, noted_view, nothing_found, places_meant};
 
 use crate::each_line_count::{PlaceCount, count_places, gets_longer};
 use crate::each_line_notes::{Noted, with_noted};
@@ -15,6 +17,7 @@ use mk_class::{Class, Context};
 use mk_edit_language::EachEdit;
 use mk_edit_parts::each_line::{EachChange, Reach, is_meant, reach_after};
 use mk_edit_parts::seek::Found;
+use mk_edit_parts::window::Window;
 use mk_tree::end::sets_prefix_unread;
 use mk_tree::{Doc, Line};
 use std::alloc::Allocator;
@@ -41,32 +44,94 @@ pub(crate) struct Survey<'a, A: Allocator> {
     pub findings: Findings,
     /// The lines that it changes, in their order. `None` if a growth was refused.
     pub notes: Option<Vec<Noted<'a, A>, A>>,
+    /// The place that the walk has come to.
+    pub place: Found,
 }
 
 /// What an edit of several lines finds among the lines of a document, and which of them it changes. The
-/// call walks once over the lines and reads none anew. It takes memory for the notes alone, and goes on
-/// without it.
+/// call walks once over the lines of the windows, and over the lines below them that belong to the recipe
+/// of a rule that the edit means; no other line concerns the edit. It reads no line anew. It takes time
+/// linear in the number of these lines, and goes at most twice down the tree for each window. It takes
+/// memory for the notes alone, and goes on without it.
 pub(crate) fn each_line_survey<'a, A: Allocator + Copy>(
     alloc: A,
     doc: &'a Doc<A>,
+    windows: &[Window],
     edit: &EachEdit<A>,
     change: EachChange<'_>,
 ) -> Survey<'a, A>
     requires faithful { IsFaithful doc.now }
     requires change { each_change_view change ≡ each_change (each_edit_of edit.now) }
     requires lines { IsOfLines (each_edit_of edit.now) }
+    requires windows { AreWindows (concerns_each (each_edit_of edit.now)) first_place doc.now
+        windows.now }
     ensures findings { result.findings ≡ findings_on (each_edit_of edit.now) doc.now }
     ensures few { result.findings.taken ≤ max_text }
     ensures notes { IfSome result.notes (λ notes. map noted_view notes.items
         ≡ noted_lines (each_edit_of edit.now) doc.now) }
 {
+    // The contract of `size` bounds the number of lines and of their bytes; that of `iter` says that each
+    // line is admitted where it stands.
+    let _size = doc.size();
+    let _lines = doc.iter();
+    let mut survey = Survey {
+        findings: nothing_found(),
+        notes: Some(Vec::new(alloc)),
+        place: Found {
+            at: 0,
+            context: Context::start(),
+        },
+    };
+    'windows: for window in windows {
+        let Window { place, count } = *window;
+        if survey.findings.reach.is_in_rule {
+            survey = surveyed(doc, edit, change, place.at, true, survey);
+        }
+        let end = place.at + count;
+        survey.place = place;
+        survey = surveyed(doc, edit, change, end, false, survey);
+    }
+    survey
+}
+
+// A survey with the lines from its place up to the line of the index `end`; or up to the end of the
+// recipe of the rule that it is in, if only this is to be seen and it ends above.
+fn surveyed<'a, A: Allocator>(
+    doc: &'a Doc<A>,
+    edit: &EachEdit<A>,
+    change: EachChange<'_>,
+    end: usize,
+    is_only_rule: bool,
+    survey: Survey<'a, A>,
+) -> Survey<'a, A>
+    requires faithful { IsFaithful doc.now }
+    requires change { each_change_view change ≡ each_change (each_edit_of edit.now) }
+    requires lines { IsOfLines (each_edit_of edit.now) }
+    requires ahead { survey.place.at ≤ end }
+    requires in_range { end ≤ length doc.now }
+    requires admitted { AreAdmitted survey.place.context (drop survey.place.at doc.now) }
+    requires surveyed { IsSurveyedTo (each_edit_of edit.now) doc.now survey.place survey.findings
+        (λ n. n.items) survey.notes }
+    ensures lower { survey.entry.place.at ≤ result.place.at }
+    ensures upper { result.place.at ≤ end }
+    ensures over { (is_only_rule && not result.findings.reach.is_in_rule) ≡ false
+        → result.place.at ≡ end }
+    ensures surveyed { IsSurveyedTo (each_edit_of edit.now) doc.now result.place result.findings
+        (λ n. n.items) result.notes }
+{
     // The contract of `size` bounds the number of lines and of their bytes.
     let _size = doc.size();
-    let mut findings = nothing_found();
-    let mut notes = Some(Vec::new(alloc));
-    let mut context = Context::start();
-    let mut at = 0;
-    'lines: for line in doc.iter() {
+    let Survey {
+        mut findings,
+        mut notes,
+        place,
+    } = survey;
+    let mut at = place.at;
+    let mut context = place.context;
+    'lines: for line in doc.lines_from(at) {
+        if at == end || (is_only_rule && !findings.reach.is_in_rule) {
+            break;
+        }
         let class = line.class();
         let places = places_meant(edit, change, line, &class, findings.reach);
         findings = found(findings, edit, line, &class, places);
@@ -81,7 +146,11 @@ pub(crate) fn each_line_survey<'a, A: Allocator + Copy>(
         at += 1;
         context = context.step(&class);
     }
-    Survey { findings, notes }
+    Survey {
+        findings,
+        notes,
+        place: Found { at, context },
+    }
 }
 
 // What is found among no lines.

@@ -1,8 +1,8 @@
 //! What an edit would do to a document, or why it is refused.
 ghost use Rattle.std.specs.Prelude.{◌≡◌};
 ghost use Rattle.mk_tree.specs.Documents.{IsFaithful};
-ghost use Rattle.mk_edit_language.specs.Edits.{ChangeValue, Every, ExchangeLines, RenameTarget};
-ghost use Rattle.mk_edit_language.specs.EditViews.{edit_of, site_of};
+ghost use Rattle.mk_edit_language.specs.Edits.{ChangeValue, EachLine, Every, ExchangeLines, RenameTarget};
+ghost use Rattle.mk_edit_language.specs.EditViews.{each_edit_of, edit_of, site_of};
 ghost use Rattle.mk_edit_parts.specs.LineRunsFound.{block_seen};
 ghost use Rattle.mk_edit_parts.specs.Windows.{IsKnown};
 ghost use Rattle.mk_edit.specs.Planned.{Plans};
@@ -26,7 +26,7 @@ use crate::set_recipe::plan_set_recipe;
 use crate::switch_line::{plan_comment_out, plan_uncomment};
 use crate::value_change::{Change, change_of};
 use mk_class::Meter;
-use mk_edit_language::{Edit, Refusal, Site};
+use mk_edit_language::{EachEdit, Edit, Refusal, Site};
 use mk_edit_parts::block_of;
 use mk_edit_parts::line_change::rewrite_of;
 use mk_edit_parts::window::{Known, Window};
@@ -61,8 +61,8 @@ pub fn plan<A: Allocator + Copy>(
 
 /// Plans an edit as [`plan`] does, with what is known of the document. If nothing is known, the call
 /// walks over the document for the line that the edit means, or for the lines that concern a rename, a
-/// change of all values of a name, or an exchange of whole lines. If windows are known for one of these,
-/// it walks over their lines alone.
+/// change of all values of a name, an exchange of whole lines, or an edit of several lines. If windows are
+/// known for one of these, it walks over their lines alone, and over the recipes below them.
 ///
 /// # Errors
 ///
@@ -131,7 +131,7 @@ pub fn plan_with<A: Allocator + Copy>(
         Edit::ExchangeLines { site, block } => {
             plan_lines(alloc, doc, known, site, block_of(block), meter)
         }
-        Edit::EachLine(each) => plan_each_line(alloc, doc, edit, each, meter),
+        Edit::EachLine(each) => plan_several(alloc, doc, edit, known, each, meter),
     }
 }
 
@@ -202,6 +202,29 @@ fn plan_lines<A: Allocator + Copy>(
         Known::Nothing | Known::Line(_) => {
             let all = [Window::whole(doc)];
             plan_exchange_lines(alloc, doc, &all, site, block, meter)
+        }
+    }
+}
+
+// Plans an edit of several lines with what is known of the document, as a rename is planned.
+fn plan_several<A: Allocator + Copy>(
+    alloc: A,
+    doc: &Doc<A>,
+    edit: &Edit<A>,
+    known: &Known<A>,
+    each: &EachEdit<A>,
+    meter: &mut Meter,
+) -> Result<Patch<A>, Refusal>
+    requires faithful { IsFaithful doc.now }
+    requires kind { edit_of edit.now ≡ EachLine (each_edit_of each.now) }
+    requires known { IsKnown (edit_of edit.now) doc.now known.now }
+    ensures { Plans (edit_of edit.now) doc.now meter.old meter.new result }
+{
+    match known {
+        Known::Windows(known) => plan_each_line(alloc, doc, edit, known, each, meter),
+        Known::Nothing | Known::Line(_) => {
+            let all = [Window::whole(doc)];
+            plan_each_line(alloc, doc, edit, &all, each, meter)
         }
     }
 }

@@ -1,12 +1,12 @@
 -- Windows of a document: some of its lines, outside of which no line passes a test; and what is known
 -- of a document before an edit is planned.
 -- Told in docs/ARCHITECTURE.md, "The index of a session".
-use Rattle.std.specs.Prelude.{◌≡◌, ◌||◌, ◌+◌, ℕ, nat_lt, Bool, false, List, [], ◌∷◌, ◌++◌, length, get_or, Option, Some, None, ⊤}
+use Rattle.std.specs.Prelude.{◌≡◌, ◌||◌, ◌+◌, ℕ, nat_lt, Bool, true, false, List, [], ◌∷◌, ◌++◌, length, get_or, Option, Some, None, ⊤}
 use Rattle.std.specs.Str.{bytes_eq}
 use Rattle.mk_class.specs.Contexts.{start, context_after_located}
 use Rattle.mk_tree.specs.LocatedLines.{LocatedLine}
-use Rattle.mk_edit_language.specs.Addresses.{Address, Variable}
-use Rattle.mk_edit_language.specs.Edits.{Every, Edit, ChangeValue, RenameTarget, ExchangeLines, Site, BeforeRun, AfterRun, OfRun}
+use Rattle.mk_edit_language.specs.Addresses.{Address, Variable, Rule}
+use Rattle.mk_edit_language.specs.Edits.{Every, Edit, ChangeValue, RenameTarget, ExchangeLines, EachLine, Site, BeforeRun, AfterRun, OfRun, EachEdit, ChangeEach, SubstValues, SubstRecipe, SubstRecipes}
 use Rattle.mk_edit_language.specs.LineRuns.{site_address, texts_of}
 use Rattle.mk_edit_parts.specs.LocatedParts.{is_target_located, is_unread_located}
 use Rattle.mk_edit_parts.specs.RenamedRanges.{renamed_ranges}
@@ -105,12 +105,22 @@ line_known (known.Windows ws) = None
 abbrev pub concerns_name : (name : List ℕ) → LocatedLine → Bool
 concerns_name n l = concerns (Some (Variable None n)) l
 
+-- whether a line decides what an edit of several lines finds and does, but for the recipe lines of the
+-- rules that it means, which stand below such a line: the edit's address may mean it, or it sets the
+-- recipe prefix in a way that is not read; each line, if the edit has no address
+abbrev pub concerns_each : EachEdit → LocatedLine → Bool
+concerns_each (ChangeEach n c) l = concerns_name n l
+concerns_each (SubstRecipe nth g f t) l = concerns (Some (Rule nth g)) l
+concerns_each (SubstValues f t) l = true
+concerns_each (SubstRecipes f t) l = true
+
 -- windows of some lines that serve an edit: a rename, a change of all values of a name, an exchange of
--- whole lines, or any other edit, which looks at none
+-- whole lines, an edit of several lines, or any other edit, which looks at none
 abbrev AreKnown : Edit → List LocatedLine → List Window → Type 0
 AreKnown (ChangeValue Every n c) ls ws = AreWindows (concerns_name n) first_place ls ws
 AreKnown (RenameTarget o n) ls ws = AreWindows (concerns_rename o n) first_place ls ws
 AreKnown (ExchangeLines s b) ls ws = AreWindows (concerns_site s) first_place ls ws
+AreKnown (EachLine e) ls ws = AreWindows (concerns_each e) first_place ls ws
 AreKnown e ls ws = ⊤
 
 -- What is known of some lines for an edit: nothing, what a walk over them would find for the edit's

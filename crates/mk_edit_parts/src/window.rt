@@ -42,12 +42,14 @@ pub enum Known<A: Allocator = Global> {
     Nothing,
     /// What a walk over all lines would find for the edit's address.
     Line(Sought),
-    /// For a rename, a change of all values of a name, or an exchange of whole lines, windows of the
-    /// document in the order of their lines, the last of which reaches the end. No line outside of them
-    /// concerns the edit: none sets the recipe prefix in a way that is not read; for a rename, none holds
-    /// the old word where a rename replaces words, and none has the new word as a target; for a change of
-    /// values, none assigns the name; for whole lines, none is meant by an address in the site, and none
-    /// begins as a block in it does. For any other edit they tell nothing.
+    /// For a rename, a change of all values of a name, an exchange of whole lines, or an edit of several
+    /// lines, windows of the document in the order of their lines, the last of which reaches the end. No
+    /// line outside of them concerns the edit: none sets the recipe prefix in a way that is not read; for a
+    /// rename, none holds the old word where a rename replaces words, and none has the new word as a
+    /// target; for a change of values, none assigns the name; for whole lines, none is meant by an address
+    /// in the site, and none begins as a block in it does; for several lines, none is meant by the edit's
+    /// address, but recipe lines below a rule that is meant may stand outside. If such an edit has no
+    /// address, each line is in a window. For any other edit they tell nothing.
     Windows(Vec<Window, A>),
 }
 

@@ -137,7 +137,8 @@ impl<A: Allocator + Copy> IndexedDoc<A> {
         ensures lines { IfOk result (λ numbered. AreNamedIn self.old numbered) }
         ensures same { self.new ≡ self.old }
     {
-        match self.finder.for_values(alloc, &self.doc, name) {
+        let address = Address::Variable(None, name);
+        match self.finder.for_address(alloc, &self.doc, address) {
             Some(windows) => Numbered::new(alloc, &self.doc, &windows, name),
             None => Numbered::new(alloc, &self.doc, &[Window::whole(&self.doc)], name),
         }

@@ -10,18 +10,18 @@ ghost use Rattle.mk_class.specs.ClassedLines.{classed_lines};
 ghost use Rattle.mk_tree.specs.Documents.{IsFaithful};
 ghost use Rattle.mk_tree.specs.LocatedLines.{LocatedLine, located_text};
 ghost use Rattle.mk_tree.specs.UnreadPrefixes.{IsEndOf};
-ghost use Rattle.mk_edit_language.specs.EditViews.{edit_of, site_of};
+ghost use Rattle.mk_edit_language.specs.EditViews.{each_edit_of, edit_of, site_of};
 ghost use Rattle.mk_edit_parts.specs.AddressViews.{address_seen};
 ghost use Rattle.mk_edit_parts.specs.Seeking.{IsKnownOf, IsLineKnown, IsSought};
-ghost use Rattle.mk_edit_parts.specs.Windows.{AreWindows, IsKnown, concerns_name, concerns_rename, concerns_site, first_place};
+ghost use Rattle.mk_edit_parts.specs.Windows.{AreWindows, IsKnown, concerns, concerns_each, concerns_name, concerns_rename, concerns_site, first_place};
 ghost use Rattle.mk_edit_language.specs.Edits as edits;
-ghost use Rattle.mk_edit_language.specs.Edits.{ChangeValue, Every, ExchangeLines, RenameTarget};
+ghost use Rattle.mk_edit_language.specs.Edits.{ChangeValue, EachLine, Every, ExchangeLines, RenameTarget};
 ghost use Rattle.mk_patch.specs.Moves.{FitMoves, after_moves};
 ghost use Rattle.mk_index.specs.Effects.{IsBehind, IsKnownFor, ListsNoTexts};
 
 use crate::index::Index;
 use crate::keys::{Expected, Scope};
-use mk_edit_language::{Edit, Site};
+use mk_edit_language::{EachEdit, Edit, Site};
 use mk_edit_parts::address::{Address, address_of};
 use mk_edit_parts::seek::{Found, Sought, seek};
 use mk_edit_parts::window::{Known, Window};
@@ -42,8 +42,8 @@ pub struct Finder<A: Allocator = Global> {
     index: Option<Index<A>>,
     end: Option<DocEnd>,
     // Whether the next edit that asks for an index makes it (an edit with an address, a rename, a change
-    // of all values of a name, or an exchange of whole lines): the last one made do with a walk, or more
-    // edits are expected.
+    // of all values of a name, an exchange of whole lines, or an edit of the lines of a name or a target):
+    // the last one made do with a walk, or more edits are expected.
     is_due: bool,
     // Which words the next index lists, and the index that there is: those that edits have asked for, or
     // will as far as is expected.
@@ -91,9 +91,10 @@ impl<A: Allocator + Copy> Finder<A> {
             return windows_known(self.for_rename(alloc, doc, from, to));
         }
         if let Edit::ChangeValues { name, .. } = edit {
-            self.ask_for(Some(Address::Variable(None, name)));
-            self.make_due(alloc, doc);
-            return windows_known(self.for_values(alloc, doc, name));
+            return windows_known(self.for_asked(alloc, doc, Address::Variable(None, name)));
+        }
+        if let Edit::EachLine(each) = edit {
+            return windows_known(self.for_each_line(alloc, doc, each));
         }
         if let Edit::ExchangeLines { site, .. } = edit {
             self.ask_for_site(site);
@@ -111,10 +112,10 @@ impl<A: Allocator + Copy> Finder<A> {
     }
 
     /// Lets the next edit that asks for an index make one, since more edits are to come: an edit with an
-    /// address, a rename, a change of all values of a name, or an exchange of whole lines. The index lists
-    /// what the expected edits ask for: renames targets and prerequisites, those of whole lines what lines
-    /// say, others names and targets. One that does not is dropped. This
-    /// call walks over nothing and takes no memory.
+    /// address, a rename, a change of all values of a name, an exchange of whole lines, or an edit of the
+    /// lines of a name or a target. The index lists what the expected edits ask for: renames targets and
+    /// prerequisites, those of whole lines what lines say, others names and targets. One that does not is
+    /// dropped. This call walks over nothing and takes no memory.
     pub fn expect_edits(&mut self, expected: Expected)
         ensures end { self.new.end ≡ self.old.end }
         ensures right { (lines : List LocatedLine) → IsKnownFor lines self.old
@@ -312,23 +313,61 @@ impl<A: Allocator + Copy> Finder<A> {
         self.index.is_some()
     }
 
-    /// The windows that the index tells for the lines that assign a name. The index is dropped where one is
-    /// dropped that tells of an address.
-    pub(crate) fn for_values(
+    // The windows that the index tells for an edit of several lines, if it has an address.
+    fn for_each_line(
         &mut self,
         alloc: A,
         doc: &Doc<A>,
-        name: &[u8],
+        edit: &EachEdit<A>,
     ) -> Option<Vec<Window, A>>
         requires faithful { IsFaithful doc.now }
         requires right { IsKnownFor doc.now self.old }
         ensures windows { IfSome result (λ windows.
-            AreWindows (concerns_name name.now) first_place doc.now windows.items) }
+            AreWindows (concerns_each (each_edit_of edit.now)) first_place doc.now windows.items) }
+        ensures right { IsKnownFor doc.now self.new }
+    {
+        match edit {
+            EachEdit::ChangeEach { name, .. } => {
+                self.for_asked(alloc, doc, Address::Variable(None, name))
+            }
+            EachEdit::SubstRecipe { nth, target, .. } => {
+                self.for_asked(alloc, doc, Address::Rule(*nth, target))
+            }
+            EachEdit::SubstValues { .. } | EachEdit::SubstRecipes { .. } => None,
+        }
+    }
+
+    // The windows that the index tells for an address, which it is to list from now on. It is made if one is
+    // due.
+    fn for_asked(&mut self, alloc: A, doc: &Doc<A>, address: Address<'_>) -> Option<Vec<Window, A>>
+        requires faithful { IsFaithful doc.now }
+        requires right { IsKnownFor doc.now self.old }
+        ensures windows { IfSome result (λ windows. AreWindows
+            (concerns (address_seen (Some address.entry))) first_place doc.now windows.items) }
+        ensures right { IsKnownFor doc.now self.new }
+    {
+        self.ask_for(Some(address));
+        self.make_due(alloc, doc);
+        self.for_address(alloc, doc, address)
+    }
+
+    /// The windows that the index tells for an address. The index is dropped where one is dropped that tells
+    /// what a document has for an address.
+    pub(crate) fn for_address(
+        &mut self,
+        alloc: A,
+        doc: &Doc<A>,
+        address: Address<'_>,
+    ) -> Option<Vec<Window, A>>
+        requires faithful { IsFaithful doc.now }
+        requires right { IsKnownFor doc.now self.old }
+        ensures windows { IfSome result (λ windows. AreWindows
+            (concerns (address_seen (Some address.entry))) first_place doc.now windows.items) }
         ensures right { IsKnownFor doc.now self.new }
     {
         let mut index = self.index.take()?;
         index.refresh(doc).ok()?;
-        let windows = index.for_address(alloc, doc, Some(Address::Variable(None, name)));
+        let windows = index.for_address(alloc, doc, Some(address));
         if windows.is_some() || !index.is_worn() {
             self.index = Some(index);
         }
@@ -414,8 +453,8 @@ fn line_known<A: Allocator>(sought: Option<Sought>) -> Known<A>
     }
 }
 
-// What is known by the windows for a rename, a change of all values of a name, or an exchange of whole
-// lines, if there are any.
+// What is known by the windows for a rename, a change of all values of a name, an exchange of whole lines,
+// or an edit of several lines, if there are any.
 fn windows_known<A: Allocator>(windows: Option<Vec<Window, A>>) -> Known<A>
     ensures rename { (old new : List ℕ) (lines : List LocatedLine)
         → IfSome windows (λ w. AreWindows (concerns_rename old new) first_place lines w.items)
@@ -426,6 +465,9 @@ fn windows_known<A: Allocator>(windows: Option<Vec<Window, A>>) -> Known<A>
     ensures site { (site : edits.Site) (block : List (List ℕ)) (lines : List LocatedLine)
         → IfSome windows (λ w. AreWindows (concerns_site site) first_place lines w.items)
         → IsKnown (ExchangeLines site block) lines result }
+    ensures several { (edit : edits.EachEdit) (lines : List LocatedLine)
+        → IfSome windows (λ w. AreWindows (concerns_each edit) first_place lines w.items)
+        → IsKnown (EachLine edit) lines result }
 {
     match windows {
         Some(windows) => Known::Windows(windows),

@@ -1,13 +1,13 @@
--- The walk over a document for an edit of several lines: what it has found and noted so far, with what it finds and notes among the
--- lines ahead, is what is to be found and noted.
-use Rattle.std.proofs.Common.{◌≡◌, refl, sym, ap, ◌∙◌, subst, arith, ℕ, ◌+◌, ◌<◌, ◌≤◌, Bool, true, false, List, [], ◌∷◌, ◌++◌, append-nil, append_assoc, length, map, Option, Some, None, option_map}
-use Rattle.std.specs.Prelude.{IfSome, nat_lt, if◌then◌else◌}
-use Rattle.std.proofs.lemmas.List.{map-append}
+-- A walk over lines of a document for an edit of several lines: what it has found and noted so far, with what it finds and notes among
+-- the lines ahead, is what is to be found and noted.
+use Rattle.std.proofs.Common.{◌≡◌, refl, sym, ap, ◌∙◌, subst, arith, ℕ, ◌+◌, ◌<◌, ◌≤◌, Bool, true, false, List, [], ◌∷◌, ◌++◌, append-nil, append_assoc, drop, take, length, length-append, map, Option, Some, None, option_map}
+use Rattle.std.specs.Prelude.{IfSome, nat_lt, if◌then◌else◌, ◌^◌, ◌-◌}
+use Rattle.std.proofs.lemmas.List.{map-append, take-append-drop}
 use Rattle.mk_lines.specs.Limits.{max_text}
 use Rattle.mk_lines.specs.Cells.{joined_byte}
 use Rattle.mk_class.specs.ClassTable.{class_of}
 use Rattle.mk_class.specs.ClassedLines.{ClassedLine, classed_lines}
-use Rattle.mk_class.specs.Contexts.{Admits, Context, start, context_after, context_after_located}
+use Rattle.mk_class.specs.Contexts.{Admits, Context, context_after, context_after_located}
 use Rattle.mk_class.specs.LocatedClasses.{located_class}
 use Rattle.mk_tree.specs.Admissions.{AreAdmitted}
 use Rattle.mk_tree.specs.Documents.{IsFaithful}
@@ -19,8 +19,11 @@ use Rattle.mk_edit_language.specs.Edits.{EachEdit}
 use Rattle.mk_edit_parts.specs.EachLineWalks.{is_meant_located, reach_after, reach_by, stays_located}
 use Rattle.mk_edit_parts.specs.LocatedParts.{IsClassed}
 use Rattle.mk_edit_parts.specs.Seeking.{may_mean}
+use Rattle.mk_edit_parts.specs.Windows.{below, below_all, first_place}
 use Rattle.mk_edit_parts.specs.declared.each_line.Reach.{Reach}
-use Rattle.mk_edit.specs.EachLineSurveys.{IsCountable, IsOfLines, IsOwnLine, NotedLine, found_by, found_with, findings_on, gets_longer, no_places, noted_from, noted_line, noted_lines, noted_view, nothing_found, places_counted, places_meant}
+use Rattle.mk_edit_parts.specs.declared.seek.Found.{Found}
+use Rattle.mk_edit_parts.proofs.on_finding.WindowLemmas.{IsPassed, below_all-at, passed-by, passed-one}
+use Rattle.mk_edit.specs.EachLineSurveys.{IsCountable, IsOfLines, IsOwnLine, IsSurveyedTo, NotedLine, found_by, found_with, findings_on, gets_longer, no_places, noted_from, noted_line, noted_lines, noted_view, places_counted, places_meant}
 use Rattle.mk_edit.specs.declared.each_line_count.PlaceCount.{PlaceCount}
 use Rattle.mk_edit.specs.declared.each_line_notes.Noted.{Noted}
 use Rattle.mk_edit.specs.declared.each_line_survey.Findings.{Findings}
@@ -33,7 +36,7 @@ use Rattle.mk_edit.proofs.on_each_lines.LinesOwned.{meant-own}
 abbrev AreNotes : {A : _} {X : Type 0} (items : X → List (Noted A)) → (notes : Option X) → (ahead all : List NotedLine) → Type 0
 AreNotes items notes ahead all = IfSome notes (λ p. map noted_view (items p) ++ ahead ≡ all)
 
-notes-kept : {A : _} {X : Type 0} (items : X → List (Noted A)) (notes : Option X) (ahead left all : List NotedLine) → ahead ≡ left → AreNotes items notes ahead all → AreNotes items notes left all
+pub notes-kept : {A : _} {X : Type 0} (items : X → List (Noted A)) (notes : Option X) (ahead left all : List NotedLine) → ahead ≡ left → AreNotes items notes ahead all → AreNotes items notes left all
 notes-kept items None ahead left all h k = tt
 notes-kept items (Some p) ahead left all h k = ap (λ z. map noted_view (items p) ++ z) (sym h) ∙ k
 
@@ -46,7 +49,7 @@ notes-more items (Some p) (Some q) n ahead left all h w k =
     let noted : List NotedLine = map noted_view (items p) in
     ap (λ z. z ++ left) (ap (map noted_view) i ∙ map-append noted_view (items p) (n ∷ [])) ∙ (append_assoc noted (noted_view n ∷ []) left ∙ (ap (λ z. noted ++ z) (sym h) ∙ k))
 
-notes-all : {A : _} {X : Type 0} (items : X → List (Noted A)) (notes : Option X) (ahead all : List NotedLine) → ahead ≡ [] → AreNotes items notes ahead all → IfSome notes (λ p. map noted_view (items p) ≡ all)
+pub notes-all : {A : _} {X : Type 0} (items : X → List (Noted A)) (notes : Option X) (ahead all : List NotedLine) → ahead ≡ [] → AreNotes items notes ahead all → IfSome notes (λ p. map noted_view (items p) ≡ all)
 notes-all items None ahead all s k = tt
 notes-all items (Some p) ahead all s k = sym (append-nil (map noted_view (items p))) ∙ (ap (λ z. map noted_view (items p) ++ z) (sym s) ∙ k)
 
@@ -62,11 +65,40 @@ reach-few : (a : Option Address) (b s : Bool) (r : Reach) → (reach_by a b s r)
 reach-few a true s r = omega arith
 reach-few a false s r = omega arith
 
+-- ---- the lines ahead
+
+-- the first of the lines ahead, as it is defined
+record IsAhead (x : Context) (l : LocatedLine) (left : List LocatedLine) : Type 0 where
+  line : ClassedLine
+  rest : List ClassedLine
+  line_is : l ≡ located_line line
+  left_is : left ≡ located_lines rest
+  class_is : class_of x line.bytes ≡ line.class
+  classed : AreClassed (context_after x line.class) rest
+
+ahead-first : (x : Context) (l : LocatedLine) (left : List LocatedLine) (ks : List ClassedLine) → l ∷ left ≡ located_lines ks → AreClassed x ks → IsAhead x l left
+ahead-first x l left [] s c = absurd (cc)
+ahead-first x l left (k ∷ ks) s c = record { line = k; rest = ks; line_is = cc; left_is = cc; class_is = AreClassed-class x k ks c; classed = AreClassed-tail x k ks c }
+
+-- lines that are classed, below some of them
+record AreClassedFrom (x : Context) (ls : List LocatedLine) : Type 0 where
+  rest : List ClassedLine
+  lines_are : ls ≡ located_lines rest
+  classed : AreClassed x rest
+
+classed-below : (f : Found) (ks : List ClassedLine) (xs ys : List LocatedLine) → located_lines ks ≡ xs ++ ys → AreClassed f.context ks → AreClassedFrom (below_all f xs).context ys
+classed-below f ks [] ys s h = record { rest = ks; lines_are = sym s; classed = h }
+classed-below f ks (l ∷ xs) ys s h =
+    let P = ahead-first f.context l (xs ++ ys) ks (sym s) h in
+    let after : context_after f.context P.line.class ≡ context_after_located f.context l.class = ap (λ (z : LocatedLine). context_after_located f.context z.class) (sym P.line_is) in
+    classed-below (below f l) P.rest xs ys (sym P.left_is) (subst (λ (z : Context). AreClassed z P.rest) after P.classed)
+
 -- ---- the walk
 
 module _ {A : _} {X : Type 0} (items : X → List (Noted A)) (e : EachEdit) (d : List LocatedLine) where
   -- A walk that has come to a place, and what it has found and noted.
   pub record IsWalkedTo (at : ℕ) (x : Context) (ahead : List LocatedLine) (f : Findings) (notes : Option X) : Type 0 where
+    pub passed : IsPassed d first_place (record { at = at; context = x }) ahead
     pub rest : List ClassedLine
     pub ahead_is : ahead ≡ located_lines rest
     pub classed : AreClassed x rest
@@ -74,37 +106,31 @@ module _ {A : _} {X : Type 0} (items : X → List (Noted A)) (e : EachEdit) (d :
     pub number : at + length ahead ≡ length d
     pub few_lines : f.lines ≤ at
     pub few_passed : f.reach.count ≤ at
+    pub few_put : f.put ≤ 2 ^ 64 - 1
     pub room : f.taken + size_of ahead ≤ max_text
     pub findings_are : found_with e f ahead ≡ findings_on e d
     pub notes_are : AreNotes items notes (noted_from e f.reach at x ahead) (noted_lines e d)
 
-  pub walked-first : (x : Context) (ahead : List LocatedLine) (f : Findings) (p : X) → ahead ≡ d → IsFaithful d → AreAdmitted start d → size_of d ≤ max_text → f ≡ nothing_found → items p ≡ [] → x ≡ start → IsWalkedTo 0 x ahead f (Some p)
-  walked-first x ahead f p s h admitted few i k y =
-      rw y (rw i (rw s (record {
-        rest = classed_lines (located_text d);
-        ahead_is = h;
-        classed = AreClassed-lines (located_text d) (classed_lines (located_text d)) refl;
+  pub walked-first : (p : Found) (ahead : List LocatedLine) (f : Findings) (notes : Option X) → ahead ≡ drop p.at d → IsFaithful d → AreAdmitted p.context (drop p.at d) → IsSurveyedTo e d p f items notes → IsWalkedTo p.at p.context ahead f notes
+  walked-first p ahead f notes s h admitted S =
+      let above : List LocatedLine = take p.at d in
+      let left : List LocatedLine = drop p.at d in
+      let parted : d ≡ above ++ left = sym (take-append-drop p.at d) in
+      let C = classed-below first_place (classed_lines (located_text d)) above left (sym h ∙ parted) (AreClassed-lines (located_text d) (classed_lines (located_text d)) refl) in
+      rw s (record {
+        passed = record { passed = above; from_is = parted; now_is = S.place_is };
+        rest = C.rest;
+        ahead_is = C.lines_are;
+        classed = subst (λ (z : Found). AreClassed z.context C.rest) (sym S.place_is) C.classed;
         admitted = admitted;
-        number = omega arith;
-        few_lines = omega arith;
-        few_passed = omega arith;
-        room = omega (arith, few);
-        findings_are = refl;
-        notes_are = ap (λ z. map noted_view z ++ noted_lines e d) k;
-      })))
-
-  -- the first of the lines ahead, as it is defined
-  record IsAhead (x : Context) (l : LocatedLine) (left : List LocatedLine) : Type 0 where
-    line : ClassedLine
-    rest : List ClassedLine
-    line_is : l ≡ located_line line
-    left_is : left ≡ located_lines rest
-    class_is : class_of x line.bytes ≡ line.class
-    classed : AreClassed (context_after x line.class) rest
-
-  ahead-first : (x : Context) (l : LocatedLine) (left : List LocatedLine) (ks : List ClassedLine) → l ∷ left ≡ located_lines ks → AreClassed x ks → IsAhead x l left
-  ahead-first x l left [] s c = absurd (cc)
-  ahead-first x l left (k ∷ ks) s c = record { line = k; rest = ks; line_is = cc; left_is = cc; class_is = AreClassed-class x k ks c; classed = AreClassed-tail x k ks c }
+        number = omega (arith, ap (λ (z : Found). z.at) S.place_is, below_all-at first_place above, ap length parted, length-append above left);
+        few_lines = S.few_lines;
+        few_passed = S.few_passed;
+        few_put = S.few_put;
+        room = S.room;
+        findings_are = S.findings_are;
+        notes_are = S.notes_are;
+      })
 
   -- A line that is handed out, and the walk after it.
   pub record IsLineWalked (at : ℕ) (x : Context) (l : LocatedLine) (left : List LocatedLine) (f : Findings) (notes : Option X) : Type 0 where
@@ -180,6 +206,7 @@ module _ {A : _} {X : Type 0} (items : X → List (Noted A)) (e : EachEdit) (d :
       on a q g more k i j w =
           let after : context_after x P.line.class ≡ a = ap (λ (z : LocatedLine). context_after_located x z.class) (sym P.line_is) ∙ sym k in
           record {
+            passed = passed-one d first_place (record { at = at; context = x }) (record { at = at + 1; context = a }) ahead left l s (ap (λ (z : Context). record { at = at + 1; context = z }) k) W.passed;
             rest = P.rest;
             ahead_is = P.left_is;
             classed = subst (λ (z : Context). AreClassed z P.rest) after P.classed;
@@ -187,20 +214,22 @@ module _ {A : _} {X : Type 0} (items : X → List (Noted A)) (e : EachEdit) (d :
             number = omega (arith, W.number, ap length s);
             few_lines = subst (λ (z : Findings). z.lines ≤ at + 1) (sym j) (few-on (nat_lt 0 q.count));
             few_passed = omega (arith, ap (λ (z : Findings). z.reach.count) j, reach-few (each_address e) (may_mean (each_address e) l) (stays_located l.class) f.reach, W.few_passed);
+            few_put = omega (arith, ap (λ (z : Findings). z.put) j);
             room = omega (arith, ap (λ (z : Findings). z.taken) j, ap (λ (z : PlaceCount). z.bytes) i, here-bytes, W.room, ap size_of s);
             findings_are = ap (λ (z : Findings). found_with e z left) (j ∙ ap (λ (z : PlaceCount). found_by e l z f) i) ∙ (ap (found_with e f) (sym s) ∙ W.findings_are);
             notes_are = w;
           }
 
-  -- the walk at its end
-  pub record IsWalkedWhole (f : Findings) (notes : Option X) : Type 0 where
-    pub findings_are : f ≡ findings_on e d
-    pub few : f.taken ≤ max_text
-    pub notes_are : IfSome notes (λ p. map noted_view (items p) ≡ noted_lines e d)
-
-  pub walked-over : (at : ℕ) (x : Context) (ahead : List LocatedLine) (f : Findings) (notes : Option X) → ahead ≡ [] → IsWalkedTo at x ahead f notes → IsWalkedWhole f notes
-  walked-over at x ahead f notes s W = record {
-    findings_are = ap (found_with e f) (sym s) ∙ W.findings_are;
-    few = omega (arith, W.room);
-    notes_are = notes-all items notes _ (noted_lines e d) (ap (noted_from e f.reach at x) s) W.notes_are;
-  }
+  -- where the walk stops
+  pub walked-last : (at : ℕ) (x : Context) (ahead : List LocatedLine) (f : Findings) (notes : Option X) → IsWalkedTo at x ahead f notes → IsSurveyedTo e d (record { at = at; context = x }) f items notes
+  walked-last at x ahead f notes W =
+      let P = passed-by d first_place (record { at = at; context = x }) ahead at (omega arith) W.passed in
+      record {
+        place_is = P.now_is;
+        few_lines = W.few_lines;
+        few_passed = W.few_passed;
+        few_put = W.few_put;
+        room = subst (λ z. f.taken + size_of z ≤ max_text) (sym P.ahead_is) W.room;
+        findings_are = ap (found_with e f) P.ahead_is ∙ W.findings_are;
+        notes_are = subst (λ z. AreNotes items notes (noted_from e f.reach at x z) (noted_lines e d)) (sym P.ahead_is) W.notes_are;
+      }

@@ -1,7 +1,8 @@
 -- The line of an assignment that is changed: its parts, by what the code knows of it, and what the code makes of them.
-use Rattle.std.proofs.Common.{◌≡◌, refl, sym, ap, ◌∙◌, subst, arith, ℕ, ◌+◌, ◌≤◌, Bool, true, false, List, [], ◌∷◌, ◌++◌, length, length-append, Some, None}
-use Rattle.std.specs.Prelude.{◌==◌, nat_lt, if◌then◌else◌, IfSome}
+use Rattle.std.proofs.Common.{◌≡◌, refl, sym, ap, ◌∙◌, subst, arith, ℕ, ◌+◌, ◌-◌, ◌≤◌, Bool, true, false, List, [], ◌∷◌, ◌++◌, take, drop, length, length-append, Some, None}
+use Rattle.std.specs.Prelude.{◌==◌, nat_lt, if◌then◌else◌, slice_range, IfSome}
 use Rattle.std.proofs.lemmas.Bool.{ltb-false}
+use Rattle.std.proofs.lemmas.List.{drop-take}
 use Rattle.mk_lines.specs.Lists.{concat, leading, after_leading, FirstFails, LastFails}
 use Rattle.mk_lines.specs.Bytes.{ByteKind, LineFeed, CarriageReturn, Backslash, Blank, Ordinary, byte_kind}
 use Rattle.mk_lines.specs.PhysicalLines.{line_end, line_end_bytes, without_line_end}
@@ -9,6 +10,7 @@ use Rattle.mk_lines.proofs.on_lines.LineEndLemmas.{without_line_end-line_end}
 use Rattle.mk_lines.specs.Cells.{Cell, Byte, Fold, LfEnd, CrLfEnd, joined_byte, joined_text, raw_text, is_blank_cell, prepend, cells, line_cells}
 use Rattle.mk_lines.specs.Limits.{max_text}
 use Rattle.mk_lines.specs.Pieces.{Piece, Keep, Replace, replacements}
+use Rattle.mk_lines.specs.Ranges.{text_at}
 use Rattle.mk_lines.specs.declared.split.Span.{Span}
 use Rattle.mk_lines.specs.Units.{units}
 use Rattle.mk_lines.specs.Words.{tokens, is_gap, words_in}
@@ -28,18 +30,18 @@ use Rattle.mk_class.proofs.on_classes.ClassLemmas.{plain_class-assign, class_at-
 use Rattle.mk_tree.specs.LocatedLines.{LocatedLine, text_of_line}
 use Rattle.mk_edit_language.specs.Causes.{where_holds}
 use Rattle.mk_edit_language.specs.Edits.{LineChange, Prepend, ReplaceWord, InsertWord, Substitute, SetOperator}
-use Rattle.mk_edit_language.specs.LineChanges.{line_pieces, line_change_spans, line_after, value_after}
+use Rattle.mk_edit_language.specs.LineChanges.{line_pieces, line_change_spans, line_after, stated, value_after}
 use Rattle.mk_edit_language.specs.RuleCauses.{count_of_word, not_inserted}
 use Rattle.mk_edit_language.specs.declared.edit.Side.{Side}
 use Rattle.mk_edit_language.specs.declared.refusal.Refusal.TheVariants.{Absent, Already, Ambiguous}
 use Rattle.mk_edit_language.proofs.on_edits.Accepted.{where_holds-none}
 use Rattle.mk_edit_parts.specs.LineChangePlaces.{new_text, change_places, separator_place, separator_bytes, separator_text, raw_ranges, CanNote}
-use Rattle.mk_edit_parts.specs.RenamedRanges.{AreWithin, IsWithin}
+use Rattle.mk_edit_parts.specs.RenamedRanges.{span, AreWithin, IsWithin}
 use Rattle.mk_edit_parts.specs.RenamedTexts.{AreApart, rewritten}
 use Rattle.mk_edit_parts.specs.SeenAssignments.{HasAssignment, IsAssignmentAt, IsAssignmentSeen}
 use Rattle.mk_edit_parts.proofs.on_values.ValueCells.{assign-parts}
 use Rattle.mk_edit_parts.proofs.on_renaming.PieceRanges.{replacing}
-use Rattle.mk_edit.specs.LineChangePlans.{IsAssignmentIn, IsSought, CanRewrite, first_of_words, not_inserted_in, value_made}
+use Rattle.mk_edit.specs.LineChangePlans.{IsAssignmentIn, IsSought, CanRewrite, first_of_words, is_operator, not_inserted_in, value_made}
 use Rattle.mk_edit.specs.ValueChangeLines.{value_text_located}
 use Rattle.mk_edit.proofs.on_values.OwnLines.{IsValueText, own_line, own-text}
 use Rattle.mk_edit.proofs.on_values.ValuePlaces.{assignment-located}
@@ -209,6 +211,19 @@ is-said c x l a at ss v n I q h s t one w =
     let all : AllBecome n (pieces_said joined_text c a) = subst (λ z. AllBecome z (pieces_said joined_text c a)) (sym w) (line-become joined_text c a (separator_text (text_of_line l) o) v (text-told x l a v I t).empty_is d) in
     let M : IsSaid c l a (located_assignment 0 a) (places 0 (pieces_said joined_text c a)) n = record { can = line-can_rewrite l a P.rest P.seen joined_text c n h all; value = value-made l a P.rest P.seen c n h all } in
     subst (λ z. IsSaid c l a z ss n) (sym (offsets-are x l a at I q)) (subst (λ z. IsSaid c l a (located_assignment 0 a) z n) (sym (places-are joined_text c x l a at ss I q h s)) M)
+
+-- the value is the end of the front
+value-behind : (t : List ℕ) (s e : ℕ) → s ≤ e → drop s (slice_range t 0 e) ≡ slice_range t s e
+value-behind t s e h = ap (λ z. drop s (take z t)) (let q : e - 0 ≡ s + (e - s) = omega (arith, h) in q) ∙ drop-take s (e - s) t
+
+-- the value that the line is said to have, by the front that a change of the operator leaves
+pub said-left : (c : LineChange) (t : List ℕ) (at : offsets.Assignment) (ss : List Span) (n : List ℕ) → at.value.start ≤ at.value.end → is_operator c ≡ true
+    → stated c (drop at.value.start (text_at t (span 0 at.value.end))) ≡ value_made c t at ss n
+said-left (Prepend v) t at ss n r h = absurd (cc)
+said-left (ReplaceWord w v) t at ss n r h = absurd (cc)
+said-left (InsertWord i w v) t at ss n r h = absurd (cc)
+said-left (Substitute f v) t at ss n r h = absurd (cc)
+said-left (SetOperator o) t at ss n r h = value-behind t at.value.start at.value.end r
 
 -- a line has no more cells than bytes
 prepend-count : (k : ByteKind) (b : ℕ) (cs : List Cell) → length (prepend k b cs) ≤ length cs + 1

@@ -157,8 +157,8 @@ same-assigned : (x : Context) (l : LocatedLine) (a b : Assignment Cell) → IsAs
 same-assigned x l a b h k = let e : Assign a None ≡ Assign b None = sym h.here ∙ k.here in cc
 
 -- what the two views say of a line is what it reads as
-pub read-told : (x : Context) (l n : LocatedLine) (m : List ℕ) (f : Flavor) (v w : List ℕ) (b : Bool) → IsAssigning x l → n ≡ located_line (line_in x m) → w ≡ v
-    → is_read_as (assignment_of l) (assignment_of n) f w ≡ b → Reads b x l m f v
-read-told x l n m f v w b own e s h = λ a i.
+pub read-told : (x : Context) (l n : LocatedLine) (m : List ℕ) (f : Flavor) (v : List ℕ) (b : Bool) → IsAssigning x l → n ≡ located_line (line_in x m)
+    → is_read_as (assignment_of l) (assignment_of n) f v ≡ b → Reads b x l m f v
+read-told x l n m f v b own e h = λ a i.
     let free : is_prefix_name (unit_text joined_byte a.name) ≡ false = ap (λ (z : Assignment Cell). is_prefix_name (unit_text joined_byte z.name)) (same-assigned x l a own.assigned i own.is) ∙ own.free in
-    sym (reads-shown x l m a f v i free) ∙ (ap (λ z. is_read_as (assignment_of l) (assignment_of z) f v) (sym e) ∙ (ap (is_read_as (assignment_of l) (assignment_of n) f) (sym s) ∙ h))
+    sym (reads-shown x l m a f v i free) ∙ (ap (λ z. is_read_as (assignment_of l) (assignment_of z) f v) (sym e) ∙ h)

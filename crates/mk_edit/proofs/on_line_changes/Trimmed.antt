@@ -2,15 +2,17 @@
 use Rattle.std.proofs.Common.{◌≡◌, refl, sym, ap, ◌∙◌, subst, arith, ℕ, ◌+◌, ◌≤◌, List, [], ◌∷◌, ◌++◌, map, length, length-append, Bool, true, false}
 use Rattle.std.specs.Prelude.{slice_range}
 use Rattle.std.proofs.lemmas.List.{append-nil, length-map}
-use Rattle.mk_lines.specs.Lists.{concat, leading, after_leading, trim_end, trim_end_before, trailing, FirstFails}
+use Rattle.mk_lines.specs.Bytes.{is_blank_byte}
+use Rattle.mk_lines.specs.Lists.{concat, leading, after_leading, trim_end, trim_end_before, trailing, FirstFails, LastFails}
 use Rattle.mk_lines.specs.Cells.{Cell, Byte, joined_byte, joined_text}
 use Rattle.mk_lines.specs.Units.{units}
 use Rattle.mk_lines.specs.Words.{Token, Gap, Word, tokens, token_units, is_gap, IsWord, AreTokens}
 use Rattle.mk_lines.specs.Ranges.{text_at, word_token_ranges, word_ranges}
 use Rattle.mk_lines.specs.declared.split.Span.{Span}
-use Rattle.mk_lines.proofs.on_lists.ListLemmas.{leading-after_leading, after_leading-first_fails, trim_end-trailing}
-use Rattle.mk_lines.proofs.on_units.UnitLemmas.{units-map}
+use Rattle.mk_lines.proofs.on_lists.ListLemmas.{leading-after_leading, after_leading-append_all, after_leading-first_fails, trim_end-append, trim_end-trailing}
+use Rattle.mk_lines.proofs.on_units.UnitLemmas.{concat-units, units-map}
 use Rattle.mk_lines.proofs.on_units.TokenLemmas.{concat-map, is_gap-map, tokens-are_tokens, token_units-tokens}
+use Rattle.mk_class.specs.ListTests.{first_passes, last_passes}
 use Rattle.mk_class.specs.Texts.{unit_text}
 use Rattle.mk_class.specs.TextClasses.{itself}
 use Rattle.mk_class.specs.LocatedClasses.{width}
@@ -170,3 +172,34 @@ pub walk-trimmed : (t : List ℕ) (words next it left : List Span) (s : Span) (e
 walk-trimmed t words next it left s end h k i l n =
     let e : last_end s.end next ≡ end = ap (last_end s.end) (sym i) ∙ (sym l ∙ ap (last_end end) n) in
     subst (IsTrimmed t s.start) e (trimmed-words t s next (sym h ∙ k))
+
+-- ---- a text that neither begins nor ends with a blank
+
+first-fails : (us : List (List ℕ)) → first_passes is_blank_byte (concat us) ≡ false → FirstFails (is_gap itself) us
+first-fails [] h = tt
+first-fails ([] ∷ us) h = refl
+first-fails ((x ∷ []) ∷ us) h = h
+first-fails ((x ∷ y ∷ u) ∷ us) h = refl
+
+last-right : (a b : List ℕ) → last_passes is_blank_byte (a ++ b) ≡ false → last_passes is_blank_byte b ≡ false
+last-right [] b h = h
+last-right (x ∷ []) [] h = refl
+last-right (x ∷ []) (y ∷ b) h = h
+last-right (x ∷ z ∷ a) b h = last-right (z ∷ a) b h
+
+last-fails : (us : List (List ℕ)) → last_passes is_blank_byte (concat us) ≡ false → LastFails (is_gap itself) us
+last-fails [] h = tt
+last-fails ([] ∷ []) h = refl
+last-fails ((x ∷ []) ∷ []) h = h
+last-fails ((x ∷ y ∷ u) ∷ []) h = refl
+last-fails (u ∷ v ∷ us) h = last-fails (v ∷ us) (last-right u (concat (v ∷ us)) h)
+
+-- has no blanks at its ends
+pub trimmed-whole : (t : List ℕ) → first_passes is_blank_byte t ≡ false → last_passes is_blank_byte t ≡ false → trimmed t ≡ t
+trimmed-whole t f l =
+    let us = units itself t in
+    let e : concat us ≡ t = concat-units itself t in
+    let a : after_leading (is_gap itself) us ≡ us = after_leading-append_all (is_gap itself) [] us tt (first-fails us (ap (first_passes is_blank_byte) e ∙ f)) in
+    let b : trim_end (is_gap itself) us ≡ us =
+    ap (trim_end (is_gap itself)) (sym (append-nil us)) ∙ trim_end-append (is_gap itself) us [] (last-fails us (ap (last_passes is_blank_byte) e ∙ l)) tt in
+    ap (λ z. concat (trim_end (is_gap itself) z)) a ∙ (ap concat b ∙ e)

@@ -15,7 +15,7 @@ returns-then-not-fits_line-clause-read g c =
       told = tt;
       refused = inr (
         refl,
-        unfit-misread (rewrite_view c.args.change) c.args.place.now.context l own.assigned own.is c.in-Ok.made.bytes.items (c.in-Ok.ensures.bytes_are own.assigned own.is)
+        unfit-misread (rewrite_view c.args.change) c.args.place.now.context l own.assigned own.is c.in-Ok.made.bytes.items (c.in-Ok.ensures.made.bytes_are own.assigned own.is)
             (fits-by _ _ _ _ _ _ c.fits_line.ensures c.bytes.ensures.bytes c.deref.ensures.value c.if-not-fits_line.true),
       );
       counted = tt;

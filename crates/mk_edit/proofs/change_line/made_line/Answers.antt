@@ -77,16 +77,16 @@ new_bytes-requires-clause-within g c = (placed g (goal.at.new_bytes-requires-cla
 pub new_bytes-requires-clause-apart : goal.new_bytes-requires-clause-apart
 new_bytes-requires-clause-apart g c = (placed g (goal.at.new_bytes-requires-clause-apart g c).In_ok-read).apart
 
-pub new_value-requires : goal.new_value-requires
-new_value-requires g c =
-    let M = said g (goal.at.new_value-requires g c).In_ok-read c.requires.own.assigned c.requires.own.is in
+pub new_front-requires : goal.new_front-requires
+new_front-requires g c =
+    let M = said g (goal.at.new_front-requires g c).In_ok-read c.requires.own.assigned c.requires.own.is in
     record { can = subst (CanRewrite (rewrite_view c.args.change) (text_of_line (line_view c.args.line.now)) c.args.assignment c.args.ranges.now) (sym c.deref-2.ensures.value) M.can }
 
-pub returns : goal.returns
-returns g c =
-    let W = written g (goal.at.returns g c).In_ok-written in
-    let M = said g (goal.at.returns g c).In_ok-read in
+pub returns-clause-made : goal.returns-clause-made
+returns-clause-made g c =
+    let W = written g (goal.at.returns-clause-made g c).In_ok-written in
+    let M = said g (goal.at.returns-clause-made g c).In_ok-read in
     record {
       bytes_are = λ a I. c.in_ok-bytes.ensures ∙ (ap (λ (n : List ℕ). rewritten (line_view c.args.line.now).bytes n (raw_ranges (line_cells (line_view c.args.line.now).bytes) c.args.ranges.now)) c.deref.ensures.value ∙ (W a I).bytes);
-      value_is = λ a I. c.in_ok-value.ensures ∙ (ap (λ (n : List ℕ). value_made (rewrite_view c.args.change) (text_of_line (line_view c.args.line.now)) c.args.assignment c.args.ranges.now n) c.deref-2.ensures.value ∙ (M a I).value);
+      value_is = λ a I. c.in_ok-front.ensures.value ∙ (ap (λ (n : List ℕ). value_made (rewrite_view c.args.change) (text_of_line (line_view c.args.line.now)) c.args.assignment c.args.ranges.now n) c.deref-2.ensures.value ∙ (M a I).value);
     }

@@ -5,13 +5,13 @@ use Rattle.mk_edit.proofs.change_line.read_back.Goals as goal
 
 pub returns-then-is_read_as-clause-reads : goal.returns-then-is_read_as-clause-reads
 returns-then-is_read_as-clause-reads g c =
-    read-told c.args.context (line_view c.args.old.now) (line_view c.in-Ok.line) c.args.made.bytes.items c.args.flavor c.args.made.value.items c.deref.result.now _
-    c.requires.own c.in-Ok.ensures.line c.deref.ensures.value (sym c.is_read_as.ensures ∙ c.if-is_read_as.true)
+    read-told c.args.context (line_view c.args.old.now) (line_view c.in-Ok.line) c.args.bytes.items c.args.flavor c.args.value.now _
+    c.requires.own c.in-Ok.ensures.line (sym c.is_read_as.ensures ∙ c.if-is_read_as.true)
 
-pub returns-clause-refused : goal.returns-clause-refused
-returns-clause-refused g c =
+pub returns-else-is_read_as-clause-refused : goal.returns-else-is_read_as-clause-refused
+returns-else-is_read_as-clause-refused g c =
     inr (
       refl,
-      read-told c.args.context (line_view c.args.old.now) (line_view c.in-Ok.line) c.args.made.bytes.items c.args.flavor c.args.made.value.items c.deref.result.now _
-          c.requires.own c.in-Ok.ensures.line c.deref.ensures.value (sym c.is_read_as.ensures ∙ c.if-is_read_as.false),
+      read-told c.args.context (line_view c.args.old.now) (line_view c.in-Ok.line) c.args.bytes.items c.args.flavor c.args.value.now _
+          c.requires.own c.in-Ok.ensures.line (sym c.is_read_as.ensures ∙ c.if-is_read_as.false),
     )

@@ -1,6 +1,10 @@
 use Rattle.std.proofs.Common.{sym, ◌∙◌}
-use Rattle.mk_edit.proofs.on_line_changes.Trimmed.{IsTrimmed, trimmed-none, walk-trimmed}
+use Rattle.mk_edit.proofs.on_line_changes.Trimmed.{IsTrimmed, trimmed-none, trimmed-whole, walk-trimmed}
 use Rattle.mk_edit.proofs.change_line.trimmed.Goals as goal
+
+pub returns-then-not-ends_with_blank : goal.returns-then-not-ends_with_blank
+returns-then-not-ends_with_blank c =
+    sym (trimmed-whole c.args.text.now (sym c.begins_with_blank.ensures ∙ c.if-not-begins_with_blank.true) (sym c.ends_with_blank.ensures ∙ c.if-not-ends_with_blank.true))
 
 pub returns-in_default : goal.returns-in_default
 returns-in_default c = sym (trimmed-none c.args.text.now (sym c.words-words.ensures.words ∙ c.in_default.ensures.steps.0))

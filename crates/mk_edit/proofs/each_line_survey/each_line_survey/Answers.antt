@@ -1,93 +1,49 @@
-use Rattle.std.proofs.Common.{◌∙◌, sym, ap, subst, arith}
-use Rattle.std.proofs.lemmas.Bool.{le-ltb, lt-ltb}
-use Rattle.mk_class.specs.Contexts.{Admits, context_after_located}
-use Rattle.mk_tree.specs.Trees.{line_view}
-use Rattle.mk_edit_language.specs.EditViews.{each_edit_of}
-use Rattle.mk_edit.specs.EachLineSurveys.{IsCountable}
-use Rattle.mk_edit.specs.declared.each_line_count.PlaceCount.{PlaceCount}
-use Rattle.mk_edit.proofs.on_each_lines.EachWalks.{IsLineWalked, IsWalkedWhole, line-walked, noted-by, walked-first, walked-over}
-use Rattle.mk_edit.proofs.each_line_survey.each_line_survey.Given.{Over}
-use Rattle.mk_edit.proofs.each_line_survey.each_line_survey.Goals.{In-Some, In-None, then-places-gt0, else-places-gt0}
+use Rattle.std.proofs.Common.{◌≡◌, refl, ap, arith, drop, []}
+use Rattle.std.proofs.lemmas.List.{drop_all}
+use Rattle.mk_edit.proofs.on_each_lines.EachWindows.{windows-at, windows-first, windows-over}
+use Rattle.mk_edit.proofs.each_line_survey.each_line_survey.Goals.{then-survey, else-survey}
 use Rattle.mk_edit.proofs.each_line_survey.each_line_survey.Goals as goal
 
-pub lines-init : goal.lines-init
-lines-init g c = (
-  tt,
-  tt,
-  walked-first (λ p. p.items) _ _ _ _ _ _ (c.into_iter-line-iterator.ensures.into_iter_gives ∙ c.iter-line-items.ensures.lines) c.requires.faithful (c.iter-line-items.ensures.admitted c.requires.faithful) c.size-size.ensures.few c.nothing_found-findings.ensures
-      c.new.ensures.items c.start-context.ensures,
-)
+pub windows-init : goal.windows-init
+windows-init g c =
+    windows-first (λ n. n.items) _ _ _ _ _ _ (ap (λ x. record { at = 0; context = x }) c.start.ensures) c.nothing_found.ensures c.new.ensures.items c.size-size.ensures.few (c.iter-lines.ensures.admitted c.requires.faithful) c.requires.windows
 
--- the line that is handed out
-here : (g : Over) (c : In-Some g) → IsLineWalked (λ p. p.items) (each_edit_of c.args.edit.now) c.args.doc.now c.lines.at c.lines.context (line_view c.in-Some.line.now) c.next.new.self c.lines.findings c.lines.notes
-here g c =
-    line-walked (λ p. p.items) (each_edit_of c.args.edit.now) c.args.doc.now c.requires.lines c.lines.at c.lines.context (line_view c.in-Some.line.now) c.lines.line-iterator c.next.new.self c.lines.findings c.lines.notes c.in-Some.ensures.steps
-    c.lines.invariant.2
+pub surveyed-survey-requires : goal.surveyed-survey-requires
+surveyed-survey-requires g c =
+    let W = windows-at (λ n. n.items) _ _ _ _ _ c.args.windows.now c.windows.window-index c.window-item.result c.windows-test.true c.window-item.is c.windows.invariant in
+    record { faithful = c.requires.faithful; change = c.requires.change; lines = c.requires.lines; ahead = W.lower; in_range = omega (arith, W.in_range); admitted = W.admitted; surveyed = W.surveyed }
 
-pub places_meant-places-requires-clause-classed : goal.places_meant-places-requires-clause-classed
-places_meant-places-requires-clause-classed g c = (here g (goal.at.places_meant-places-requires-clause-classed g c).In-Some).classed
+pub overflow_add-end : goal.overflow_add-end
+overflow_add-end g c =
+    let W = windows-at (λ n. n.items) _ _ _ _ _ c.args.windows.now c.windows.window-index c.window-item.result c.windows-test.true c.window-item.is c.windows.invariant in
+    omega (arith, W.in_range, c.size-size.ensures.few, c.size-size.ensures.some_bytes)
 
-pub places_meant-places-requires-clause-can : goal.places_meant-places-requires-clause-can
-places_meant-places-requires-clause-can g c = λ t.
-    subst (λ k. IsCountable k (line_view c.in-Some.line.now)) (sym c.requires.change) ((here g (goal.at.places_meant-places-requires-clause-can g c).In-Some).can t)
+pub surveyed-survey-requires-in-windows : goal.surveyed-survey-requires-in-windows
+surveyed-survey-requires-in-windows g c =
+    let W = windows-at (λ n. n.items) _ _ _ _ _ c.args.windows.now c.windows.window-index c.window-item.result c.windows-test.true c.window-item.is c.windows.invariant in
+    record {
+      faithful = c.requires.faithful;
+      change = c.requires.change;
+      lines = c.requires.lines;
+      ahead = omega arith;
+      in_range = W.in_range;
+      admitted = W.admitted_in;
+      surveyed = elim c.if-survey.branch [
+        | then-survey w ↦
+            let S = w.surveyed-survey in
+            rw w.survey-is (W.crossed S.result.place S.result.findings S.result.notes S.ensures.lower S.ensures.upper S.ensures.over S.ensures.surveyed)
+        | else-survey w ↦ rw w.survey-is (W.passed w.if-survey.false)
+      ];
+    }
 
-pub found-findings-requires-clause-classed : goal.found-findings-requires-clause-classed
-found-findings-requires-clause-classed g c = (here g (goal.at.found-findings-requires-clause-classed g c).In-Some).classed
+pub windows-preserved : goal.windows-preserved
+windows-preserved g c =
+    let W = windows-at (λ n. n.items) _ _ _ _ _ c.args.windows.now c.windows.window-index c.window-item.result c.windows-test.true c.window-item.is c.windows.invariant in
+    let S = c.surveyed-survey-in-windows in
+    W.next S.result.place S.result.findings S.result.notes (S.ensures.over refl) S.ensures.surveyed
 
-pub found-findings-requires-clause-few_passed : goal.found-findings-requires-clause-few_passed
-found-findings-requires-clause-few_passed g c =
-    let W = here g (goal.at.found-findings-requires-clause-few_passed g c).In-Some in
-    omega (arith, W.few_passed, W.here, c.size-size.ensures.few, c.size-size.ensures.some_bytes)
-
-pub found-findings-requires-clause-few_lines : goal.found-findings-requires-clause-few_lines
-found-findings-requires-clause-few_lines g c =
-    let W = here g (goal.at.found-findings-requires-clause-few_lines g c).In-Some in
-    omega (arith, W.few_lines, W.here, c.size-size.ensures.few, c.size-size.ensures.some_bytes)
-
-pub found-findings-requires-clause-few_bytes : goal.found-findings-requires-clause-few_bytes
-found-findings-requires-clause-few_bytes g c =
-    let W = here g (goal.at.found-findings-requires-clause-few_bytes g c).In-Some in
-    omega (arith, W.room, ap (λ (q : PlaceCount). q.bytes) c.places_meant-places.ensures)
-
-pub gets_longer-requires : goal.gets_longer-requires
-gets_longer-requires g c =
-    let W = here g (goal.at.gets_longer-requires g c).In-Some in
-    omega (arith, W.room, ap (λ (q : PlaceCount). q.bytes) c.places_meant-places.ensures)
-
-pub overflow_add-at : goal.overflow_add-at
-overflow_add-at g c =
-    let W = here g (goal.at.overflow_add-at g c).In-Some in
-    omega (arith, W.here, c.size-size.ensures.few, c.size-size.ensures.some_bytes)
-
-pub step-context-requires : goal.step-context-requires
-step-context-requires g c =
-    let W = here g (goal.at.step-context-requires g c).In-Some in
-    subst (Admits c.lines.context) (sym c.class-class.ensures) W.admits
-
-pub lines-preserved : goal.lines-preserved
-lines-preserved g c =
-    let W = here g (goal.at.lines-preserved g c).In-Some in
-    let k = c.step-context.ensures.located ∙ ap (context_after_located c.lines.context) c.class-class.ensures in
-    let q = c.places_meant-places.ensures in
-    let e = c.found-findings.ensures in (
-      tt,
-      tt,
-      elim c.if-places-gt0.branch [
-        | then-places-gt0 w ↦
-            rw w.notes-is (W.more _ _ _ (record { place = record { at = c.lines.at; context = c.lines.context }; line = c.in-Some.line; is_longer = w.gets_longer.result }) w.with_noted-notes.result k q e (lt-ltb 0 c.places_meant-places.result.count w.if-places-gt0.true)
-            (noted-by c.lines.at c.lines.context (line_view c.in-Some.line.now) c.places_meant-places.result w.gets_longer.result w.gets_longer.ensures) w.with_noted-notes.ensures)
-        | else-places-gt0 w ↦ rw w.notes-is (W.kept _ _ _ k q e (le-ltb 0 c.places_meant-places.result.count w.if-places-gt0.false))
-      ],
-    )
-
-over : (g : Over) (c : In-None g) → IsWalkedWhole (λ p. p.items) (each_edit_of c.args.edit.now) c.args.doc.now c.lines.findings c.lines.notes
-over g c = walked-over (λ p. p.items) (each_edit_of c.args.edit.now) c.args.doc.now c.lines.at c.lines.context c.lines.line-iterator c.lines.findings c.lines.notes c.in-None.ensures.steps.0 c.lines.invariant.2
-
-pub returns-clause-findings : goal.returns-clause-findings
-returns-clause-findings g c = (over g c).findings_are
-
-pub returns-clause-few : goal.returns-clause-few
-returns-clause-few g c = (over g c).few
-
-pub returns-clause-notes : goal.returns-clause-notes
-returns-clause-notes g c = (over g c).notes_are
+pub returns : goal.returns
+returns g c =
+    let none : drop c.windows.window-index c.args.windows.now ≡ [] = drop_all c.windows.window-index c.args.windows.now (omega (arith, c.windows-test.false)) in
+    let W = windows-over (λ n. n.items) _ _ _ _ _ _ none c.windows.invariant in
+    record { findings = W.findings_are; few = W.few; notes = W.notes_are }

@@ -1,9 +1,8 @@
--- What the walk has found and noted, with the lines ahead.
+-- What the walk has found and noted, and the windows ahead.
+use Rattle.std.proofs.Common.{drop}
 use Rattle.mk_edit_language.specs.EditViews.{each_edit_of}
-use Rattle.mk_edit.proofs.on_each_lines.EachWalks.{IsWalkedTo}
+use Rattle.mk_edit.proofs.on_each_lines.EachWindows.{IsWalked}
 use Rattle.mk_edit.proofs.each_line_survey.each_line_survey.Given as goal
 
-abbrev pub invariant-lines : goal.invariant-lines
-invariant-lines g l =
-    (goal.iterator-lines g).can_next l.line-iterator × (goal.iterator-lines g).is_finite l.line-iterator
-    × IsWalkedTo (λ p. p.items) (each_edit_of l.edit) l.doc l.at l.context l.line-iterator l.findings l.notes
+abbrev pub invariant-windows : goal.invariant-windows
+invariant-windows g l = IsWalked (λ n. n.items) (each_edit_of l.edit) l.doc l.survey.place l.survey.findings l.survey.notes (drop l.window-index l.windows)

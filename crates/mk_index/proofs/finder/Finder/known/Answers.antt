@@ -1,7 +1,7 @@
 use Rattle.std.proofs.Common.{◌≡◌, ◌∙◌, refl, sym, subst, false, Option, Some, None}
 use Rattle.std.specs.Prelude.{is_some, IfSome}
 use Rattle.mk_edit_language.specs.Addresses as addresses
-use Rattle.mk_edit_language.specs.EditViews.{edit_of, lines_of, site_of, value_change_of}
+use Rattle.mk_edit_language.specs.EditViews.{each_edit_of, edit_of, lines_of, site_of, value_change_of}
 use Rattle.mk_edit_parts.specs.AddressViews.{address_seen}
 use Rattle.mk_edit_parts.specs.Seeking.{IsKnownOf}
 use Rattle.mk_edit_parts.specs.Windows.{AreWindows, concerns_name, first_place}
@@ -30,8 +30,13 @@ pub returns-in-ChangeValues : goal.returns-in-ChangeValues
 returns-in-ChangeValues g c =
     let doc = c.args.doc.now in
     let w = c.in-ChangeValues in
-    let windows = subst (λ n. IfSome c.for_values.result (λ ws. AreWindows (concerns_name n) first_place doc ws.items)) c.deref-in-ChangeValues-2.ensures.value c.for_values.ensures.windows in
-    rw w.is (record { known = c.windows_known-in-ChangeValues.ensures.values w.name.items (value_change_of w.change) doc windows; right = c.for_values.ensures.right })
+    let windows = subst (λ n. IfSome c.for_asked.result (λ ws. AreWindows (concerns_name n) first_place doc ws.items)) c.deref-in-ChangeValues.ensures.value c.for_asked.ensures.windows in
+    rw w.is (record { known = c.windows_known-in-ChangeValues.ensures.values w.name.items (value_change_of w.change) doc windows; right = c.for_asked.ensures.right })
+
+pub returns-in-EachLine : goal.returns-in-EachLine
+returns-in-EachLine g c =
+    let w = c.in-EachLine in
+    rw w.is (record { known = c.windows_known-in-EachLine.ensures.several (each_edit_of w.each) c.args.doc.now c.for_each_line.ensures.windows; right = c.for_each_line.ensures.right })
 
 pub returns-in-ExchangeLines : goal.returns-in-ExchangeLines
 returns-in-ExchangeLines g c =

@@ -4,8 +4,8 @@ use Rattle.mk_tree.specs.UnreadPrefixes.{IsEndOf}
 use Rattle.mk_index.specs.Effects.{Known}
 use Rattle.mk_index.specs.Indexes.{IsFreshIndexOf, IsIndexOf, Stored}
 use Rattle.mk_index.proofs.on_effects.KeptLemmas.{value-ok}
-use Rattle.mk_index.proofs.finder.Finder.for_values.Goals as goal
-use Rattle.mk_index.proofs.finder.Finder.for_values.Goals.{then-is_some, else-is_some+else-not-is_worn}
+use Rattle.mk_index.proofs.finder.Finder.for_address.Goals as goal
+use Rattle.mk_index.proofs.finder.Finder.for_address.Goals.{then-is_some, else-is_some+else-not-is_worn}
 
 pub returns-clause-right : goal.returns-clause-right
 returns-clause-right g c =
