@@ -27,6 +27,10 @@ _mkedit_refusals="BadArgument Reserved RecipePrefix NoSuch Ambiguous Absent Alre
     NoGroup NoMemory Misread"
 # made until here
 
+# made by tools/texts: program
+_mkedit_commands="edit derive vars rules recipes check caveats get explain session help"
+# made until here
+
 # made by tools/texts: commands
 _mkedit_script_commands="set set-if append add drop prepend replace add-before add-after subst \
     operator values-subst unset comment-out uncomment assign rule unrule depend depend-order \
@@ -69,7 +73,7 @@ _mkedit_offer() {
 
 _mkedit() {
     local word=${COMP_WORDS[COMP_CWORD]} before=${COMP_WORDS[COMP_CWORD - 1]}
-    local command= commands="edit derive vars rules recipes check caveats get explain session help"
+    local command=
     ((COMP_CWORD > 1)) && command=${COMP_WORDS[1]}
     COMPREPLY=()
     if [[ $command == edit && $before == @(-d|--depth|-e|--expression|--backup) ]]; then
@@ -89,9 +93,9 @@ _mkedit() {
     elif [[ $word == -* && $before != @(-o|--output) ]]; then
         mapfile -t COMPREPLY < <(compgen -W "$(_mkedit_options "$command")" -- "$word")
     elif [[ $command == help && COMP_CWORD -eq 2 ]]; then
-        mapfile -t COMPREPLY < <(compgen -W "$commands $_mkedit_script_commands" -- "$word")
+        mapfile -t COMPREPLY < <(compgen -W "$_mkedit_commands $_mkedit_script_commands" -- "$word")
     elif ((COMP_CWORD == 1)); then
-        mapfile -t COMPREPLY < <(compgen -W "$commands" -- "$word")
+        mapfile -t COMPREPLY < <(compgen -W "$_mkedit_commands" -- "$word")
     elif [[ $command == explain ]]; then
         ((COMP_CWORD == 2)) && mapfile -t COMPREPLY < <(compgen -W "$_mkedit_refusals" -- "$word")
     elif [[ $command != help ]]; then

@@ -55,12 +55,12 @@ complete -c mkedit -n '__fish_seen_subcommand_from rules recipes; and not __fish
 complete -c mkedit -n '__fish_seen_subcommand_from get; and not __fish_seen_subcommand_from help' -l nth -x -d 'Prints the value of the N-th assignment of NAME, counted from 1'
 complete -c mkedit -n '__fish_seen_subcommand_from session; and not __fish_seen_subcommand_from help' -l protocol -d 'Replies as to a program, even at a terminal'
 complete -c mkedit -n '__fish_seen_subcommand_from session; and not __fish_seen_subcommand_from help' -l new -d 'Opens a missing FILE as an empty one; `write` creates it'
+complete -c mkedit -n '__fish_seen_subcommand_from edit derive vars rules recipes check caveats get session; and not __fish_seen_subcommand_from help' -F
+complete -c mkedit -n '__fish_seen_subcommand_from help' -a 'edit derive vars rules recipes check caveats get explain session help'
 # made until here
 complete -c mkedit -n __fish_use_subcommand -a help -d 'Prints help for a command'
 
 complete -c mkedit -n '__fish_seen_subcommand_from get; and test (count (commandline -opc)) -eq 2' -a '(__mkedit_names)'
-complete -c mkedit -n '__fish_seen_subcommand_from edit derive vars rules recipes check caveats get session; and not __fish_seen_subcommand_from help' -F
-complete -c mkedit -n '__fish_seen_subcommand_from help' -a 'edit derive vars rules recipes check caveats get explain session help'
 # made by tools/texts: commands
 set -l script_commands set set-if append add drop prepend replace add-before add-after subst operator values-subst unset comment-out uncomment assign rule unrule depend depend-order undepend depend-replace recipe recipe-insert recipe-set recipe-del recipe-replace recipe-remove recipe-subst recipes-subst insert line-replace line-remove rule-replace rule-remove rename nth all undo redo begin end cancel try or
 # made until here

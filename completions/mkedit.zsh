@@ -161,6 +161,7 @@ _mkedit_edit() {
 
 _mkedit_query() {
     local -a options
+    (($+functions[_mkedit_options_of_$1])) || return
     _mkedit_options_of_$1
     shift
     _arguments -s $options "$@" '*:makefile:_files'
@@ -205,10 +206,10 @@ _mkedit() {
     [[ $state == argument ]] || return
     case $line[1] in
         edit) _mkedit_edit ;;
-        derive | vars | rules | recipes | check | caveats | session) _mkedit_query $line[1] ;;
         get) _mkedit_query get '1:name:_mkedit_names' ;;
         explain) _mkedit_explain ;;
         help) _arguments '1:command:_mkedit_help' ;;
+        *) _mkedit_query $line[1] ;;
     esac
 }
 

@@ -40,6 +40,11 @@ def of_fish(name, words):
     yield f"set -l {name} {' '.join(words)}"
 
 
+def words_of(commands):
+    """The words of the commands, and that for help."""
+    return [*(word for word, _, _ in commands), "help"]
+
+
 def options_of(arguments):
     """The options among some arguments, with that for help."""
     yield from (it for it in arguments if it.name.startswith("--"))
@@ -73,8 +78,13 @@ def option_of_zsh(it):
     return f"{front}{{-{it.letter}{'+' * bool(it.value)},{long}}}'{told}" if it.letter else f"'{long}{told}"
 
 
+def after_one_of(words):
+    """The condition of fish that one of these commands was written, and not the command help."""
+    return f"'__fish_seen_subcommand_from {' '.join(words)}; and not __fish_seen_subcommand_from help'"
+
+
 def options_of_fish(commands):
-    """What each command does, and its options, as fish completes them."""
+    """What each command does, its options, and where files and commands stand, as fish completes them."""
     yield from (f"complete -c mkedit -n __fish_use_subcommand -a {word} -d '{about}'" for word, about, _ in commands)
     known = {}
     for word, _, arguments in commands:
@@ -83,5 +93,7 @@ def options_of_fish(commands):
                 known.setdefault(it, []).append(word)
     for it, words in known.items():
         letter, value = f"-s {it.letter} " * bool(it.letter), VALUES.get(it.value, ("-x", ""))[0] + " " if it.value else ""
-        condition = f"'__fish_seen_subcommand_from {' '.join(words)}; and not __fish_seen_subcommand_from help'"
-        yield f"complete -c mkedit -n {condition} {letter}-l {it.name[2:]} {value}-d '{it.help}'"
+        yield f"complete -c mkedit -n {after_one_of(words)} {letter}-l {it.name[2:]} {value}-d '{it.help}'"
+    words = [word for word, _, arguments in commands if any(it.name in ("FILE", "NEW") for it in arguments)]
+    yield f"complete -c mkedit -n {after_one_of(words)} -F"
+    yield f"complete -c mkedit -n '__fish_seen_subcommand_from help' -a '{' '.join(words_of(commands))}'"

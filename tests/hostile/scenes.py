@@ -7,17 +7,15 @@ the hostile part: that part stays as it is, and the block becomes what docs/EDIT
 
 from typing import NamedTuple
 
-QUERIES = ("vars", "rules", "recipes", "check", "caveats")
+from tests.lib.reading import QUERIES
 
 BLOCK = b"LAST = one # c\nlast: a b\n\tfirst\n\tsecond\nEND = 1\n# OFF = 1\n"
 BLOCK_LINES = BLOCK.count(b"\n")
-# What the queries say of the block: a line's number in it, and what follows the number.
+# What queries say of the block: a line's number in it, and what follows the number. Others say nothing.
 BLOCK_ANSWERS = {
     "vars": ((1, b":0: LAST = one\n"), (5, b":0: END = 1\n")),
     "rules": ((2, b":0: last: a b [2]\n"),),
     "recipes": ((2, b":0: last:\n"), (3, b":0: [1] first\n"), (4, b":0: [2] second\n")),
-    "check": (),
-    "caveats": (),
 }
 # Each kind of edit: its command, the piece of the block that goes, and the one that comes. A new
 # line ends as the first line of the text does, which is to stand for @.
@@ -149,7 +147,7 @@ def around(shape, part, block, more=b""):
 def answer(shape, query):
     """What a query says of the whole makefile."""
     first = lines_of(shape.part) if shape.is_closed else 0
-    of_block = b"".join(b"%d%s" % (first + line, text) for line, text in BLOCK_ANSWERS[query])
+    of_block = b"".join(b"%d%s" % (first + line, text) for line, text in BLOCK_ANSWERS.get(query, ()))
     of_part = shape.answers.get(query, [])
     return [*of_part, (of_block, 1)] if shape.is_closed else [(of_block, 1), *of_part]
 

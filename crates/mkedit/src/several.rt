@@ -17,7 +17,7 @@ use crate::destination::open_makefile;
 use crate::ending::{Effect, End, UNWANTED_CHANGE, notes_on, put_message};
 use crate::input::{input_name, name_of};
 use crate::named::named_lines;
-use crate::run::{Run, run_over, run_with_notes};
+use crate::run::{Run, run_told};
 use mk_cli::{EditWords, Input, Output, Progress, Report, Summary};
 use mk_escape::{Layout, escaped};
 use mk_fs::Cause;
@@ -96,7 +96,7 @@ pub fn tell_named(
 ) -> u8 {
     let outcome = match form {
         Report::Json => end.outcome,
-        Report::Plain | Report::Notes => keep_message(end, report),
+        _ => keep_message(end, report),
     };
     let notes = notes_on(rt.alloc(), end, form);
     if !(said.is_empty() && report.is_empty() && notes.is_empty()) {
@@ -160,13 +160,9 @@ fn edit_one<'a>(
         Err(fault) => return tell_end(rt, progress, &[], &End::from(fault), words.report),
     };
     let mut report = Vec::new(rt.alloc());
-    let (end, said) = if words.report == Report::Plain {
-        let mut lines = StdSink::new(&mut report);
-        let end = run_over(rt, words, run, file, makefile, &mut lines, &mut ());
-        (end.kept(lines.failed()), Vec::new(rt.alloc()))
-    } else {
-        run_with_notes(rt, words, run, file, makefile)
-    };
+    let mut lines = StdSink::new(&mut report);
+    let (end, said) = run_told(rt, words, run, file, makefile, &mut lines);
+    let end = end.kept(lines.failed());
     Told {
         status: tell_named(
             rt,
