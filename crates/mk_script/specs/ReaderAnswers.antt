@@ -46,7 +46,10 @@ abbrev pub which_of : Which → edits.Which
 which_of which.Every = edits.Every
 which_of (which.One nth) = edits.One nth
 
--- two texts that are copied; three; two with a number between them
+-- a text that is copied; two; three; two with a number between them
+abbrev pub copied : {A : _} → Vec ℕ A → List ℕ
+copied text = text.items
+
 abbrev pub copied_two : {A : _} → Vec ℕ A × Vec ℕ A → List ℕ × List ℕ
 copied_two p = (p.0.items, p.1.items)
 

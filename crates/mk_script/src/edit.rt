@@ -6,8 +6,8 @@ ghost use Rattle.std.specs.Prelude.{◌≡◌, option_map};
 ghost use Rattle.mk_edit_language.specs.Edits as edits;
 ghost use Rattle.mk_edit_language.specs.EditViews.{edit_of, line_change_of, place_of, site_of, value_change_of};
 ghost use Rattle.mk_script.specs.SeenFields.{field_texts};
-ghost use Rattle.mk_script.specs.CommandReading.{add_line, before_last, change_each, change_line, edit_with, exchange_lines, insert_lines, last_fields, line_change, line_edit, new_assign, new_rule, numbered, place_in, place_with, plain_edit, plain_place, prereq_edit, recipe_edit, site_in, site_with, three, two};
-ghost use Rattle.mk_script.specs.ReaderAnswers.{IsRead, copied_numbered, copied_three, copied_two, which_of};
+ghost use Rattle.mk_script.specs.CommandReading.{add_line, before_last, change_each, change_line, edit_with, exchange_lines, insert_lines, last_fields, line_change, line_edit, new_assign, new_rule, numbered, one, place_in, place_with, plain_edit, plain_place, prereq_edit, recipe_edit, site_in, site_with, three, two};
+ghost use Rattle.mk_script.specs.ReaderAnswers.{IsRead, copied, copied_numbered, copied_three, copied_two, which_of};
 
 use crate::fault::LineFault;
 use crate::field::Field;
@@ -19,7 +19,7 @@ use mk_edit_language::{EachEdit, Edit, LineChange, Place, Side, Site, ValueChang
 use std::alloc::Allocator;
 
 /// Which assignments an edit of a value means.
-#[derive(Clone, Copy, Debug)]
+#[derive(Clone, Copy)]
 pub(crate) enum Which {
     /// The one of this number, from 1, or the only one.
     One(Option<u32>),
@@ -43,6 +43,7 @@ fn make_place<A: Allocator + Copy>(
 }
 
 // The place of a new line that a word and the fields behind it are.
+#[tactic(auto, using(crate::proofs::on_commands::TableLemmas::is_some_mapped))]
 fn place_with<A: Allocator + Copy>(
     alloc: A,
     nth: Option<u32>,
@@ -53,19 +54,19 @@ fn place_with<A: Allocator + Copy>(
 {
     match word {
         PlaceWord::BeforeVar => {
-            let name = one(fields)?.to_vec(alloc)?;
+            let name = one_copied(alloc, fields)?;
             Ok(Place::BeforeVar { nth, name })
         }
         PlaceWord::AfterVar => {
-            let name = one(fields)?.to_vec(alloc)?;
+            let name = one_copied(alloc, fields)?;
             Ok(Place::AfterVar { nth, name })
         }
         PlaceWord::BeforeRule => {
-            let target = one(fields)?.to_vec(alloc)?;
+            let target = one_copied(alloc, fields)?;
             Ok(Place::BeforeRule { nth, target })
         }
         PlaceWord::AfterRule => {
-            let target = one(fields)?.to_vec(alloc)?;
+            let target = one_copied(alloc, fields)?;
             Ok(Place::AfterRule { nth, target })
         }
         _ => match nth {
@@ -110,6 +111,7 @@ fn make_site<A: Allocator + Copy>(
 }
 
 // The site of whole lines that a word and the fields behind it are.
+#[tactic(auto, using(crate::proofs::on_commands::TableLemmas::is_some_mapped))]
 fn site_with<A: Allocator + Copy>(
     alloc: A,
     nth: Option<u32>,
@@ -120,11 +122,11 @@ fn site_with<A: Allocator + Copy>(
 {
     match word {
         PlaceWord::BeforeLine => {
-            let old = one(fields)?.to_vec(alloc)?;
+            let old = one_copied(alloc, fields)?;
             Ok(Site::BeforeLines { nth, old })
         }
         PlaceWord::AfterLine => {
-            let old = one(fields)?.to_vec(alloc)?;
+            let old = one_copied(alloc, fields)?;
             Ok(Site::AfterLines { nth, old })
         }
         _ => Ok(Site::AtPlace(place_with(alloc, nth, word, fields)?)),
@@ -137,6 +139,14 @@ fn split_last<'b, 'a>(fields: &'b [Field<'a>], count: usize) -> (&'b [Field<'a>]
     ensures last { field_texts result.1.now ≡ last_fields count (field_texts fields.now) }
 {
     fields.split_at(fields.len().saturating_sub(count))
+}
+
+// One field, copied.
+fn one_copied<A: Allocator + Copy>(alloc: A, fields: &[Field<'_>]) -> Result<Vec<u8, A>, LineFault>
+    ensures { IsRead copied (one (field_texts fields.now)) result }
+{
+    let text = one(fields)?.to_vec(alloc)?;
+    Ok(text)
 }
 
 // Two fields, copied.
@@ -257,21 +267,21 @@ fn make_line_edit<A: Allocator + Copy>(
 {
     match word {
         Word::Unset => {
-            let name = one(fields)?.to_vec(alloc)?;
+            let name = one_copied(alloc, fields)?;
             Ok(Edit::RemoveAssign { nth, name })
         }
         Word::CommentOut => {
-            let name = one(fields)?.to_vec(alloc)?;
+            let name = one_copied(alloc, fields)?;
             Ok(Edit::CommentOut { nth, name })
         }
         Word::Uncomment => {
-            let name = one(fields)?.to_vec(alloc)?;
+            let name = one_copied(alloc, fields)?;
             Ok(Edit::Uncomment { nth, name })
         }
         Word::Assign => make_assign(alloc, nth, fields),
         Word::Rule => make_rule(alloc, nth, fields),
         Word::Unrule => {
-            let target = one(fields)?.to_vec(alloc)?;
+            let target = one_copied(alloc, fields)?;
             Ok(Edit::RemoveRule { nth, target })
         }
         Word::Rename | Word::ValuesSubst | Word::RecipesSubst => {
@@ -507,7 +517,7 @@ fn make_exchange<A: Allocator + Copy>(
             Ok(Edit::ExchangeLines { site, block })
         }
         Word::LineRemove => {
-            let old = one(fields)?.to_vec(alloc)?;
+            let old = one_copied(alloc, fields)?;
             let site = Site::OfLines { nth, old };
             Ok(Edit::ExchangeLines { site, block: None })
         }
@@ -518,7 +528,7 @@ fn make_exchange<A: Allocator + Copy>(
             Ok(Edit::ExchangeLines { site, block })
         }
         Word::RuleRemove => {
-            let target = one(fields)?.to_vec(alloc)?;
+            let target = one_copied(alloc, fields)?;
             let site = Site::OfRule { nth, target };
             Ok(Edit::ExchangeLines { site, block: None })
         }
@@ -589,7 +599,7 @@ fn make_line_change<A: Allocator + Copy>(
 {
     match word {
         Word::Prepend => {
-            let value = one(fields)?.to_vec(alloc)?;
+            let value = one_copied(alloc, fields)?;
             Ok(LineChange::Prepend(value))
         }
         Word::Replace => {

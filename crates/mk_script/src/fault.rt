@@ -5,11 +5,11 @@ ghost use Rattle.mk_script.specs.declared.fault.LineFault.TheVariants.{NoMemory,
 use std::alloc::AllocError;
 
 /// What was looked for does not stand in the line, so the line is no command.
-#[derive(Clone, Copy, Debug)]
+#[derive(Clone, Copy)]
 pub(crate) struct NotThere;
 
 /// Why a line of a script gave no command.
-#[derive(Clone, Copy, Debug)]
+#[derive(Clone, Copy)]
 pub(crate) enum LineFault {
     /// The line is no command.
     NotACommand,

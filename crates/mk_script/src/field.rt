@@ -16,7 +16,7 @@ use crate::lines::{push_lines, word_of_lines};
 use std::alloc::{AllocError, Allocator};
 
 /// How a field stands in a script.
-#[derive(Clone, Copy, Debug)]
+#[derive(Clone, Copy)]
 pub(crate) enum Form {
     /// In its line, as it is.
     Bare,

@@ -28,7 +28,7 @@ pub enum CommandKind {
 }
 
 /// The words of the table, each by its name.
-#[derive(Clone, Copy, Debug)]
+#[derive(Clone, Copy)]
 pub(crate) enum Word {
     Set,
     SetIf,

@@ -8,7 +8,7 @@ use mk_class::Flavor;
 use mk_edit_language::RuleSeparator;
 
 /// The first words of places. Beside lines that are found by their text only whole lines go.
-#[derive(Clone, Copy, Debug)]
+#[derive(Clone, Copy)]
 pub(crate) enum PlaceWord {
     Top,
     Bottom,

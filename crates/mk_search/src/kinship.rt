@@ -1,46 +1,40 @@
 //! How alike two lines are.
 
-use crate::text::{SeenLine, without_end};
+use crate::text::{SeenLine, after, without_end};
 use mk_class::Class;
 
 // What lines weigh that are equal, apart from their bytes.
-const EQUAL: u32 = 16;
+const EQUAL: usize = 16;
 // What blank lines weigh.
-const BLANK: u32 = 6;
+const BLANK: usize = 6;
 // What lines weigh that assign the same variable, or are of the same rule.
-const NAMESAKES: u32 = 24;
+const NAMESAKES: usize = 24;
+// What lines weigh that agree in more than half of their bytes, apart from these.
+const ALIKE: usize = 4;
 // The most bytes that count.
 const MOST: usize = 48;
 
 /// How much it counts that a line stays, or becomes another one: 0 if it does not become that.
-pub(crate) fn kinship(old: SeenLine<'_>, new: SeenLine<'_>) -> u32 {
+pub(crate) fn kinship(old: SeenLine<'_>, new: SeenLine<'_>) -> usize {
     if old.bytes() == new.bytes() {
-        return weight(old);
+        weight(old)
+    } else if old.is_blank() || new.is_blank() {
+        0
+    } else if are_namesakes(old, new) || are_switched(old, new) {
+        NAMESAKES
+    } else if may_become(old.class(), new.class()) {
+        likeness(without_end(old.bytes()), without_end(new.bytes()))
+    } else {
+        0
     }
-    if old.is_blank() || new.is_blank() {
-        return 0;
-    }
-    if are_namesakes(old, new) || are_switched(old, new) {
-        return NAMESAKES;
-    }
-    // A line that assigns one variable does not become one that assigns another.
-    let have_names = old.name().is_some() && new.name().is_some();
-    if have_names || !are_of_one_kind(old.line.class(), new.line.class()) {
-        return 0;
-    }
-    likeness(without_end(old.bytes()), without_end(new.bytes()))
 }
 
 // What it counts that a line stays.
-fn weight(seen: SeenLine<'_>) -> u32 {
+fn weight(seen: SeenLine<'_>) -> usize {
     if seen.is_blank() {
         return BLANK;
     }
-    let mut weight = EQUAL;
-    for _ in seen.bytes().iter().take(MOST) {
-        weight = weight.saturating_add(1);
-    }
-    weight
+    EQUAL.saturating_add(seen.bytes().len().min(MOST))
 }
 
 // Whether two lines assign the same variable, or are the lines of rules for the same target.
@@ -65,17 +59,24 @@ pub(crate) fn have_one_name(old: SeenLine<'_>, new: SeenLine<'_>) -> bool {
     }
 }
 
-// Whether two classes are the same but for the places of their parts.
-fn are_of_one_kind(old: Class, new: Class) -> bool {
-    match (old, new) {
-        (Class::Recipe, Class::Recipe) => true,
-        (Class::Assign(..), Class::Assign(..)) => true,
-        (Class::Header(_), Class::Header(_)) => true,
-        (Class::TargetAssign(_), Class::TargetAssign(_)) => true,
-        (Class::Recipe | Class::Assign(..) | Class::Header(_) | Class::TargetAssign(_), _) => false,
-        (_, Class::Recipe | Class::Assign(..) | Class::Header(_) | Class::TargetAssign(_)) => false,
-        _ => true,
+// Whether a line of one class may become one of the other by what it says: a line that assigns a variable does
+// not become one that assigns another.
+fn may_become(old: Class, new: Class) -> bool {
+    match old {
+        Class::Assign(..) => false,
+        Class::Recipe => matches!(new, Class::Recipe),
+        Class::Header(_) => matches!(new, Class::Header(_)),
+        Class::TargetAssign(_) => matches!(new, Class::TargetAssign(_)),
+        _ => is_other(new),
     }
+}
+
+// Whether a line of a class is no recipe line, no assignment and no line of a rule.
+fn is_other(class: Class) -> bool {
+    !matches!(
+        class,
+        Class::Recipe | Class::Assign(..) | Class::Header(_) | Class::TargetAssign(_)
+    )
 }
 
 // Whether one of two lines assigns a variable, and the other is that line with the sign of a comment before it.
@@ -96,7 +97,7 @@ fn uncommented(line: &[u8]) -> &[u8] {
 }
 
 // How much two texts agree at their front and at their end: nothing if that is less than half of them.
-fn likeness(old: &[u8], new: &[u8]) -> u32 {
+fn likeness(old: &[u8], new: &[u8]) -> usize {
     let front = common_front(old, new);
     let end = common_end(after(old, front), after(new, front));
     let same = front.saturating_add(end);
@@ -104,15 +105,11 @@ fn likeness(old: &[u8], new: &[u8]) -> u32 {
     if same < length.saturating_sub(same) {
         return 0;
     }
-    let mut weight = 4u32;
-    for _ in 0..same.min(NAMESAKES as usize) {
-        weight = weight.saturating_add(1);
-    }
-    weight
+    ALIKE.saturating_add(same.min(NAMESAKES))
 }
 
-/// How many bytes two texts have in common at their front.
-pub(crate) fn common_front(old: &[u8], new: &[u8]) -> usize {
+// How many bytes two texts have in common at their front.
+fn common_front(old: &[u8], new: &[u8]) -> usize {
     let mut same = 0usize;
     for (byte, other) in old.iter().zip(new.iter()) {
         if byte != other {
@@ -123,8 +120,8 @@ pub(crate) fn common_front(old: &[u8], new: &[u8]) -> usize {
     same
 }
 
-/// How many bytes two texts have in common at their end.
-pub(crate) fn common_end(old: &[u8], new: &[u8]) -> usize {
+// How many bytes two texts have in common at their end.
+fn common_end(old: &[u8], new: &[u8]) -> usize {
     let mut same = 0usize;
     for (byte, other) in old.iter().rev().zip(new.iter().rev()) {
         if byte != other {
@@ -133,12 +130,4 @@ pub(crate) fn common_end(old: &[u8], new: &[u8]) -> usize {
         same = same.saturating_add(1);
     }
     same
-}
-
-/// A text from an index on; nothing if it is not so long.
-pub(crate) fn after(text: &[u8], at: usize) -> &[u8] {
-    match text.get(at..) {
-        Some(rest) => rest,
-        None => &[],
-    }
 }

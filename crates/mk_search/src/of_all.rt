@@ -4,8 +4,8 @@ use crate::bench::{Bench, script_of};
 use crate::fault::DeriveError;
 use crate::of_recipe::recipe_text;
 use crate::step::{Step, steps_between};
-use crate::text::{SeenLine, Text};
-use crate::text_change::{Carrier, changes_of, distance};
+use crate::text::{SeenLine, Text, read};
+use crate::text_change::{Carrier, TextChange, changes_of, distance};
 use mk_edit_language::Edit;
 use mk_lines::Fault;
 use mk_tree::{Doc, text_of};
@@ -38,25 +38,25 @@ struct Candidate {
     fewest: usize,
 }
 
+impl Candidate {
+    // Counts a change of the line at an index, once.
+    fn meets(&mut self, at: usize) {
+        if self.last != at {
+            self.last = at;
+            self.count = self.count.saturating_add(1);
+        }
+    }
+}
+
 /// Keeps commands that make many equal changes each, and touch no other line.
 pub(crate) fn tries_all(bench: &mut Bench, new: &Text<'_>) -> Result<(), DeriveError> {
     let alloc = bench.alloc();
     let text = text_of(alloc, bench.doc())?;
-    let doc = Doc::open(alloc, text.as_slice())?;
+    let doc = read(alloc, text.as_slice())?;
     let old = Text::new(alloc, &doc, text.as_slice())?;
-    let steps = steps_between(alloc, &old, new)?;
-    let pairs = pairs_of(alloc, &old, new, steps.as_slice())?;
-    let mut candidates = Vec::new(alloc);
-    for pair in pairs.iter().take(MOST_LINES) {
-        push_candidates(alloc, *pair, &mut candidates)?;
-    }
-    for _ in 0..MOST_TRIED {
-        let Some(candidate) = take_best(&mut candidates) else {
-            break;
-        };
-        tries_candidate(bench, &candidate.edit, &old, pairs.as_slice())?;
-    }
-    Ok(())
+    let pairs = pairs_of(alloc, &old, new)?;
+    let candidates = candidates_of(alloc, pairs.as_slice())?;
+    tries_best(bench, candidates, &old, pairs.as_slice())
 }
 
 // The lines that become others.
@@ -64,27 +64,65 @@ fn pairs_of<'a, 'b>(
     alloc: Global,
     old: &Text<'a>,
     new: &Text<'b>,
-    steps: &[Step],
-) -> Result<Vec<Pair<'a, 'b>>, AllocError> {
+) -> Result<Vec<Pair<'a, 'b>>, Fault> {
     let mut pairs = Vec::new(alloc);
-    for step in steps {
-        if step.removed() == 1
-            && step.added() == 1
-            && let Some(old) = old.line(step.old_start)
-            && let Some(new) = new.line(step.new_start)
-        {
-            pairs.push(Pair {
-                at: step.old_start,
-                old,
-                new,
-            })?;
+    for step in &steps_between(alloc, old, new)? {
+        if let Some(pair) = pair_at(old, new, *step) {
+            pairs.push(pair)?;
         }
     }
     Ok(pairs)
 }
 
+// The line that becomes another one by a step, if that is all.
+fn pair_at<'a, 'b>(old: &Text<'a>, new: &Text<'b>, step: Step) -> Option<Pair<'a, 'b>> {
+    if step.removed() != 1 || step.added() != 1 {
+        return None;
+    }
+    Some(Pair {
+        at: step.old_start,
+        old: old.line(step.old_start)?,
+        new: new.line(step.new_start)?,
+    })
+}
+
+// The commands that may make the changes of some lines.
+fn candidates_of(alloc: Global, pairs: &[Pair<'_, '_>]) -> Result<Vec<Candidate>, Fault> {
+    let mut candidates = Vec::new(alloc);
+    for pair in pairs.iter().take(MOST_LINES) {
+        push_candidates(alloc, *pair, &mut candidates)?;
+    }
+    Ok(candidates)
+}
+
+// Keeps commands, those first that may make most changes.
+fn tries_best(
+    bench: &mut Bench,
+    mut candidates: Vec<Candidate>,
+    old: &Text<'_>,
+    pairs: &[Pair<'_, '_>],
+) -> Result<(), DeriveError> {
+    for _ in 0..MOST_TRIED {
+        let Some(candidate) = take_best(&mut candidates) else {
+            break;
+        };
+        tries_candidate(bench, candidate.edit, old, pairs)?;
+    }
+    Ok(())
+}
+
 // Takes the candidate with the most changes out, if one has enough.
 fn take_best(candidates: &mut Vec<Candidate>) -> Option<Candidate> {
+    let at = best_of(candidates.as_slice())?;
+    if at < candidates.len() {
+        Some(candidates.remove(at))
+    } else {
+        None
+    }
+}
+
+// The index of the first candidate with the most changes, if one has enough.
+fn best_of(candidates: &[Candidate]) -> Option<usize> {
     let mut best = None;
     let mut most = 0usize;
     for (at, candidate) in candidates.iter().enumerate() {
@@ -93,12 +131,7 @@ fn take_best(candidates: &mut Vec<Candidate>) -> Option<Candidate> {
             best = Some(at);
         }
     }
-    let at = best?;
-    if at < candidates.len() {
-        Some(candidates.remove(at))
-    } else {
-        None
-    }
+    best
 }
 
 // What one line has in the place of another, where an edit of texts finds it: in such lines of one name or
@@ -113,7 +146,7 @@ struct Carried<'a, 'b> {
 
 // What a pair has that edits of texts find.
 fn carried_by<'a, 'b>(pair: Pair<'a, 'b>) -> Option<Carried<'a, 'b>> {
-    if let (Some(old), Some(new)) = (pair.old.line.assignment(), pair.new.line.assignment()) {
+    if let (Some(old), Some(new)) = (pair.old.assignment(), pair.new.assignment()) {
         return Some(Carried {
             old: old.value(),
             new: new.value(),
@@ -146,12 +179,31 @@ fn push_candidates(
         return Ok(());
     };
     for change in &changes_of(alloc, carried.old, carried.new)? {
-        for (carrier, fewest) in [(carried.one, FEWEST_OF_ONE), (carried.all, FEWEST)] {
-            for around in [None, Some(0)] {
-                if let Some(edit) = change.edit(alloc, carrier, around)? {
-                    count(edit, pair.at, fewest, candidates)?;
-                }
-            }
+        count_change(
+            alloc,
+            *change,
+            carried.one,
+            pair.at,
+            FEWEST_OF_ONE,
+            candidates,
+        )?;
+        count_change(alloc, *change, carried.all, pair.at, FEWEST, candidates)?;
+    }
+    Ok(())
+}
+
+// Counts the commands that make a change in the line at an index, alone and with the rest of its words.
+fn count_change(
+    alloc: Global,
+    change: TextChange<'_>,
+    carrier: Carrier<'_>,
+    at: usize,
+    fewest: usize,
+    candidates: &mut Vec<Candidate>,
+) -> Result<(), AllocError> {
+    for around in [None, Some(0)] {
+        if let Some(edit) = change.edit(alloc, carrier, around)? {
+            count(edit, at, fewest, candidates)?;
         }
     }
     Ok(())
@@ -166,10 +218,7 @@ fn count(
 ) -> Result<(), AllocError> {
     for candidate in candidates.iter_mut() {
         if candidate.edit == edit {
-            if candidate.last != at {
-                candidate.last = at;
-                candidate.count = candidate.count.saturating_add(1);
-            }
+            candidate.meets(at);
             return Ok(());
         }
     }
@@ -185,25 +234,24 @@ fn count(
 // Keeps a command if it makes each line that it changes more like the one that this line is to become.
 fn tries_candidate(
     bench: &mut Bench,
-    edit: &Edit,
+    edit: Edit,
     old: &Text<'_>,
     pairs: &[Pair<'_, '_>],
 ) -> Result<(), DeriveError> {
-    let alloc = bench.alloc();
-    let edits = [edit.clone()?];
-    let Some(script) = script_of(alloc, b"", &edits)? else {
+    let edits = [edit];
+    let Some(script) = script_of(bench.alloc(), b"", &edits)? else {
         return Ok(());
     };
     if !bench.makes_all(&edits)? {
         return Ok(());
     }
-    if leads_nearer(alloc, bench.doc(), old, pairs)? {
+    if leads_nearer(bench.alloc(), bench.doc(), old, pairs)? {
         bench.begin_place();
-        bench.keep(script.as_slice())
+        bench.keep(script.as_slice())?;
     } else {
         bench.cancel();
-        Ok(())
     }
+    Ok(())
 }
 
 // Whether each line of a document is the old line, or is more like the one that this is to become.
@@ -218,20 +266,26 @@ fn leads_nearer(
     }
     let mut rest = pairs;
     for (at, line) in doc.iter().enumerate() {
-        if let [pair, below @ ..] = rest
-            && pair.at == at
-        {
-            rest = below;
-            if !is_nearer(alloc, line.bytes(), *pair)? {
-                return Ok(false);
+        match rest {
+            [pair, below @ ..] if pair.at == at => {
+                rest = below;
+                if !is_nearer(alloc, line.bytes(), *pair)? {
+                    return Ok(false);
+                }
             }
-        } else if let Some(old) = old.line(at)
-            && old.bytes() != line.bytes()
-        {
-            return Ok(false);
+            _ if !is_line(old, at, line.bytes()) => return Ok(false),
+            _ => {}
         }
     }
     Ok(true)
+}
+
+// Whether the line at an index has these bytes, if there is one.
+fn is_line(text: &Text<'_>, at: usize, bytes: &[u8]) -> bool {
+    match text.line(at) {
+        Some(line) => line.bytes() == bytes,
+        None => true,
+    }
 }
 
 // Whether a line is the old one of a pair, or more like the new one than that.

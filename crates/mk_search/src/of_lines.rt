@@ -22,18 +22,11 @@ const AROUND: [(usize, usize); 9] = [
 
 /// Tries to exchange the lines of a step, to take them out, or to put them in with lines beside them.
 pub(crate) fn tries_lines(bench: &mut Bench, spot: Spot<'_>) -> Result<bool, DeriveError> {
-    for (above, below) in AROUND {
-        if spot
-            .step
-            .removed()
-            .saturating_add(above)
-            .saturating_add(below)
-            == 0
-        {
+    for around in AROUND {
+        if spot.step.removed() == 0 && around.0 == 0 && around.1 == 0 {
             continue;
         }
-        let edit = exchange(bench.alloc(), spot, above, below)?;
-        if bench.tries(&[edit], spot.aim())? {
+        if bench.tries(exchange(bench.alloc(), spot, around), spot.aim())? {
             return Ok(true);
         }
         if !bench.is_unclear() {
@@ -43,30 +36,18 @@ pub(crate) fn tries_lines(bench: &mut Bench, spot: Spot<'_>) -> Result<bool, Der
     Ok(false)
 }
 
-/// Tries to exchange the lines of a step by their number among those that say the same.
-pub(crate) fn tries_numbered_lines(bench: &mut Bench, spot: Spot<'_>) -> Result<bool, DeriveError> {
-    let edit = exchange(bench.alloc(), spot, 0, 0)?;
-    if bench.tries(&[edit.clone()?], spot.aim())? {
-        return Ok(true);
-    }
-    bench.tries_numbered(&edit, spot.aim())
-}
-
-// The edit that exchanges the lines of a step, together with some lines above and below that stay.
-fn exchange(alloc: Global, spot: Spot<'_>, above: usize, below: usize) -> Result<Edit, AllocError> {
-    let step = spot.step;
-    let above = spot
-        .new
-        .between(step.new_start.saturating_sub(above), step.new_start);
-    let below = spot
-        .old
-        .between(step.old_end, step.old_end.saturating_add(below));
-    let old_lines = spot.old.between(step.old_start, step.old_end);
-    let new_lines = spot.new.between(step.new_start, step.new_end);
-    let old = block_around(alloc, above, old_lines, below)?;
-    if above.is_empty() && below.is_empty() && new_lines.is_empty() {
+/// The edit that exchanges the lines of a step, together with so many lines above and below that stay.
+pub(crate) fn exchange(
+    alloc: Global,
+    spot: Spot<'_>,
+    around: (usize, usize),
+) -> Result<Edit, AllocError> {
+    let above = spot.above(around.0);
+    let below = spot.below(around.1);
+    let old = block_around(alloc, above, spot.gone(), below)?;
+    if above.is_empty() && below.is_empty() && spot.come().is_empty() {
         return Edit::line_remove(alloc, old.as_slice());
     }
-    let new = block_around(alloc, above, new_lines, below)?;
+    let new = block_around(alloc, above, spot.come(), below)?;
     Edit::line_replace(alloc, old.as_slice(), new.as_slice())
 }

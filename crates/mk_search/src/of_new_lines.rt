@@ -5,14 +5,15 @@
 //! and the text is the same; and so downwards. Each of these is a shift. What stands below is the old
 //! makefile yet, what stands above is the new one.
 
+use crate::aim::Aim;
 use crate::bench::Bench;
 use crate::fault::DeriveError;
 use crate::of_lines::tries_lines;
 use crate::of_recipe::recipe_text;
 use crate::search::Spot;
 use crate::step::Step;
-use crate::text::{SeenLine, block_of};
-use crate::text_change::{part, word_length};
+use crate::text::{SeenLine, block_of, part};
+use crate::text_change::word_length;
 use mk_edit_language::{Edit, Place, Site};
 use std::alloc::{AllocError, Global};
 
@@ -28,27 +29,14 @@ const AROUND: [usize; 4] = [1, 2, 3, 5];
 /// Tries to put in the new lines of a step.
 pub(crate) fn tries_new_lines(bench: &mut Bench, spot: Spot<'_>) -> Result<bool, DeriveError> {
     let shifts = shifts_of(bench.alloc(), spot)?;
-    if tries_recipe_lines(bench, spot)? {
-        return Ok(true);
-    }
-    for shift in &shifts {
-        if tries_beside_name(bench, spot, *shift)? {
-            return Ok(true);
-        }
-    }
-    if tries_at_end(bench, spot)? {
-        return Ok(true);
-    }
-    for beside in [Beside::Code, Beside::Short, Beside::Any] {
-        for count in AROUND {
-            for shift in &shifts {
-                if tries_beside_lines(bench, spot, *shift, count, beside)? {
-                    return Ok(true);
-                }
-            }
-        }
-    }
-    tries_lines(bench, spot)
+    let shifts = shifts.as_slice();
+    Ok(
+        tries_recipe_lines(bench, spot)?
+            || tries_beside_names(bench, spot, shifts)?
+            || tries_at_end(bench, spot)?
+            || tries_beside_lines(bench, spot, shifts)?
+            || tries_lines(bench, spot)?,
+    )
 }
 
 // Beside which lines new ones are put, by what these say.
@@ -62,45 +50,32 @@ enum Beside {
     Any,
 }
 
-/// Tries to put in the new lines of a step beside a line by its number among those that say the same.
-pub(crate) fn tries_numbered_new_lines(
-    bench: &mut Bench,
-    spot: Spot<'_>,
-) -> Result<bool, DeriveError> {
-    let alloc = bench.alloc();
-    let block = block_of(
-        alloc,
-        spot.new.between(spot.step.new_start, spot.step.new_end),
-    )?;
-    let above = spot.new.line_before(spot.step.new_start);
-    let Some(site) = after_lines(alloc, above)? else {
-        return Ok(false);
-    };
-    let edit = site.insert(alloc, block.as_slice())?;
-    if bench.tries(&[edit.clone()?], spot.aim())? {
-        return Ok(true);
-    }
-    bench.tries_numbered(&edit, spot.aim())
-}
-
 // The step and its shifts: upwards, then downwards. Those with whole parts alone, if there are such.
 fn shifts_of(alloc: Global, spot: Spot<'_>) -> Result<Vec<Step>, AllocError> {
     let mut shifts = Vec::new(alloc);
-    let mut whole = Vec::new(alloc);
-    let mut up = Some(spot.step);
-    let mut down = shifted_down(spot, spot.step);
+    let mut next = Some(spot.step);
+    let mut down = shifted_down(spot);
     for _ in 0..MOST_SHIFTS {
-        let Some(step) = up.or(down) else {
+        let Some(step) = next.or(down) else {
             break;
         };
         shifts.push(step)?;
-        if are_whole(spot.new.between(step.new_start, step.new_end)) {
-            whole.push(step)?;
-        }
-        if up.is_some() {
-            up = shifted_up(spot, step);
+        let shift = spot.at(step);
+        if next.is_some() {
+            next = shifted_up(shift);
         } else {
-            down = shifted_down(spot, step);
+            down = shifted_down(shift);
+        }
+    }
+    whole_shifts(alloc, spot, shifts)
+}
+
+// The shifts with whole parts alone, if there are such.
+fn whole_shifts(alloc: Global, spot: Spot<'_>, shifts: Vec<Step>) -> Result<Vec<Step>, AllocError> {
+    let mut whole = Vec::new(alloc);
+    for step in &shifts {
+        if are_whole(spot.at(*step).come()) {
+            whole.push(*step)?;
         }
     }
     Ok(if whole.is_empty() { shifts } else { whole })
@@ -111,19 +86,25 @@ fn shifts_of(alloc: Global, spot: Spot<'_>) -> Result<Vec<Step>, AllocError> {
 fn are_whole(lines: &[SeenLine<'_>]) -> bool {
     let mut open = 0usize;
     for line in lines {
-        match first_word(line.bytes()) {
-            b"if" | b"ifdef" | b"ifndef" | b"ifeq" | b"ifneq" | b"define" => {
-                open = open.saturating_add(1);
-            }
-            b"else" if open == 0 => return false,
-            b"endif" | b"endef" => match open.checked_sub(1) {
-                Some(fewer) => open = fewer,
-                None => return false,
-            },
-            _ => {}
+        match open_behind(open, first_word(line.bytes())) {
+            Some(still) => open = still,
+            None => return false,
         }
     }
     open == 0
+}
+
+// How many conditionals and defines are open behind a line that begins with a word; `None` if it ends one that
+// none is.
+fn open_behind(open: usize, word: &[u8]) -> Option<usize> {
+    match word {
+        b"if" | b"ifdef" | b"ifndef" | b"ifeq" | b"ifneq" | b"define" => {
+            Some(open.saturating_add(1))
+        }
+        b"endif" | b"endef" => open.checked_sub(1),
+        b"else" if open == 0 => None,
+        _ => Some(open),
+    }
 }
 
 // The word that a line begins with, if it does not begin with a tab.
@@ -136,7 +117,8 @@ fn first_word(line: &[u8]) -> &[u8] {
 }
 
 // The step a line further up, if the text is the same.
-fn shifted_up(spot: Spot<'_>, step: Step) -> Option<Step> {
+fn shifted_up(spot: Spot<'_>) -> Option<Step> {
+    let step = spot.step;
     let above = spot.new.line_before(step.new_start)?;
     let last = spot.new.line_before(step.new_end)?;
     if above.bytes() != last.bytes() {
@@ -151,87 +133,138 @@ fn shifted_up(spot: Spot<'_>, step: Step) -> Option<Step> {
 }
 
 // The step a line further down, if the text is the same.
-fn shifted_down(spot: Spot<'_>, step: Step) -> Option<Step> {
+fn shifted_down(spot: Spot<'_>) -> Option<Step> {
+    let step = spot.step;
     let first = spot.new.line(step.new_start)?;
     let below = spot.old.line(step.old_end)?;
     if first.bytes() != below.bytes() {
         return None;
     }
     Some(Step {
-        new_start: step.new_start.checked_add(1)?,
-        new_end: step.new_end.checked_add(1)?,
-        old_start: step.old_start.checked_add(1)?,
-        old_end: step.old_end.checked_add(1)?,
+        new_start: step.new_start.saturating_add(1),
+        new_end: step.new_end.saturating_add(1),
+        old_start: step.old_start.saturating_add(1),
+        old_end: step.old_end.saturating_add(1),
     })
 }
 
 // Tries to put recipe lines behind the recipe of their rule.
 fn tries_recipe_lines(bench: &mut Bench, spot: Spot<'_>) -> Result<bool, DeriveError> {
-    let alloc = bench.alloc();
-    let lines = spot.new.between(spot.step.new_start, spot.step.new_end);
+    let lines = spot.come();
     if lines.len() > MOST_RECIPE_LINES {
         return Ok(false);
     }
-    let mut edits = Vec::new(alloc);
+    let mut edits = Vec::new(bench.alloc());
     for line in lines {
         let (Some(target), Some(text)) = (line.recipe_target(), recipe_text(*line)) else {
             return Ok(false);
         };
-        edits.push(Edit::recipe(alloc, target, text)?)?;
+        edits.push(Edit::recipe(bench.alloc(), target, text)?)?;
     }
-    bench.tries(edits.as_slice(), spot.aim())
+    bench.tries_all(edits.as_slice(), spot.aim())
 }
 
-// Tries to put in the new lines of a shift beside a line that has a name, or behind a rule.
-fn tries_beside_name(bench: &mut Bench, spot: Spot<'_>, shift: Step) -> Result<bool, DeriveError> {
-    let alloc = bench.alloc();
-    let lines = spot.new.between(shift.new_start, shift.new_end);
-    if let Some(above) = spot.new.line_before(shift.new_start) {
-        if let Some(name) = above.name()
-            && (tries_at_place(bench, spot, Place::after_var(alloc, name)?, lines)?
-                || tries_at_place(bench, spot, Place::after_last_var(alloc, name)?, lines)?)
+// Tries to put in the new lines of each shift beside a line that has a name, or behind a rule.
+fn tries_beside_names(
+    bench: &mut Bench,
+    spot: Spot<'_>,
+    shifts: &[Step],
+) -> Result<bool, DeriveError> {
+    for step in shifts {
+        let shift = spot.at(*step);
+        if tries_below_name(bench, shift, spot.aim())?
+            || tries_above_name(bench, shift, spot.aim())?
         {
             return Ok(true);
         }
-        if let Some(target) = above.target().or(above.recipe_target())
-            && tries_at_place(bench, spot, Place::after_rule(alloc, target)?, lines)?
-        {
-            return Ok(true);
-        }
-    }
-    let Some(below) = spot.old.line(shift.old_end) else {
-        return Ok(false);
-    };
-    if let Some(name) = below.name() {
-        return tries_at_place(bench, spot, Place::before_var(alloc, name)?, lines);
-    }
-    if let Some(target) = below.target() {
-        return tries_at_place(bench, spot, Place::before_rule(alloc, target)?, lines);
     }
     Ok(false)
+}
+
+// Tries to put in new lines below a line that assigns a variable, or behind a rule.
+fn tries_below_name(bench: &mut Bench, shift: Spot<'_>, aim: Aim<'_>) -> Result<bool, DeriveError> {
+    let Some(above) = shift.new.line_before(shift.step.new_start) else {
+        return Ok(false);
+    };
+    if let Some(name) = above.name() {
+        return tries_behind_var(bench, name, shift.come(), aim);
+    }
+    match above.target().or(above.recipe_target()) {
+        Some(target) => {
+            let place = Place::after_rule(bench.alloc(), target)?;
+            tries_at_place(bench, place, shift.come(), aim)
+        }
+        None => Ok(false),
+    }
+}
+
+// Tries to put in new lines behind the assignment of a variable, or the last one.
+fn tries_behind_var(
+    bench: &mut Bench,
+    name: &[u8],
+    lines: &[SeenLine<'_>],
+    aim: Aim<'_>,
+) -> Result<bool, DeriveError> {
+    let place = Place::after_var(bench.alloc(), name)?;
+    if tries_at_place(bench, place, lines, aim)? {
+        return Ok(true);
+    }
+    let place = Place::after_last_var(bench.alloc(), name)?;
+    tries_at_place(bench, place, lines, aim)
+}
+
+// Tries to put in new lines before a line that assigns a variable, or the line of a rule.
+fn tries_above_name(bench: &mut Bench, shift: Spot<'_>, aim: Aim<'_>) -> Result<bool, DeriveError> {
+    let Some(below) = shift.old.line(shift.step.old_end) else {
+        return Ok(false);
+    };
+    let place = match (below.name(), below.target()) {
+        (Some(name), _) => Place::before_var(bench.alloc(), name)?,
+        (None, Some(target)) => Place::before_rule(bench.alloc(), target)?,
+        (None, None) => return Ok(false),
+    };
+    tries_at_place(bench, place, shift.come(), aim)
 }
 
 // Tries to put in lines at a place: an assignment as such, and other lines by what they say.
 fn tries_at_place(
     bench: &mut Bench,
-    spot: Spot<'_>,
     place: Place,
     lines: &[SeenLine<'_>],
+    aim: Aim<'_>,
 ) -> Result<bool, DeriveError> {
-    let alloc = bench.alloc();
     if let [line] = lines
-        && let Some(new) = line.line.assignment()
+        && tries_assign(bench, &place, *line, aim)?
     {
-        let edit = place
-            .clone()?
-            .assign(alloc, new.name(), new.flavor(), new.value())?;
-        if bench.tries(&[edit], spot.aim())? {
-            return Ok(true);
-        }
+        return Ok(true);
     }
-    let block = block_of(alloc, lines)?;
-    let edit = Site::AtPlace(place).insert(alloc, block.as_slice())?;
-    bench.tries(&[edit], spot.aim())
+    tries_at_site(bench, Site::AtPlace(place), lines, aim)
+}
+
+// Tries to put in a line that is an assignment at a place.
+fn tries_assign(
+    bench: &mut Bench,
+    place: &Place,
+    line: SeenLine<'_>,
+    aim: Aim<'_>,
+) -> Result<bool, DeriveError> {
+    let Some(new) = line.assignment() else {
+        return Ok(false);
+    };
+    let place = place.clone()?;
+    let edit = place.assign(bench.alloc(), new.name(), new.flavor(), new.value());
+    bench.tries(edit, aim)
+}
+
+// Tries to put in lines at a site.
+fn tries_at_site(
+    bench: &mut Bench,
+    site: Site,
+    lines: &[SeenLine<'_>],
+    aim: Aim<'_>,
+) -> Result<bool, DeriveError> {
+    let block = block_of(bench.alloc(), lines)?;
+    bench.tries(site.insert(bench.alloc(), block.as_slice()), aim)
 }
 
 // Tries to put in the new lines at the end or the start of the file.
@@ -243,63 +276,133 @@ fn tries_at_end(bench: &mut Bench, spot: Spot<'_>) -> Result<bool, DeriveError> 
     } else {
         return Ok(false);
     };
-    let lines = spot.new.between(spot.step.new_start, spot.step.new_end);
-    tries_at_place(bench, spot, place, lines)
+    tries_at_place(bench, place, spot.come(), spot.aim())
 }
 
-// Tries to put in the new lines of a shift beside some lines by what these say.
+// Tries to put in the new lines beside some lines by what these say.
 fn tries_beside_lines(
     bench: &mut Bench,
     spot: Spot<'_>,
-    shift: Step,
-    count: usize,
-    beside: Beside,
+    shifts: &[Step],
 ) -> Result<bool, DeriveError> {
-    let alloc = bench.alloc();
-    let block = block_of(alloc, spot.new.between(shift.new_start, shift.new_end))?;
-    let above = spot
-        .new
-        .between(shift.new_start.saturating_sub(count), shift.new_start);
-    if is_fit(above, beside) {
-        let old = block_of(alloc, above)?;
-        let edit = Site::AfterLines { nth: None, old }.insert(alloc, block.as_slice())?;
-        if bench.tries(&[edit], spot.aim())? {
-            return Ok(true);
+    for beside in [Beside::Code, Beside::Short, Beside::Any] {
+        for count in AROUND {
+            if tries_beside_so_many(bench, spot, shifts, count, beside)? {
+                return Ok(true);
+            }
         }
-    }
-    let below = spot
-        .old
-        .between(shift.old_end, shift.old_end.saturating_add(count));
-    if is_fit(below, beside) {
-        let old = block_of(alloc, below)?;
-        let edit = Site::BeforeLines { nth: None, old }.insert(alloc, block.as_slice())?;
-        return bench.tries(&[edit], spot.aim());
     }
     Ok(false)
 }
 
-// Whether new lines may be put beside some lines.
-fn is_fit(lines: &[SeenLine<'_>], beside: Beside) -> bool {
-    let mut length = 0usize;
-    let mut has_text = false;
-    let mut has_code = false;
-    for line in lines {
-        length = length.saturating_add(line.bytes().len());
-        has_text = has_text || !line.is_blank();
-        has_code = has_code || !(line.is_blank() || line.is_comment());
+// Tries to put in the new lines of each shift beside so many lines by what these say.
+fn tries_beside_so_many(
+    bench: &mut Bench,
+    spot: Spot<'_>,
+    shifts: &[Step],
+    count: usize,
+    beside: Beside,
+) -> Result<bool, DeriveError> {
+    for step in shifts {
+        let shift = spot.at(*step);
+        if tries_after(bench, shift, shift.above(count), beside, spot.aim())?
+            || tries_before(bench, shift, shift.below(count), beside, spot.aim())?
+        {
+            return Ok(true);
+        }
     }
-    match beside {
-        Beside::Code => has_code && length <= SHORT,
-        Beside::Short => has_text && length <= SHORT,
-        Beside::Any => has_text,
+    Ok(false)
+}
+
+// Tries to put in the new lines of a shift after some lines.
+fn tries_after(
+    bench: &mut Bench,
+    shift: Spot<'_>,
+    above: &[SeenLine<'_>],
+    beside: Beside,
+    aim: Aim<'_>,
+) -> Result<bool, DeriveError> {
+    if !beside.is_fit(above) {
+        return Ok(false);
+    }
+    let old = block_of(bench.alloc(), above)?;
+    tries_at_site(
+        bench,
+        Site::AfterLines { nth: None, old },
+        shift.come(),
+        aim,
+    )
+}
+
+// Tries to put in the new lines of a shift before some lines.
+fn tries_before(
+    bench: &mut Bench,
+    shift: Spot<'_>,
+    below: &[SeenLine<'_>],
+    beside: Beside,
+    aim: Aim<'_>,
+) -> Result<bool, DeriveError> {
+    if !beside.is_fit(below) {
+        return Ok(false);
+    }
+    let old = block_of(bench.alloc(), below)?;
+    tries_at_site(
+        bench,
+        Site::BeforeLines { nth: None, old },
+        shift.come(),
+        aim,
+    )
+}
+
+impl Beside {
+    // Whether new lines may be put beside some lines.
+    fn is_fit(self, lines: &[SeenLine<'_>]) -> bool {
+        match self {
+            Beside::Code => has_code(lines) && length_of(lines) <= SHORT,
+            Beside::Short => has_text(lines) && length_of(lines) <= SHORT,
+            Beside::Any => has_text(lines),
+        }
     }
 }
 
-// The place after a line by what it says.
-fn after_lines(alloc: Global, line: Option<SeenLine<'_>>) -> Result<Option<Site>, AllocError> {
-    let Some(line) = line else {
+// How many bytes lines have.
+fn length_of(lines: &[SeenLine<'_>]) -> usize {
+    let mut length = 0usize;
+    for line in lines {
+        length = length.saturating_add(line.bytes().len());
+    }
+    length
+}
+
+// Whether lines are not all blank.
+fn has_text(lines: &[SeenLine<'_>]) -> bool {
+    for line in lines {
+        if !line.is_blank() {
+            return true;
+        }
+    }
+    false
+}
+
+// Whether lines are not all blank or comments.
+fn has_code(lines: &[SeenLine<'_>]) -> bool {
+    for line in lines {
+        if !line.is_blank() && !line.is_comment() {
+            return true;
+        }
+    }
+    false
+}
+
+/// The edit that puts in the new lines of a step after the line above them, by what this says; `None` at the
+/// start of the file.
+pub(crate) fn after_line_above(alloc: Global, spot: Spot<'_>) -> Result<Option<Edit>, AllocError> {
+    let above = spot.above(1);
+    if above.is_empty() {
         return Ok(None);
-    };
-    let old = block_of(alloc, &[line])?;
-    Ok(Some(Site::AfterLines { nth: None, old }))
+    }
+    let old = block_of(alloc, above)?;
+    let block = block_of(alloc, spot.come())?;
+    let site = Site::AfterLines { nth: None, old };
+    Ok(Some(site.insert(alloc, block.as_slice())?))
 }

@@ -14,20 +14,16 @@ pub(crate) fn tries_recipe(
     new: SeenLine<'_>,
     aim: Aim<'_>,
 ) -> Result<bool, DeriveError> {
-    let Some(target) = old.recipe_target() else {
+    let (Some(target), Some(_)) = (old.recipe_target(), new.recipe_target()) else {
         return Ok(false);
     };
-    if new.recipe_target().is_none() {
-        return Ok(false);
-    }
     let (Some(old), Some(new)) = (recipe_text(old), recipe_text(new)) else {
         return Ok(false);
     };
     if tries_texts(bench, Carrier::Recipe(target), old, new, aim)? {
         return Ok(true);
     }
-    let edits = [Edit::recipe_replace(bench.alloc(), target, old, new)?];
-    bench.tries(&edits, aim)
+    bench.tries(Edit::recipe_replace(bench.alloc(), target, old, new), aim)
 }
 
 /// The text of a recipe line after the recipe prefix, with its folds.

@@ -18,27 +18,16 @@ pub(crate) fn tries_prereqs(
     new: &RuleRef<'_>,
     aim: Aim<'_>,
 ) -> Result<bool, DeriveError> {
-    let alloc = bench.alloc();
     let Some(target) = old.targets().next() else {
         return Ok(false);
     };
-    let mut edits = Vec::new(alloc);
-    for kind in [Kind::Normal, Kind::OrderOnly] {
-        let gone = kind.words(alloc, old)?;
-        let come = kind.words(alloc, new)?;
-        push_edits(
-            alloc,
-            &mut edits,
-            target,
-            kind,
-            gone.as_slice(),
-            come.as_slice(),
-        )?;
-    }
+    let mut edits = Vec::new(bench.alloc());
+    push_edits(bench.alloc(), &mut edits, target, Kind::Normal, old, new)?;
+    push_edits(bench.alloc(), &mut edits, target, Kind::OrderOnly, old, new)?;
     if edits.is_empty() || edits.len() > MOST_EDITS {
         return Ok(false);
     }
-    bench.tries(edits.as_slice(), aim)
+    bench.tries_all(edits.as_slice(), aim)
 }
 
 // Which prerequisites of a rule.
@@ -66,27 +55,46 @@ impl Kind {
     }
 }
 
-// The edits that make some prerequisites of others: a new one in the place of each that goes, as far as there
-// are such.
-fn push_edits<'a>(
+// The edits that make the prerequisites of one rule of those of another, for those of a kind.
+fn push_edits(
     alloc: Global,
     edits: &mut Vec<Edit>,
     target: &[u8],
     kind: Kind,
-    old: &[&'a [u8]],
-    new: &[&'a [u8]],
+    old: &RuleRef<'_>,
+    new: &RuleRef<'_>,
 ) -> Result<(), AllocError> {
-    let come = difference(alloc, new, old)?;
-    let mut left = come.as_slice();
-    for word in &difference(alloc, old, new)? {
-        if let [first, below @ ..] = left {
-            edits.push(Edit::depend_replace(alloc, target, word, first)?)?;
-            left = below;
-        } else {
-            edits.push(Edit::undepend(alloc, target, word)?)?;
+    let old = kind.words(alloc, old)?;
+    let new = kind.words(alloc, new)?;
+    let gone = difference(alloc, old.as_slice(), new.as_slice())?;
+    let come = difference(alloc, new.as_slice(), old.as_slice())?;
+    let added = push_exchanges(alloc, edits, target, gone.as_slice(), come.as_slice())?;
+    for word in added {
+        edits.push(kind.added(alloc, target, word)?)?;
+    }
+    Ok(())
+}
+
+// The edits that put a new prerequisite in the place of each that goes, as far as there are such; answers those
+// that are left.
+fn push_exchanges<'w, 'a>(
+    alloc: Global,
+    edits: &mut Vec<Edit>,
+    target: &[u8],
+    gone: &[&[u8]],
+    come: &'w [&'a [u8]],
+) -> Result<&'w [&'a [u8]], AllocError> {
+    let mut left = come;
+    for word in gone {
+        match left {
+            [first, below @ ..] => {
+                edits.push(Edit::depend_replace(alloc, target, word, first)?)?;
+                left = below;
+            }
+            [] => edits.push(Edit::undepend(alloc, target, word)?)?,
         }
     }
-    push_added(alloc, edits, target, kind, left)
+    Ok(left)
 }
 
 // The words of a list that are not in another.
@@ -102,18 +110,4 @@ fn difference<'a>(
         }
     }
     Ok(left)
-}
-
-// The edits that add some prerequisites.
-fn push_added(
-    alloc: Global,
-    edits: &mut Vec<Edit>,
-    target: &[u8],
-    kind: Kind,
-    words: &[&[u8]],
-) -> Result<(), AllocError> {
-    for word in words {
-        edits.push(kind.added(alloc, target, word)?)?;
-    }
-    Ok(())
 }

@@ -3,9 +3,10 @@
 use crate::aim::Aim;
 use crate::bench::Bench;
 use crate::fault::DeriveError;
+use crate::step::{Step, stretches};
 use crate::text_change::{Carrier, tries_texts};
-use mk_diff::differences;
 use mk_edit_language::Edit;
+use mk_lines::Fault;
 use mk_tree::{AssignmentRef, WordTexts};
 use std::alloc::{AllocError, Global};
 
@@ -21,82 +22,51 @@ pub(crate) fn tries_value(
     new: &AssignmentRef<'_>,
     aim: Aim<'_>,
 ) -> Result<bool, DeriveError> {
-    let alloc = bench.alloc();
     if old.name() != new.name() {
         return Ok(false);
     }
     if old.flavor() != new.flavor() {
-        return bench.tries(&[Edit::operator(alloc, old.name(), new.flavor())?], aim);
+        return bench.tries(Edit::operator(bench.alloc(), old.name(), new.flavor()), aim);
     }
-    let old_words = listed(alloc, WordTexts::new(old.value()))?;
-    let new_words = listed(alloc, WordTexts::new(new.value()))?;
-    let mut pair = ValuePair {
-        old,
-        new,
-        old_words: old_words.as_slice(),
-        new_words: new_words.as_slice(),
-        is_each: false,
-    };
-    if tries_pair(bench, pair, aim)? {
+    let (name, old, new) = (old.name(), old.value(), new.value());
+    if tries_parts(bench, name, false, old, new, aim)?
+        || (bench.is_unclear() && tries_parts(bench, name, true, old, new, aim)?)
+    {
         return Ok(true);
     }
-    if bench.is_unclear() {
-        pair.is_each = true;
-        if tries_pair(bench, pair, aim)? {
-            return Ok(true);
-        }
-    }
-    let edit = Edit::set_if(alloc, old.name(), old.value(), new.value())?;
-    bench.tries(&[edit], aim)
+    bench.tries(Edit::set_if(bench.alloc(), name, old, new), aim)
 }
 
-// A value that becomes another one.
-#[derive(Clone, Copy)]
-struct ValuePair<'p, 'a, 'b> {
-    old: &'p AssignmentRef<'a>,
-    new: &'p AssignmentRef<'b>,
-    old_words: &'p [&'a [u8]],
-    new_words: &'p [&'b [u8]],
-    // Whether it is one of several of the variable, of which the edits find it by what it has.
-    is_each: bool,
-}
-
-// Tries to change the words of a value, or texts in it.
-fn tries_pair(
+// Tries to change the words of a value, or texts in it. `is_each` says whether it is one of several of the
+// variable, of which the edits find it by what it has.
+fn tries_parts<'x>(
     bench: &mut Bench,
-    pair: ValuePair<'_, '_, '_>,
+    name: &'x [u8],
+    is_each: bool,
+    old: &'x [u8],
+    new: &'x [u8],
     aim: Aim<'_>,
 ) -> Result<bool, DeriveError> {
-    let name = pair.old.name();
-    let carrier = if pair.is_each {
+    let carrier = if is_each {
         Carrier::EachValue(name)
     } else {
         Carrier::Value(name)
     };
-    let is_plain = word_edits(bench.alloc(), pair, Beside::End)?.is_plain;
+    let old_words = listed(bench.alloc(), WordTexts::new(old))?;
+    let new_words = listed(bench.alloc(), WordTexts::new(new))?;
+    let words = Words {
+        alloc: bench.alloc(),
+        name,
+        is_each,
+        old: old_words.as_slice(),
+        new: new_words.as_slice(),
+    };
+    let is_plain = words.edits(Beside::End)?.is_plain;
     Ok(
-        (is_plain && tries_words(bench, pair, aim)?)
-            || tries_texts(bench, carrier, pair.old.value(), pair.new.value(), aim)?
-            || (!is_plain && tries_words(bench, pair, aim)?),
+        (is_plain && words.tries(bench, aim)?)
+            || tries_texts(bench, carrier, old, new, aim)?
+            || (!is_plain && words.tries(bench, aim)?),
     )
-}
-
-// Tries to change the words of a value.
-fn tries_words(
-    bench: &mut Bench,
-    pair: ValuePair<'_, '_, '_>,
-    aim: Aim<'_>,
-) -> Result<bool, DeriveError> {
-    for beside in [Beside::End, Beside::After, Beside::Before] {
-        let Edits { edits, .. } = word_edits(bench.alloc(), pair, beside)?;
-        if edits.is_empty() || edits.len() > MOST_EDITS {
-            return Ok(false);
-        }
-        if bench.tries(edits.as_slice(), aim)? {
-            return Ok(true);
-        }
-    }
-    Ok(false)
 }
 
 /// Words as a list.
@@ -119,38 +89,73 @@ enum Beside {
     Before,
 }
 
-// The edits of words that make one value of another: each for words that differ. None if several words become
-// others and none stays.
-fn word_edits<'a>(
+// The words of a value, and those that it becomes.
+#[derive(Clone, Copy)]
+struct Words<'w, 'a> {
     alloc: Global,
-    pair: ValuePair<'_, 'a, '_>,
-    beside: Beside,
-) -> Result<Edits<'a>, DeriveError> {
-    let (old, new) = (pair.old_words, pair.new_words);
-    let mut edits = Edits {
-        alloc,
-        name: pair.old.name(),
-        is_each: pair.is_each,
-        edits: Vec::new(alloc),
-        is_plain: true,
-    };
-    for stretch in &differences(alloc, old, new)? {
-        let gone = between(old, stretch.old_start, stretch.old_end);
-        let come = between(new, stretch.new_start, stretch.new_end);
-        let before = between(new, 0, stretch.new_start).last().copied();
-        let below = old.get(stretch.old_end).copied();
-        if gone.len() > 1 && gone.len() == old.len() && !come.is_empty() {
-            return Ok(edits);
+    name: &'a [u8],
+    is_each: bool,
+    old: &'w [&'a [u8]],
+    new: &'w [&'a [u8]],
+}
+
+impl<'w, 'a> Words<'w, 'a> {
+    // Tries to change the words.
+    fn tries(self, bench: &mut Bench, aim: Aim<'_>) -> Result<bool, DeriveError> {
+        for beside in [Beside::End, Beside::After, Beside::Before] {
+            let edits = self.edits(beside)?.edits;
+            if edits.is_empty() || edits.len() > MOST_EDITS {
+                return Ok(false);
+            }
+            if bench.tries_all(edits.as_slice(), aim)? {
+                return Ok(true);
+            }
         }
-        match (beside, before, below, gone) {
-            (Beside::End, _, None, []) => edits.add(come)?,
-            (Beside::End | Beside::After, Some(word), _, []) => edits.add_after(word, come)?,
-            (_, _, Some(word), []) => edits.add_before(word, come)?,
-            (_, _, None, []) => edits.add(come)?,
-            _ => edits.exchange(gone, come)?,
+        Ok(false)
+    }
+
+    // The edits of words that make one value of the other: each for words that differ. None if several words
+    // become others and none stays.
+    fn edits(self, beside: Beside) -> Result<Edits<'a>, Fault> {
+        let mut edits = Edits {
+            alloc: self.alloc,
+            name: self.name,
+            is_each: self.is_each,
+            edits: Vec::new(self.alloc),
+            is_plain: true,
+        };
+        for stretch in &stretches(self.alloc, self.old, self.new)? {
+            let gone = between(self.old, stretch.old_start, stretch.old_end);
+            let come = between(self.new, stretch.new_start, stretch.new_end);
+            if gone.len() > 1 && gone.len() == self.old.len() && !come.is_empty() {
+                return Ok(edits);
+            }
+            if gone.is_empty() {
+                self.add(&mut edits, *stretch, beside, come)?;
+            } else {
+                edits.exchange(gone, come)?;
+            }
+        }
+        Ok(edits)
+    }
+
+    // Words that come at a stretch.
+    fn add(
+        self,
+        edits: &mut Edits<'a>,
+        stretch: Step,
+        beside: Beside,
+        come: &[&[u8]],
+    ) -> Result<(), AllocError> {
+        let above = between(self.new, 0, stretch.new_start).last().copied();
+        let below = self.old.get(stretch.old_end).copied();
+        match (beside, above, below) {
+            (Beside::End, _, None) => edits.add(come),
+            (Beside::End | Beside::After, Some(word), _) => edits.add_after(word, come),
+            (_, _, Some(word)) => edits.add_before(word, come),
+            (_, _, None) => edits.add(come),
         }
     }
-    Ok(edits)
 }
 
 // Some words from an index up to another, as far as there are such words.
@@ -160,7 +165,7 @@ fn between<'w, 'a>(words: &'w [&'a [u8]], start: usize, end: usize) -> &'w [&'a 
     &words[start..end]
 }
 
-// Edits of the words of the value of this name, or of each.
+// Edits of the words of a value, or of each of the variable.
 #[derive(Drop)]
 struct Edits<'a> {
     alloc: Global,
@@ -175,8 +180,7 @@ impl<'a> Edits<'a> {
     // Words at the end.
     fn add(&mut self, come: &[&[u8]]) -> Result<(), AllocError> {
         for word in come {
-            let edit = Edit::add_word(self.alloc, self.name, word)?;
-            self.edits.push(edit)?;
+            self.push(Edit::add_word(self.alloc, self.name, word))?;
         }
         Ok(())
     }
@@ -185,8 +189,7 @@ impl<'a> Edits<'a> {
     fn add_after(&mut self, word: &[u8], come: &[&[u8]]) -> Result<(), AllocError> {
         let mut last = word;
         for word in come {
-            let edit = Edit::add_after(self.alloc, self.name, last, word)?;
-            self.edits.push(edit)?;
+            self.push(Edit::add_after(self.alloc, self.name, last, word))?;
             last = *word;
         }
         Ok(())
@@ -195,8 +198,7 @@ impl<'a> Edits<'a> {
     // Words before another one.
     fn add_before(&mut self, word: &[u8], come: &[&[u8]]) -> Result<(), AllocError> {
         for new in come {
-            let edit = Edit::add_before(self.alloc, self.name, word, new)?;
-            self.edits.push(edit)?;
+            self.push(Edit::add_before(self.alloc, self.name, word, new))?;
         }
         Ok(())
     }
@@ -206,33 +208,40 @@ impl<'a> Edits<'a> {
         if gone.len() > 1 && !come.is_empty() {
             self.is_plain = false;
         }
+        let [first, below @ ..] = gone else {
+            return Ok(());
+        };
+        let mut last = *first;
         let mut left = come;
-        for (at, word) in gone.iter().enumerate() {
-            let is_last = at.saturating_add(1) == gone.len();
+        for word in below {
             match left {
-                [] => self.drop_word(word)?,
-                [new, below @ ..] if !is_last => {
-                    self.replace(word, new)?;
-                    left = below;
-                }
-                _ => {
-                    let text = text_of_words(self.alloc, left)?;
-                    self.replace(word, text.as_slice())?;
+                [] => self.drop_word(last)?,
+                [new, others @ ..] => {
+                    self.replace(last, new)?;
+                    left = others;
                 }
             }
+            last = *word;
         }
-        Ok(())
+        self.exchange_last(last, left)
+    }
+
+    // Words in the place of the last one.
+    fn exchange_last(&mut self, word: &[u8], come: &[&[u8]]) -> Result<(), AllocError> {
+        if come.is_empty() {
+            return self.drop_word(word);
+        }
+        let text = text_of_words(self.alloc, come)?;
+        self.replace(word, text.as_slice())
     }
 
     // No word in the place of another.
     fn drop_word(&mut self, word: &[u8]) -> Result<(), AllocError> {
-        let edit = if self.is_each {
-            Edit::all_drop_word(self.alloc, self.name, word)?
+        if self.is_each {
+            self.push(Edit::all_drop_word(self.alloc, self.name, word))
         } else {
-            Edit::drop_word(self.alloc, self.name, word)?
-        };
-        self.edits.push(edit)?;
-        Ok(())
+            self.push(Edit::drop_word(self.alloc, self.name, word))
+        }
     }
 
     // A text in the place of a word.
@@ -240,12 +249,16 @@ impl<'a> Edits<'a> {
         if word.len() > SHORT_WORD || word.contains(&b' ') {
             self.is_plain = false;
         }
-        let edit = if self.is_each {
-            Edit::all_replace_word(self.alloc, self.name, word, text)?
+        if self.is_each {
+            self.push(Edit::all_replace_word(self.alloc, self.name, word, text))
         } else {
-            Edit::replace_word(self.alloc, self.name, word, text)?
-        };
-        self.edits.push(edit)?;
+            self.push(Edit::replace_word(self.alloc, self.name, word, text))
+        }
+    }
+
+    // One more edit, for which there may be no memory.
+    fn push(&mut self, edit: Result<Edit, AllocError>) -> Result<(), AllocError> {
+        self.edits.push(edit?)?;
         Ok(())
     }
 }

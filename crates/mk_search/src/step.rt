@@ -2,7 +2,7 @@
 
 use crate::kinship::{have_one_name, kinship};
 use crate::text::{SeenLine, Text};
-use mk_diff::{Stretch, differences};
+use mk_diff::differences;
 use mk_lines::Fault;
 use std::alloc::{AllocError, Global};
 
@@ -36,10 +36,37 @@ impl Step {
         self.removed().saturating_mul(self.added())
     }
 
+    /// The step with all lines down to the end of a step below it.
+    pub fn down_to(self, below: Step) -> Step {
+        Step {
+            old_end: below.old_end,
+            new_end: below.new_end,
+            ..self
+        }
+    }
+
     // Whether it has no lines.
     fn is_empty(self) -> bool {
         self.removed() == 0 && self.added() == 0
     }
+}
+
+/// The stretches in which two lists differ, in order, as steps.
+///
+/// # Errors
+///
+/// [`Fault::NoMemory`] if a list could not grow.
+pub(crate) fn stretches(alloc: Global, old: &[&[u8]], new: &[&[u8]]) -> Result<Vec<Step>, Fault> {
+    let mut steps = Vec::new(alloc);
+    for stretch in &differences(alloc, old, new)? {
+        steps.push(Step {
+            old_start: stretch.old_start,
+            old_end: stretch.old_end,
+            new_start: stretch.new_start,
+            new_end: stretch.new_end,
+        })?;
+    }
+    Ok(steps)
 }
 
 /// The steps from one makefile to another, in order. A line that becomes another one is a step by itself.
@@ -52,50 +79,39 @@ pub(crate) fn steps_between(
     old: &Text<'_>,
     new: &Text<'_>,
 ) -> Result<Vec<Step>, Fault> {
-    let old_lines = old.line_bytes(alloc)?;
-    let new_lines = new.line_bytes(alloc)?;
-    let stretches = differences(alloc, old_lines.as_slice(), new_lines.as_slice())?;
     let mut steps = Vec::new(alloc);
-    let mut open = None;
-    for stretch in &stretches {
-        open = match open {
-            Some(above) if is_near(above, stretch) => Some(with_stretch(above, stretch)),
-            Some(above) => {
-                align(alloc, old, new, above, &mut steps)?;
-                Some(whole(stretch))
-            }
-            None => Some(whole(stretch)),
-        };
-    }
-    if let Some(last) = open {
-        align(alloc, old, new, last, &mut steps)?;
+    for region in &regions(alloc, old, new)? {
+        align(alloc, old, new, *region, &mut steps)?;
     }
     Ok(steps)
 }
 
-// A stretch as one step.
-fn whole(stretch: &Stretch) -> Step {
-    Step {
-        old_start: stretch.old_start,
-        old_end: stretch.old_end,
-        new_start: stretch.new_start,
-        new_end: stretch.new_end,
-    }
+// The stretches in which two makefiles differ, with those together that have few lines between them.
+fn regions(alloc: Global, old: &Text<'_>, new: &Text<'_>) -> Result<Vec<Step>, Fault> {
+    let old_lines = old.line_bytes(alloc)?;
+    let new_lines = new.line_bytes(alloc)?;
+    let stretches = stretches(alloc, old_lines.as_slice(), new_lines.as_slice())?;
+    Ok(joined(alloc, stretches.as_slice())?)
 }
 
-// Whether few lines stand between a step and the stretch below it, and both together are not too many.
-fn is_near(above: Step, below: &Stretch) -> bool {
-    below.old_start.saturating_sub(above.old_end) < NEAR
-        && with_stretch(above, below).pairs() <= MOST_PAIRS
-}
-
-// A step down to the end of a stretch below it.
-fn with_stretch(above: Step, below: &Stretch) -> Step {
-    Step {
-        old_end: below.old_end,
-        new_end: below.new_end,
-        ..above
+// Steps with those together that have few lines between them.
+fn joined(alloc: Global, steps: &[Step]) -> Result<Vec<Step>, AllocError> {
+    let mut regions = Vec::new(alloc);
+    let [first, others @ ..] = steps else {
+        return Ok(regions);
+    };
+    let mut open = *first;
+    for step in others {
+        let together = open.down_to(*step);
+        if step.old_start.saturating_sub(open.old_end) < NEAR && together.pairs() <= MOST_PAIRS {
+            open = together;
+        } else {
+            regions.push(open)?;
+            open = *step;
+        }
     }
+    regions.push(open)?;
+    Ok(regions)
 }
 
 // Puts the steps of a region behind those above it.
@@ -136,7 +152,7 @@ impl<'s> Alignment<'s> {
     // Goes through the lines of the region, by the weights of what each of them may become.
     fn go(
         &mut self,
-        table: &[Vec<u32>],
+        table: &[Vec<usize>],
         old_lines: &[SeenLine<'_>],
         new_lines: &[SeenLine<'_>],
     ) -> Result<(), AllocError> {
@@ -223,7 +239,7 @@ enum Choice {
 }
 
 // The choice for the first of the lines that are left.
-fn choice_of(rows: &[Vec<u32>], old: &[SeenLine<'_>], new: &[SeenLine<'_>]) -> Choice {
+fn choice_of(rows: &[Vec<usize>], old: &[SeenLine<'_>], new: &[SeenLine<'_>]) -> Choice {
     match (old, new) {
         ([line, ..], [other, ..]) => chosen(rows, new.len(), kinship(*line, *other)),
         ([_, ..], []) => Choice::Old,
@@ -233,7 +249,7 @@ fn choice_of(rows: &[Vec<u32>], old: &[SeenLine<'_>], new: &[SeenLine<'_>]) -> C
 
 // The choice that weighs most. The last row is that of the old lines here, and the one above it that of those
 // below; `at` is the place of the new lines here in a row.
-fn chosen(rows: &[Vec<u32>], at: usize, kinship: u32) -> Choice {
+fn chosen(rows: &[Vec<usize>], at: usize, kinship: usize) -> Choice {
     let [.., below, here] = rows else {
         return Choice::Old;
     };
@@ -249,7 +265,7 @@ fn chosen(rows: &[Vec<u32>], at: usize, kinship: u32) -> Choice {
 }
 
 // The rows without the last one.
-fn above(rows: &[Vec<u32>]) -> &[Vec<u32>] {
+fn above(rows: &[Vec<usize>]) -> &[Vec<usize>] {
     match rows {
         [others @ .., _] => others,
         [] => rows,
@@ -257,11 +273,8 @@ fn above(rows: &[Vec<u32>]) -> &[Vec<u32>] {
 }
 
 // The weight at a place of a row.
-fn weight_at(row: &[u32], at: usize) -> u32 {
-    match row.get(at) {
-        Some(weight) => *weight,
-        None => 0,
-    }
+fn weight_at(row: &[usize], at: usize) -> usize {
+    row.get(at).copied().unwrap_or(0)
 }
 
 // For the old lines from each on, from none of them to all, and the same of the new lines: what they weigh
@@ -270,11 +283,11 @@ fn weights(
     alloc: Global,
     old: &[SeenLine<'_>],
     new: &[SeenLine<'_>],
-) -> Result<Vec<Vec<u32>>, AllocError> {
-    let mut table = Vec::with_capacity(alloc, old.len().saturating_add(1))?;
+) -> Result<Vec<Vec<usize>>, AllocError> {
+    let mut table = Vec::new(alloc);
     let mut last = Vec::new(alloc);
     for _ in 0..new.len().saturating_add(1) {
-        last.push(0u32)?;
+        last.push(0usize)?;
     }
     for line in old.iter().rev() {
         let row = next_row(alloc, *line, new, last.as_slice())?;
@@ -290,10 +303,10 @@ fn next_row(
     alloc: Global,
     line: SeenLine<'_>,
     new: &[SeenLine<'_>],
-    below: &[u32],
-) -> Result<Vec<u32>, AllocError> {
-    let mut row = Vec::with_capacity(alloc, below.len())?;
-    let mut last = 0u32;
+    below: &[usize],
+) -> Result<Vec<usize>, AllocError> {
+    let mut row = Vec::new(alloc);
+    let mut last = 0usize;
     row.push(last)?;
     for (at, other) in new.iter().rev().enumerate() {
         let both = weight_at(below, at).saturating_add(kinship(line, *other));

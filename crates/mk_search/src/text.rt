@@ -1,16 +1,19 @@
 //! One of the two makefiles, as its lines.
 
 use mk_class::Class;
-use mk_tree::{Doc, Line};
+use mk_lines::Fault;
+use mk_tree::{AssignmentRef, Doc, Line, Lines, RuleRef};
 use std::alloc::{AllocError, Global};
 
 /// A line of a makefile, with the rule in whose recipe it stands or may stand.
 #[derive(Clone, Copy)]
 pub(crate) struct SeenLine<'a> {
     /// The line.
-    pub line: &'a Line,
+    line: &'a Line,
     /// The line of the rule above it, with only lines between that do not end its recipe.
-    pub rule: Option<&'a Line>,
+    rule: Option<&'a Line>,
+    // How many bytes stand above it.
+    start: usize,
 }
 
 impl<'a> SeenLine<'a> {
@@ -19,61 +22,84 @@ impl<'a> SeenLine<'a> {
         self.line.bytes()
     }
 
+    /// What the line is.
+    pub fn class(self) -> Class {
+        self.line.class()
+    }
+
     /// Whether it has only blanks.
     pub fn is_blank(self) -> bool {
-        matches!(self.line.class(), Class::Blank)
+        matches!(self.class(), Class::Blank)
     }
 
     /// Whether it has only a comment.
     pub fn is_comment(self) -> bool {
-        matches!(self.line.class(), Class::Comment)
+        matches!(self.class(), Class::Comment)
+    }
+
+    /// The assignment that it is.
+    pub fn assignment(self) -> Option<AssignmentRef<'a>> {
+        self.line.assignment()
+    }
+
+    /// The rule whose line it is.
+    pub fn rule(self) -> Option<RuleRef<'a>> {
+        self.line.rule()
     }
 
     /// The name of the variable that it assigns.
     pub fn name(self) -> Option<&'a [u8]> {
-        Some(self.line.assignment()?.name())
+        Some(self.assignment()?.name())
     }
 
     /// The first target of the rule whose line it is.
     pub fn target(self) -> Option<&'a [u8]> {
-        self.line.rule()?.targets().next()
+        first_target(self.line)
     }
 
     /// The first target of the rule in whose recipe it is a line.
     pub fn recipe_target(self) -> Option<&'a [u8]> {
-        match self.line.class() {
-            Class::Recipe => self.rule?.rule()?.targets().next(),
+        match self.class() {
+            Class::Recipe => first_target(self.rule?),
             _ => None,
         }
     }
 }
 
-/// A makefile as its lines, and where each of them begins.
+// The first target of the rule whose line this is.
+fn first_target(line: &Line) -> Option<&[u8]> {
+    line.rule()?.targets().next()
+}
+
+/// A makefile as its lines.
 #[derive(Drop)]
 pub(crate) struct Text<'a> {
     bytes: &'a [u8],
     lines: Vec<SeenLine<'a>>,
-    starts: Vec<usize>,
+}
+
+/// The document of a text.
+pub(crate) fn read(alloc: Global, text: &[u8]) -> Result<Doc, Fault> {
+    Doc::open(alloc, text)
+}
+
+/// The lines of a document.
+pub(crate) fn lines_of(doc: &Doc) -> Lines<'_> {
+    doc.iter()
 }
 
 impl<'a> Text<'a> {
     /// The lines of a document, whose text is this.
     pub fn new(alloc: Global, doc: &'a Doc, bytes: &'a [u8]) -> Result<Text<'a>, AllocError> {
-        let mut lines = Vec::with_capacity(alloc, doc.len())?;
-        let mut starts = Vec::with_capacity(alloc, doc.len())?;
+        let mut lines = Vec::new(alloc);
         let mut rule = None;
         let mut start = 0usize;
-        'lines: for line in doc.iter() {
+        for line in lines_of(doc) {
             rule = rule_at(line, rule);
-            lines.push(SeenLine { line, rule })?;
-            starts.push(start)?;
+            lines.push(SeenLine { line, rule, start })?;
             start = start.saturating_add(line.bytes().len());
         }
-        Ok(Text {
-            bytes,
-            lines,
-            starts,
-        })
+        Ok(Text { bytes, lines })
     }
 
     /// How many lines there are.
@@ -101,23 +127,17 @@ impl<'a> Text<'a> {
 
     /// The text before the line at an index.
     pub fn before(&self, at: usize) -> &'a [u8] {
-        match self.bytes.get(..self.start(at)) {
-            Some(bytes) => bytes,
-            None => self.bytes,
-        }
+        part(self.bytes, 0, self.start(at))
     }
 
     /// The text from the line at an index on.
     pub fn after(&self, at: usize) -> &'a [u8] {
-        match self.bytes.get(self.start(at)..) {
-            Some(bytes) => bytes,
-            None => &[],
-        }
+        after(self.bytes, self.start(at))
     }
 
     /// The bytes of each line.
     pub fn line_bytes(&self, alloc: Global) -> Result<Vec<&'a [u8]>, AllocError> {
-        let mut bytes = Vec::with_capacity(alloc, self.lines.len())?;
+        let mut bytes = Vec::new(alloc);
         for seen in &self.lines {
             bytes.push(seen.bytes())?;
         }
@@ -126,8 +146,8 @@ impl<'a> Text<'a> {
 
     // Where the line at an index begins.
     fn start(&self, at: usize) -> usize {
-        match self.starts.get(at) {
-            Some(start) => *start,
+        match self.line(at) {
+            Some(seen) => seen.start,
             None => self.bytes.len(),
         }
     }
@@ -145,31 +165,42 @@ fn rule_at<'a>(line: &'a Line, rule: Option<&'a Line>) -> Option<&'a Line> {
 
 /// The block that some lines are: their physical lines without line ends, with LF between them.
 pub(crate) fn block_of(alloc: Global, lines: &[SeenLine<'_>]) -> Result<Vec<u8>, AllocError> {
+    block_around(alloc, &[], lines, &[])
+}
+
+/// The block that three runs of lines in a row are.
+pub(crate) fn block_around(
+    alloc: Global,
+    above: &[SeenLine<'_>],
+    lines: &[SeenLine<'_>],
+    below: &[SeenLine<'_>],
+) -> Result<Vec<u8>, AllocError> {
     let mut block = Vec::new(alloc);
-    for seen in lines {
-        for byte in seen.bytes() {
-            if *byte != b'\r' {
-                block.push(*byte)?;
-            }
-        }
-    }
+    push_lines(&mut block, above)?;
+    push_lines(&mut block, lines)?;
+    push_lines(&mut block, below)?;
     if block.as_slice().ends_with(b"\n") {
         let _ = block.pop();
     }
     Ok(block)
 }
 
-/// The block that three runs of lines in a row are.
-pub(crate) fn block_around<'a>(
-    alloc: Global,
-    above: &[SeenLine<'a>],
-    lines: &[SeenLine<'a>],
-    below: &[SeenLine<'a>],
-) -> Result<Vec<u8>, AllocError> {
-    let mut all = Vec::from_slice(alloc, above)?;
-    all.extend_from_slice(lines)?;
-    all.extend_from_slice(below)?;
-    block_of(alloc, all.as_slice())
+// Puts lines behind a block.
+fn push_lines(block: &mut Vec<u8>, lines: &[SeenLine<'_>]) -> Result<(), AllocError> {
+    for seen in lines {
+        push_line(block, seen.bytes())?;
+    }
+    Ok(())
+}
+
+// Puts a line behind a block, without the carriage returns in it.
+fn push_line(block: &mut Vec<u8>, line: &[u8]) -> Result<(), AllocError> {
+    for byte in line {
+        if *byte != b'\r' {
+            block.push(*byte)?;
+        }
+    }
+    Ok(())
 }
 
 /// The text of a line without its line end.
@@ -179,4 +210,14 @@ pub(crate) fn without_end(bytes: &[u8]) -> &[u8] {
         [text @ .., b'\n'] => text,
         text => text,
     }
+}
+
+/// A text from an index up to another; nothing if it has no such indices.
+pub(crate) fn part(text: &[u8], start: usize, end: usize) -> &[u8] {
+    text.get(start..end).unwrap_or(&[])
+}
+
+/// A text from an index on; nothing if it is not so long.
+pub(crate) fn after(text: &[u8], at: usize) -> &[u8] {
+    part(text, at, text.len())
 }

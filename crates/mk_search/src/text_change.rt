@@ -3,8 +3,8 @@
 use crate::aim::Aim;
 use crate::bench::Bench;
 use crate::fault::DeriveError;
-use crate::kinship::after;
-use mk_diff::differences;
+use crate::step::stretches;
+use crate::text::{after, part};
 use mk_edit_language::Edit;
 use mk_lines::Fault;
 use std::alloc::{AllocError, Global};
@@ -44,23 +44,29 @@ impl<'a> Carrier<'a> {
     /// The edit that puts a text in the place of another here; `None` if the text says too little or is too
     /// long, or would be found there again.
     pub fn edit(self, alloc: Global, from: &[u8], to: &[u8]) -> Result<Option<Edit>, AllocError> {
-        if from.is_empty() || from.len().max(to.len()) > LONGEST {
+        if from.is_empty() || from.len().max(to.len()) > LONGEST || !self.is_clear(from, to) {
             return Ok(None);
         }
-        let is_clear = match self {
+        Ok(Some(self.substitute(alloc, from, to)?))
+    }
+
+    // Whether a text says enough to go into the place of another here.
+    fn is_clear(self, from: &[u8], to: &[u8]) -> bool {
+        match self {
             Carrier::Values | Carrier::Recipes => says(from, FEWEST_OF_ALL),
             _ => !contains(to, from),
-        };
-        if !is_clear {
-            return Ok(None);
         }
-        Ok(Some(match self {
-            Carrier::Value(name) => Edit::substitute(alloc, name, from, to)?,
-            Carrier::EachValue(name) => Edit::all_substitute(alloc, name, from, to)?,
-            Carrier::Values => Edit::values_substitute(alloc, from, to)?,
-            Carrier::Recipe(target) => Edit::recipe_substitute(alloc, target, from, to)?,
-            Carrier::Recipes => Edit::recipes_substitute(alloc, from, to)?,
-        }))
+    }
+
+    // The edit that puts a text in the place of another here.
+    fn substitute(self, alloc: Global, from: &[u8], to: &[u8]) -> Result<Edit, AllocError> {
+        match self {
+            Carrier::Value(name) => Edit::substitute(alloc, name, from, to),
+            Carrier::EachValue(name) => Edit::all_substitute(alloc, name, from, to),
+            Carrier::Values => Edit::values_substitute(alloc, from, to),
+            Carrier::Recipe(target) => Edit::recipe_substitute(alloc, target, from, to),
+            Carrier::Recipes => Edit::recipes_substitute(alloc, from, to),
+        }
     }
 }
 
@@ -128,7 +134,7 @@ fn tries_changes(
 ) -> Result<bool, DeriveError> {
     for around in AROUND {
         let edits = edits_of(bench.alloc(), carrier, changes, around)?;
-        if !edits.is_empty() && bench.tries(edits.as_slice(), aim)? {
+        if !edits.is_empty() && bench.tries_all(edits.as_slice(), aim)? {
             return Ok(true);
         }
     }
@@ -160,44 +166,39 @@ fn one_change<'a>(
     old: &'a [u8],
     new: &'a [u8],
 ) -> Result<TextChange<'a>, AllocError> {
-    let front = same_front(
-        tokens(alloc, old)?.as_slice(),
-        tokens(alloc, new)?.as_slice(),
-    );
-    let end = same_end(
-        tokens(alloc, after(old, front))?.as_slice(),
-        tokens(alloc, after(new, front))?.as_slice(),
-    );
-    Ok(change_at(
-        old,
-        new,
-        (front, old.len().saturating_sub(end)),
-        (front, new.len().saturating_sub(end)),
-    ))
+    let front = same_front(alloc, old, new)?;
+    let end = same_end(alloc, after(old, front), after(new, front))?;
+    let from = (front, old.len().saturating_sub(end));
+    let to = (front, new.len().saturating_sub(end));
+    Ok(change_at(old, new, from, to))
 }
 
 // How many bytes the tokens have that two texts have in common at their front.
-fn same_front(old: &[&[u8]], new: &[&[u8]]) -> usize {
+fn same_front(alloc: Global, old: &[u8], new: &[u8]) -> Result<usize, AllocError> {
+    let old = tokens(alloc, old)?;
+    let new = tokens(alloc, new)?;
     let mut same = 0usize;
     for (token, other) in old.iter().zip(new.iter()) {
         if *token != *other {
-            return same;
+            break;
         }
         same = same.saturating_add(token.len());
     }
-    same
+    Ok(same)
 }
 
 // How many bytes the tokens have that two texts have in common at their end.
-fn same_end(old: &[&[u8]], new: &[&[u8]]) -> usize {
+fn same_end(alloc: Global, old: &[u8], new: &[u8]) -> Result<usize, AllocError> {
+    let old = tokens(alloc, old)?;
+    let new = tokens(alloc, new)?;
     let mut same = 0usize;
     for (token, other) in old.iter().rev().zip(new.iter().rev()) {
         if *token != *other {
-            return same;
+            break;
         }
         same = same.saturating_add(token.len());
     }
-    same
+    Ok(same)
 }
 
 /// The changes from one text to another, those of tokens: one, if nothing goes or comes between the first and
@@ -211,19 +212,23 @@ pub(crate) fn changes_of<'a>(
     let old_tokens = tokens(alloc, whole.old)?;
     let new_tokens = tokens(alloc, whole.new)?;
     let mut changes = Vec::new(alloc);
-    if old_tokens.len().min(new_tokens.len()) < 2
-        || old_tokens.len().max(new_tokens.len()) > MOST_TOKENS
-    {
+    if is_one(old_tokens.len(), new_tokens.len()) {
         changes.push(whole)?;
         return Ok(changes);
     }
-    for stretch in &differences(alloc, old_tokens.as_slice(), new_tokens.as_slice())? {
+    for stretch in &stretches(alloc, old_tokens.as_slice(), new_tokens.as_slice())? {
         let front = whole.before.len();
         let from = range_of(&old_tokens, front, stretch.old_start, stretch.old_end);
         let to = range_of(&new_tokens, front, stretch.new_start, stretch.new_end);
         changes.push(change_at(old, new, from, to))?;
     }
     Ok(changes)
+}
+
+// Whether a change of so many tokens to so many is one: one of the texts has one token at most, or the other
+// has many.
+fn is_one(old: usize, new: usize) -> bool {
+    old.min(new) < 2 || old.max(new) > MOST_TOKENS
 }
 
 // From which byte to which some tokens stand, of which the first begins at an index.
@@ -338,6 +343,14 @@ struct WordCount {
 }
 
 impl WordCount {
+    // This many words more.
+    fn of(words: usize) -> WordCount {
+        WordCount {
+            left: words,
+            is_in_blank: false,
+        }
+    }
+
     // Whether a byte is part of the words that are left.
     fn takes(&mut self, byte: u8) -> bool {
         if byte == b'\n' {
@@ -357,10 +370,7 @@ impl WordCount {
 
 // What a text begins with up to the blank behind this many words more.
 fn words_front(text: &[u8], words: usize) -> &[u8] {
-    let mut count = WordCount {
-        left: words,
-        is_in_blank: false,
-    };
+    let mut count = WordCount::of(words);
     let mut length = 0usize;
     for byte in text {
         if !count.takes(*byte) {
@@ -373,26 +383,15 @@ fn words_front(text: &[u8], words: usize) -> &[u8] {
 
 // What a text ends with behind the blank before this many words more.
 fn words_end(text: &[u8], words: usize) -> &[u8] {
-    let mut count = WordCount {
-        left: words,
-        is_in_blank: false,
-    };
-    let mut length = 0usize;
+    let mut count = WordCount::of(words);
+    let mut start = text.len();
     for byte in text.iter().rev() {
         if !count.takes(*byte) {
             break;
         }
-        length = length.saturating_add(1);
+        start = start.saturating_sub(1);
     }
-    after(text, text.len().saturating_sub(length))
-}
-
-/// A text from an index up to another; nothing if it has no such indices.
-pub(crate) fn part(text: &[u8], start: usize, end: usize) -> &[u8] {
-    match text.get(start..end) {
-        Some(part) => part,
-        None => &[],
-    }
+    after(text, start)
 }
 
 // Three texts in a row.

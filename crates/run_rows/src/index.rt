@@ -3,7 +3,7 @@
 ghost use Rattle.std.specs.Prelude.{◌≡◌, IfOk};
 ghost use Rattle.mk_tree.specs.Documents.{IsFaithful};
 
-use crate::sessions::{edit_of, growths_of};
+use crate::sessions::{edit_of, growths_of, open};
 use bstr::ByteSlice;
 use mk_class::Meter;
 use mk_edit::plan_with;
@@ -175,7 +175,7 @@ pub fn first_growths(
     expects: bool,
 ) -> Result<Growths, Fault> {
     heap.refuse_none();
-    let mut session = Session::open(heap, makefile, 100)?;
+    let mut session = open(heap, makefile, 100)?;
     if expects {
         session.expect_edits(OTHERS);
     }
@@ -185,7 +185,7 @@ pub fn first_growths(
 /// The lines that a session finds for a name, as an assignment and as a rule, and whether it takes more than
 /// the growth of the copy of a name for each of the two: it makes an index and asks it.
 pub fn found_lines(case: &Case<'_>, makefile: &[u8], name: &[u8]) -> Result<Vec<u8>, Fault> {
-    let mut session = Session::open(case.heap, makefile, 100)?;
+    let mut session = open(case.heap, makefile, 100)?;
     found_by(case, &mut session, name)
 }
 

@@ -1,7 +1,7 @@
 //! Edits by the calls that make them, beside the lines of scripts that say the same; and by the calls of a
 //! session.
 
-use crate::sessions::{edit_of, text_of};
+use crate::sessions::{edit_of, open, text_of};
 use mk_lines::Fault;
 use mk_session::{
     Edit, Flavor, Place, Refusal, RuleSeparator, Session, Site, clone_edit, clone_place,
@@ -129,7 +129,7 @@ fn same_copy<'h>(place: &Place<&'h Heap>) -> Result<Place<&'h Heap>, AllocError>
 
 /// The text after the call of a session of a number, on a makefile.
 pub fn applied(case: &Case<'_>, call: &[u8], makefile: &[u8]) -> Result<Vec<u8>, Fault> {
-    let mut session = Session::open(case.heap, makefile, 100)?;
+    let mut session = open(case.heap, makefile, 100)?;
     match apply_at(&mut session, number(call)) {
         Ok(()) => Ok(text_of(case.alloc, &session)?),
         Err(Refusal::NoMemory) => Err(Fault::NoMemory),

@@ -2,7 +2,7 @@
 //! document keeps of its new lines.
 
 use crate::index::first_growths;
-use crate::sessions::{execute, growths_of};
+use crate::sessions::{execute, growths_of, open};
 use mk_lines::Fault;
 use mk_session::{Expected, Session};
 use mk_tree::Doc;
@@ -74,7 +74,7 @@ pub fn of_parse(case: &Case<'_>, makefile: &[u8], bytes: &[u8]) -> Result<Vec<u8
 /// Whether an edit takes fewer growths behind `begin`, which takes the room for the first patch of a group.
 pub fn first_of_group(case: &Case<'_>, makefile: &[u8], edit: &[u8]) -> Result<Vec<u8>, Fault> {
     let alone = first_growths(case.heap, makefile, edit, false)?;
-    let mut session = Session::open(case.heap, makefile, 100)?;
+    let mut session = open(case.heap, makefile, 100)?;
     let grouped = grouped_growths(case.heap, &mut session, edit)?;
     let is_less = grouped.count < alone.count;
     Ok(is_less.to_string(case.alloc)?.into_bytes())
@@ -104,7 +104,7 @@ pub fn by_index(
     edit: &[u8],
     lines: &[u8],
 ) -> Result<Vec<u8>, Fault> {
-    let mut session = Session::open(case.heap, makefile, 100)?;
+    let mut session = open(case.heap, makefile, 100)?;
     let bytes = indexed_bytes(case.heap, &mut session, edit)?;
     shown(
         case.alloc,
@@ -137,7 +137,7 @@ pub fn by_edits(
     edit: &[u8],
     edits: &[u8],
 ) -> Result<Vec<u8>, Fault> {
-    let mut session = Session::open(case.heap, makefile, 100)?;
+    let mut session = open(case.heap, makefile, 100)?;
     let bytes = group_bytes(case.heap, &mut session, edit, number(edits))?;
     shown(case.alloc, bytes, edits, 0)
 }

@@ -44,6 +44,17 @@ fn commands_of<'h>(
     Ok(commands)
 }
 
+/// A session over a makefile. That no contract says what it holds keeps the proofs short of all that ask for
+/// one here; so it is with [`run`].
+pub fn open<'h>(heap: &'h Heap, makefile: &[u8], depth: u32) -> Result<Session<&'h Heap>, Fault> {
+    Session::open(heap, makefile, depth)
+}
+
+/// Has a session execute a command.
+fn run<'h>(session: &mut Session<&'h Heap>, command: &Command<&'h Heap>) -> Result<(), Refusal> {
+    session.execute(command)
+}
+
 /// The replies of a session to commands in turn: `done`, or the name of a refusal.
 fn executed<'h>(
     alloc: Global,
@@ -52,7 +63,7 @@ fn executed<'h>(
 ) -> Result<String, Fault> {
     let mut replies = String::new(alloc);
     for command in commands {
-        match session.execute(command) {
+        match run(session, command) {
             Ok(()) => replies.push_str("done ")?,
             Err(refusal) => push_refusal(&mut replies, refusal)?,
         }
@@ -75,7 +86,7 @@ pub fn session_after<'h>(
     makefile: &[u8],
     script: &[u8],
 ) -> Result<Session<&'h Heap>, Fault> {
-    let mut session = Session::open(case.heap, makefile, 100)?;
+    let mut session = open(case.heap, makefile, 100)?;
     execute_script(case, &mut session, script)?;
     Ok(session)
 }
@@ -97,7 +108,7 @@ pub fn execute<'h>(
     line: &[u8],
 ) -> Result<(), Fault> {
     let command = command_of(heap, line)?;
-    match session.execute(&command) {
+    match run(session, &command) {
         Ok(()) => Ok(()),
         Err(Refusal::NoMemory) => Err(Fault::NoMemory),
         Err(_) => Err(Fault::Read),
@@ -112,7 +123,7 @@ pub fn growths_of<'h>(
 ) -> Result<Growths, Fault> {
     let command = command_of(heap, line)?;
     heap.refuse_none();
-    match session.execute(&command) {
+    match run(session, &command) {
         Ok(()) => Ok(heap.passed()),
         Err(_) => Err(Fault::Read),
     }
@@ -130,14 +141,14 @@ pub fn text_of(alloc: Global, session: &Session<&Heap>) -> Result<Vec<u8>, Alloc
 /// The text of a session that was opened at a depth.
 pub fn opened(case: &Case<'_>, makefile: &[u8], depth: &[u8]) -> Result<Vec<u8>, Fault> {
     let depth = u32::try_from(number(depth)).unwrap_or(0);
-    let session = Session::open(case.heap, makefile, depth)?;
+    let session = open(case.heap, makefile, depth)?;
     Ok(text_of(case.alloc, &session)?)
 }
 
 /// How a session is shown after each command of a script.
 pub fn shown(case: &Case<'_>, makefile: &[u8], script: &[u8]) -> Result<Vec<u8>, Fault> {
     let commands = commands_of(case.alloc, case.heap, script)?;
-    let mut session = Session::open(case.heap, makefile, 100)?;
+    let mut session = open(case.heap, makefile, 100)?;
     show_each(case.alloc, &mut session, &commands)
 }
 
@@ -148,7 +159,7 @@ fn show_each<'h>(
 ) -> Result<Vec<u8>, Fault> {
     let mut shown = String::new(alloc);
     for command in commands {
-        let _ = session.execute(command);
+        let _ = run(session, command);
         shown.push_str(format!(in alloc; "{session:?}\n")?.as_str())?;
     }
     Ok(shown.into_bytes())
@@ -162,7 +173,7 @@ pub fn edit_shown(case: &Case<'_>, line: &[u8]) -> Result<Vec<u8>, Fault> {
 
 /// Whether an edit that is made 200 times takes the same growths each time.
 pub fn same_growths(case: &Case<'_>, makefile: &[u8], line: &[u8]) -> Result<Vec<u8>, Fault> {
-    let mut session = Session::open(case.heap, makefile, 100)?;
+    let mut session = open(case.heap, makefile, 100)?;
     let are_same = takes_same_growths(case.heap, &mut session, line)?;
     Ok(are_same.to_string(case.alloc)?.into_bytes())
 }
