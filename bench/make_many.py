@@ -6,8 +6,8 @@
 KIND is the edit, with its place where it has one, or `mixture`. Each edit has a name of its own: one
 variable, or one rule, of each of so many equal parts of the makefile, in a random order. Each is
 accepted. With `all` before the edit the script is this one edit, which changes COUNT lines of a makefile of the
-kind `every-COUNT`. In the mixture eight of ten commands are edits of random kinds, and somewhere among them an
-`undo` and a `redo` follow each other. The kinds of OF_COUNTED are for a makefile of the
+kind `every-COUNT`. In the mixture eight of ten commands are edits of random kinds, of all but `recipe-subst`, and
+somewhere among them an `undo` and a `redo` follow each other. The kinds of OF_COUNTED are for a makefile of the
 kind `counted`. The same arguments give the same script.
 """
 
@@ -66,8 +66,9 @@ OF_COUNTED = {
     "recipe-set of a high number": 'recipe-set long {number} "@echo value"',
     "recipe over blank lines": 'recipe gap "@echo {number}"',
 }
-# How many edits stand in so many commands of a mixture.
+# How many edits stand in so many commands of a mixture, and the kind of which it has none.
 EDITS, TURN = 8, 10
+UNMIXED = "recipe-subst"
 
 
 class Script:
@@ -91,7 +92,7 @@ class Script:
 
     def edits(self, makefile, kind, count):
         """So many commands of a kind, or of kinds that are drawn."""
-        kinds = [*COMMANDS] if kind == MIXTURE else [kind]
+        kinds = [it for it in COMMANDS if it != UNMIXED] if kind == MIXTURE else [kind]
         for pair in self.pairs(makefile, count):
             yield COMMANDS[self.pick(kinds)].format(**pair)
 
