@@ -7,10 +7,10 @@ ghost use Rattle.std.specs.Prelude.{◌≡◌};
 ghost use Rattle.std.specs.List.{list_all, list_any};
 ghost use Rattle.mk_lines.specs.Units.{units};
 ghost use Rattle.mk_class.specs.Arguments.{ends_word, is_ampersand_byte, is_backslash_byte, is_barred_byte, is_clean, is_command, is_name, is_name_byte, is_target, is_value, is_word};
-ghost use Rattle.mk_lines.specs.Bytes.{is_blank_byte};
-ghost use Rattle.mk_class.specs.ListTests.{first_passes, last_passes};
+ghost use Rattle.mk_class.specs.ListTests.{last_passes};
 ghost use Rattle.mk_class.specs.Symbols.{is_hash};
 
+use crate::blank::{begins_with_blank, ends_with_blank};
 use mk_lines::{is_closed, split_first_unit};
 
 /// Whether a text may be a variable's value.
@@ -86,38 +86,11 @@ fn is_barred_byte(byte: u8) -> bool
     matches!(byte, b'\n' | b'\r' | 0)
 }
 
-/// Whether a byte is a blank.
-fn is_blank_byte(byte: u8) -> bool
-    ensures { result ≡ is_blank_byte byte }
-{
-    matches!(byte, b' ' | b'\t')
-}
-
 /// Whether a byte is a backslash.
 fn is_backslash_byte(byte: u8) -> bool
     ensures { result ≡ is_backslash_byte byte }
 {
     byte == b'\\'
-}
-
-/// Whether the first byte of a text is a blank.
-fn begins_with_blank(text: &[u8]) -> bool
-    ensures { result ≡ first_passes is_blank_byte text.now }
-{
-    match text {
-        [first, ..] => is_blank_byte(*first),
-        [] => false,
-    }
-}
-
-/// Whether the last byte of a text is a blank.
-fn ends_with_blank(text: &[u8]) -> bool
-    ensures { result ≡ last_passes is_blank_byte text.now }
-{
-    match text {
-        [.., last] => is_blank_byte(*last),
-        [] => false,
-    }
 }
 
 /// Whether the last byte of a text is a backslash.

@@ -17,9 +17,9 @@ ghost use Rattle.mk_class.specs.TextClasses.{header_text_class, itself};
 use crate::class::Class;
 use crate::marks::Marks;
 use crate::rule::{Header, Separator};
-use crate::scan::{after_colon, before, blanks_at_end, has_unit, is_blank, split_at_unit};
+use crate::scan::{after_colon, before, blanks_at_end, has_unit, split_at_unit};
 use memchr::memchr3;
-use mk_lines::{after_first_unit, is_closed, split_first_word};
+use mk_lines::{after_first_unit, is_blank, is_closed, split_first_word};
 
 /// A text at its first separator.
 ///

@@ -8,6 +8,7 @@
 //! - [`context`]: what the lines before a line leave for it.
 //! - [`meter`]: a count of the lines that were classified.
 //! - [`argument`]: what an edit may write.
+//! - [`blank`]: whether a text begins or ends with a blank.
 //! - [`laws`]: theorems on the definitions of assignments and classes.
 //!
 //! The other modules are the crate's own, lowest first:
@@ -20,6 +21,7 @@
 
 pub mod argument;
 pub mod assignment;
+pub mod blank;
 pub mod class;
 pub mod context;
 mod header;

@@ -15,12 +15,13 @@ ghost use Rattle.mk_class.specs.CutTexts.{after_head, cut_text, head};
 ghost use Rattle.mk_class.specs.TextClasses.{itself};
 ghost use Rattle.mk_class.specs.Marks.{Cover};
 ghost use Rattle.mk_class.specs.Scans.{AreUnmarked, IsSplitAt, is_one_byte_of, is_other};
-ghost use Rattle.mk_class.specs.ListTests.{first_passes, last_passes};
+ghost use Rattle.mk_class.specs.ListTests.{first_passes};
 ghost use Rattle.mk_class.specs.Symbols.{is_colon, is_equals, is_hash};
 
+use crate::blank::ends_with_blank;
 use crate::marks::Marks;
 use memchr::{memchr, memchr2, memchr3};
-use mk_lines::after_first_unit;
+use mk_lines::{after_first_unit, is_blank};
 
 /// What follows the blanks at the front of a text.
 pub(crate) fn after_blanks(text: &[u8]) -> &[u8]
@@ -35,13 +36,6 @@ pub(crate) fn after_blanks(text: &[u8]) -> &[u8]
         rest = after;
     }
     rest
-}
-
-/// Whether a byte is a blank: a space or a tab.
-pub(crate) fn is_blank(byte: u8) -> bool
-    ensures { result ≡ is_blank_byte byte }
-{
-    matches!(byte, b' ' | b'\t')
 }
 
 /// A text from its first unit on that is one of these bytes; nothing if no unit is.
@@ -195,16 +189,6 @@ fn blank_bytes_at_end(text: &[u8]) -> &[u8]
         end -= 1;
     }
     &text[end..]
-}
-
-/// Whether the last byte of a text is a blank.
-fn ends_with_blank(text: &[u8]) -> bool
-    ensures { result ≡ last_passes is_blank_byte text.now }
-{
-    match text {
-        [.., last] => is_blank(*last),
-        [] => false,
-    }
 }
 
 /// What follows a `=` at the front of a text; `None` if no `=` stands there.

@@ -3,11 +3,9 @@
 //! The new line is made of the old one, with a text in some places of it. It is read in the context
 //! of the old one, and the edit is refused as `Misread` where it does not read as the edit says.
 ghost use Rattle.std.specs.Prelude.{◌≡◌, ◌⊎◌, ◌+◌, ◌<◌, ◌≤◌, ◌∷◌, [], true, false, not, ◌&&◌, ◌||◌, ◌*◌, nat_lt, None, drop, length, IfOk, IfErr, OnOk};
-ghost use Rattle.mk_lines.specs.Bytes.{is_blank_byte};
 ghost use Rattle.mk_lines.specs.Cells.{line_cells};
 ghost use Rattle.mk_lines.specs.Limits.{max_text};
 ghost use Rattle.mk_lines.specs.LogicalLines.{ends_line, is_open, logical_lines};
-ghost use Rattle.mk_class.specs.ListTests.{first_passes, last_passes};
 ghost use Rattle.mk_tree.specs.Counting.{AreCounted};
 ghost use Rattle.mk_tree.specs.Documents.{IsFaithful};
 ghost use Rattle.mk_tree.specs.LineTexts.{line_in};
@@ -28,6 +26,7 @@ ghost use Rattle.mk_edit.specs.ValueChangeLines.{value_text_located};
 
 use crate::assignment::{assignment_of, value_text};
 use crate::moves::exchange;
+use mk_class::blank::{begins_with_blank, ends_with_blank};
 use mk_class::{Assignment, Context, Flavor, Meter};
 use mk_edit_language::{Edit, Refusal};
 use mk_edit_parts::find::find;
@@ -292,33 +291,6 @@ fn trimmed(text: &[u8]) -> &[u8]
         end = word.end;
     }
     part(text, Span { start, end })
-}
-
-// Whether the first byte of a text is a blank.
-fn begins_with_blank(text: &[u8]) -> bool
-    ensures { result ≡ first_passes is_blank_byte text.now }
-{
-    match text {
-        [first, ..] => is_blank(*first),
-        [] => false,
-    }
-}
-
-// Whether the last byte of a text is a blank.
-fn ends_with_blank(text: &[u8]) -> bool
-    ensures { result ≡ last_passes is_blank_byte text.now }
-{
-    match text {
-        [.., last] => is_blank(*last),
-        [] => false,
-    }
-}
-
-// Whether a byte is a blank.
-fn is_blank(byte: u8) -> bool
-    ensures { result ≡ is_blank_byte byte }
-{
-    matches!(byte, b' ' | b'\t')
 }
 
 /// Whether a line can stand in the place of another: it is one logical line, it ends a line if the other

@@ -13,6 +13,7 @@ ghost use Rattle.mk_tree.specs.Trees.{line_view};
 use crate::text::is_same_text;
 use mk_class::Class;
 use mk_lines::split::Span;
+use mk_lines::{after_blanks, is_blank};
 use mk_tree::Line;
 use std::alloc::Allocator;
 
@@ -123,21 +124,6 @@ fn is_modifier(word: &[u8]) -> bool
         || is_same_text(word, b"private")
 }
 
-// What follows the blanks at the front of a text.
-fn after_blanks(text: &[u8]) -> &[u8]
-    ensures rest { result.now ≡ after_leading is_blank_byte text.now }
-    ensures within { length result.now ≤ length text.now }
-{
-    let mut rest = text;
-    while let [first, after @ ..] = rest {
-        if !is_blank(*first) {
-            break;
-        }
-        rest = after;
-    }
-    rest
-}
-
 // What follows the bytes at the front of a text that are no blanks.
 fn after_word(text: &[u8]) -> &[u8]
     ensures rest { result.now ≡ after_leading (λ b. not (is_blank_byte b)) text.now }
@@ -151,11 +137,4 @@ fn after_word(text: &[u8]) -> &[u8]
         rest = after;
     }
     rest
-}
-
-// Whether a byte is a blank.
-fn is_blank(byte: u8) -> bool
-    ensures { result ≡ is_blank_byte byte }
-{
-    matches!(byte, b' ' | b'\t')
 }

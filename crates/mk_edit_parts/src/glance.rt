@@ -5,9 +5,7 @@
 //! a search of the library goes byte by byte through a text of fewer than 32 bytes, and most parts
 //! are that short.
 ghost use Rattle.std.specs.Prelude.{◌≡◌, ◌≤◌, None, false, length, drop, IfSome};
-ghost use Rattle.mk_class.specs.ListTests.{first_passes};
 ghost use Rattle.mk_class.specs.Texts.{is_one_of};
-ghost use Rattle.mk_lines.specs.Bytes.{is_blank_byte};
 ghost use Rattle.mk_lines.specs.Ranges.{text_at};
 ghost use Rattle.mk_lines.specs.Words.{words_in};
 ghost use Rattle.mk_edit_parts.specs.Glances.{EndsPart, IsPassed, StandsAt, StandsBehindNone};
@@ -16,6 +14,7 @@ ghost use Rattle.mk_edit_parts.specs.RenamedRanges.{ArePartsWithin, IsWithin, sp
 use crate::text::is_same_text;
 use crate::word_parts::WordParts;
 use memchr::memchr2_iter;
+use mk_class::blank::begins_with_blank;
 use mk_lines::split::Span;
 use mk_tree::part::{part, rest};
 
@@ -132,11 +131,4 @@ fn ends_part(parts: WordParts, end: usize) -> bool
     ensures { result ≡ false → EndsPart parts end → ⊥ }
 {
     parts.targets.end == end || parts.normal.end == end || parts.order_only.end == end
-}
-
-// Whether the first byte of a text is a blank.
-fn begins_with_blank(text: &[u8]) -> bool
-    ensures { result ≡ first_passes is_blank_byte text.now }
-{
-    matches!(text, [b' ' | b'\t', ..])
 }

@@ -5,9 +5,10 @@ ghost use Rattle.mk_lines.specs.Ranges.{unit_ranges, word_ranges};
 ghost use Rattle.mk_lines.specs.UnitWalk.{units_left, words_left};
 ghost use Rattle.mk_lines.specs.declared.split.Span.{Span};
 
+use crate::blank::after_blanks;
 use crate::split::Span;
 use crate::unit::after_first_unit;
-use crate::word::{after_blanks, after_word};
+use crate::word::after_word;
 use std::iter::FusedIterator;
 use std::marker::Model;
 

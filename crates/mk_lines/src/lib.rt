@@ -6,12 +6,14 @@
 //! - [`split`]: the logical lines of a text.
 //! - [`ends`]: how a line ends.
 //! - [`unit`]: the units of a text, and whether it is closed.
+//! - [`blank`]: spaces and tabs.
 //! - [`word`]: the words of a text.
 //! - [`iter`]: the iterators over units and words.
 //! - [`cells`]: a logical line with its folds made spaces.
 //! - [`laws`]: theorems on the definitions of lines, cells, units and words.
 #![tactic(auto)]
 
+pub mod blank;
 pub mod cells;
 pub mod ends;
 pub mod fault;
@@ -23,6 +25,7 @@ pub mod split;
 pub mod unit;
 pub mod word;
 
+pub use blank::{after_blanks, is_blank};
 pub use cells::Cells;
 pub use ends::End;
 pub use fault::Fault;

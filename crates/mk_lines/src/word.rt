@@ -12,6 +12,7 @@ ghost use Rattle.mk_lines.specs.Words.{words};
 ghost use Rattle.mk_lines.specs.UnitWalk.{after_word};
 ghost use Rattle.mk_lines.specs.Bytes.{is_blank_byte};
 
+use crate::blank::{after_blanks, is_blank};
 use crate::iter::Words;
 use crate::unit::after_first_unit;
 
@@ -46,21 +47,6 @@ pub fn split_first_word(text: &[u8]) -> Option<(&[u8], &[u8])>
     Some(words.split_at(words.len() - after.len()))
 }
 
-/// What follows the blanks at the front of a text.
-pub(crate) fn after_blanks(text: &[u8]) -> &[u8]
-    ensures rest { result.now ≡ after_leading is_blank_byte text.now }
-    ensures within { length result.now ≤ length text.now }
-{
-    let mut rest = text;
-    while let [first, after @ ..] = rest {
-        if !is_blank(*first) {
-            break;
-        }
-        rest = after;
-    }
-    rest
-}
-
 /// What follows the word at the front of a text: the text from its first unit on that is a blank,
 /// or nothing if no unit is.
 pub(crate) fn after_word(text: &[u8]) -> &[u8]
@@ -75,11 +61,4 @@ pub(crate) fn after_word(text: &[u8]) -> &[u8]
         rest = after_first_unit(rest);
     }
     rest
-}
-
-/// Whether a byte is a blank.
-fn is_blank(byte: u8) -> bool
-    ensures { result ≡ is_blank_byte byte }
-{
-    matches!(byte, b' ' | b'\t')
 }

@@ -2,7 +2,6 @@
 //!
 //! Blanks stand between fields, and may stand before and after them.
 ghost use Rattle.std.specs.Prelude.{◌≡◌, ◌≤◌, false, length, option_map};
-ghost use Rattle.mk_lines.specs.Bytes.{is_blank_byte};
 ghost use Rattle.mk_script.specs.Fields.{is_special};
 ghost use Rattle.mk_script.specs.FieldReading.{after_blanks, bare_len, blanks_before, ends_field, fields_within, first_field, is_blank, quoted_field, until_quote};
 ghost use Rattle.mk_script.specs.CommandReading.{front, one, three, two};
@@ -12,19 +11,14 @@ ghost use Rattle.mk_script.specs.ReaderAnswers.{IsFound};
 use crate::fault::NotThere;
 use crate::field::Field;
 use arrayvec::ArrayVec;
-
-fn is_blank_byte(byte: u8) -> bool
-    ensures { result ≡ is_blank_byte byte }
-{
-    matches!(byte, b' ' | b'\t')
-}
+use mk_lines::blank;
 
 // How many blanks a text begins with.
 fn blanks_before(text: &[u8]) -> usize
     ensures count { result ≡ blanks_before text.now }
     ensures within { result ≤ length text.now }
 {
-    text.iter().take_while(|byte| is_blank_byte(**byte)).count()
+    text.iter().take_while(|byte| blank::is_blank(**byte)).count()
 }
 
 /// How many bytes stand before the first blank of a text.
@@ -33,7 +27,7 @@ pub(crate) fn bare_len(text: &[u8]) -> usize
     ensures within { result ≤ length text.now }
 {
     text.iter()
-        .take_while(|byte| !is_blank_byte(**byte))
+        .take_while(|byte| !blank::is_blank(**byte))
         .count()
 }
 
@@ -57,7 +51,7 @@ fn ends_field(text: &[u8]) -> bool
 {
     match text {
         [] => true,
-        [first, ..] => is_blank_byte(*first),
+        [first, ..] => blank::is_blank(*first),
     }
 }
 
