@@ -31,7 +31,7 @@ use mk_class::{Assignment, Context, Flavor, Meter};
 use mk_edit_language::{Edit, Refusal};
 use mk_edit_parts::find::find;
 use mk_edit_parts::line_change::{
-    LineRewrite, new_length, new_text, places_of, raw_ranges, separator_bytes, separator_place,
+    LineRewrite, new_length, new_text, places_of, rewritten_line, separator_bytes, separator_place,
     separator_text,
 };
 use mk_edit_parts::renamed_line::rewritten;
@@ -202,8 +202,8 @@ fn made_line<A: Allocator + Copy>(
     let separator = separator_place(change, line, assignment);
     let written = new_text(alloc, change, separator_bytes(line, separator), value)?;
     let read = new_text(alloc, change, separator_text(line, separator), value)?;
-    let bytes = new_bytes(alloc, line, ranges, &written)?;
-    let front = new_front(alloc, change, line, assignment, ranges, &read)?;
+    let bytes = new_bytes(alloc, line, ranges, written.as_slice())?;
+    let front = new_front(alloc, change, line, assignment, ranges, read.as_slice())?;
     Ok(Made { bytes, front })
 }
 
@@ -223,8 +223,7 @@ fn new_bytes<A: Allocator + Copy>(
 {
     let more = ranges.len().saturating_mul(new.len());
     let room = line.bytes().len().saturating_add(more);
-    let raw = raw_ranges(alloc, line, ranges)?;
-    rewritten(alloc, line.bytes(), &raw, new, room)
+    rewritten_line(alloc, line, ranges, new, room)
 }
 
 // What a line is said to be read as, up to the end of its value, after a change that puts a new text in

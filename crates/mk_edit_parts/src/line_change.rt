@@ -3,9 +3,9 @@
 //!
 //! A cause of refusal is told before a want of memory. So a growth that is refused does not end the
 //! search for places: their ranges are dropped, and the places are counted on.
+ghost use Rattle.std.specs.Cow.{cow_slice_items};
 ghost use Rattle.std.specs.Prelude.{◌≡◌, ◌+◌, ◌<◌, ◌≤◌, ◌^◌, [], ◌∷◌, ◌++◌, None, Some, length, IfOk, IfSome, option_map};
 ghost use Rattle.memchr.specs.Find.{matches};
-ghost use Rattle.mk_lines.specs.Bytes.{is_blank_byte};
 ghost use Rattle.mk_lines.specs.Cells.{line_cells};
 ghost use Rattle.mk_lines.specs.Ranges.{raw_range, text_at, word_ranges};
 ghost use Rattle.mk_class.specs.Assignments.{operator_length};
@@ -14,18 +14,21 @@ ghost use Rattle.mk_tree.specs.Trees.{line_view};
 ghost use Rattle.mk_edit_language.specs.EditViews.{line_change_of};
 ghost use Rattle.mk_edit_parts.specs.LineChangePlaces.{AreNoted, CanNote, change_places, new_text, operator_start, raw_ranges, rewrite_view, separator_among, separator_bytes, separator_place, separator_text, text_places, word_place, word_places};
 ghost use Rattle.mk_edit_parts.specs.RenamedRanges.{AreWithin, IsWithin, bytes_in};
+ghost use Rattle.mk_edit_parts.specs.RenamedTexts.{AreApart, rewritten};
 ghost use Rattle.mk_edit_parts.specs.SeenAssignments.{HasAssignment};
 
 use crate::raw_part::raw_part;
+use crate::renamed_line::write_word;
 use crate::text::is_same_text;
 use memchr::memmem::find_iter;
 use mk_class::{Assignment, Flavor};
 use mk_edit_language::{LineChange, Side};
 use mk_lines::split::Span;
-use mk_lines::words;
+use mk_lines::{after_blanks, words};
 use mk_tree::Line;
 use mk_tree::part::{part, rest, text_of_line};
 use std::alloc::{AllocError, Allocator};
+use std::borrow::CowSlice;
 
 /// A change of the line of an assignment, with its texts where they stand in the edit.
 #[derive(Clone, Copy)]
@@ -275,44 +278,41 @@ fn operator_start(text: &[u8], name_end: usize) -> usize
     requires { name_end ≤ length text.now }
     ensures { result ≡ operator_start text.now name_end }
 {
-    let mut rest = rest(text, name_end);
-    'blanks: while let [first, after @ ..] = rest {
-        if !is_blank(*first) {
-            break;
-        }
-        rest = after;
-    }
-    text.len() - rest.len()
+    text.len() - after_blanks(rest(text, name_end)).len()
 }
 
-// Whether a byte is a blank.
-fn is_blank(byte: u8) -> bool
-    ensures { result ≡ is_blank_byte byte }
-{
-    matches!(byte, b' ' | b'\t')
-}
-
-/// The raw ranges of ranges of a line's joined text.
+/// A line with a new text in the place of each of some ranges of its joined text, which stand in order
+/// and apart. `room` is the memory that is taken at first.
 ///
 /// # Errors
 ///
-/// [`AllocError`] if there is no memory for them.
-pub fn raw_ranges<A: Allocator>(
+/// [`AllocError`] if there is no memory for it.
+pub fn rewritten_line<A: Allocator>(
     alloc: A,
     line: &Line<A>,
     ranges: &[Span],
-) -> Result<Vec<Span, A>, AllocError>
-    requires { AreWithin (length (line_cells (line_view line.now).bytes)) ranges.now }
-    ensures { IfOk result (λ raw.
-        raw.items ≡ raw_ranges (line_cells (line_view line.now).bytes) ranges.now) }
+    new: &[u8],
+    room: usize,
+) -> Result<Vec<u8, A>, AllocError>
+    requires within { AreWithin (length (line_cells (line_view line.now).bytes)) ranges.now }
+    requires apart { AreApart 0 (length (line_view line.now).bytes)
+        (raw_ranges (line_cells (line_view line.now).bytes) ranges.now) }
+    ensures { IfOk result (λ all. all.items
+        ≡ rewritten (line_view line.now).bytes new.now
+        (raw_ranges (line_cells (line_view line.now).bytes) ranges.now)) }
 {
-    let mut raw = Vec::with_capacity(alloc, ranges.len())?;
+    let bytes = line.bytes();
+    let mut all = Vec::with_capacity(alloc, room)?;
+    let mut done = 0;
     let mut left = ranges;
     'left: while let [range, after @ ..] = left {
-        raw.push(line.raw_range(range.start, range.end))?;
+        let raw = line.raw_range(range.start, range.end);
+        write_word(&mut all, bytes, done, raw, new)?;
+        done = raw.end;
         left = after;
     }
-    Ok(raw)
+    all.extend_from_slice(rest(bytes, done))?;
+    Ok(all)
 }
 
 /// The range of a line's joined text that separates a new word from the one beside which a change
@@ -401,27 +401,27 @@ pub fn new_length(change: LineRewrite<'_>, separator: &[u8], value: &[u8]) -> us
     }
 }
 
-/// The text that goes to each place, by the change, the separator and the old value.
+/// The text that goes to each place, by the change, the separator and the old value. It takes memory only
+/// where it is made of two texts.
 ///
 /// # Errors
 ///
 /// [`AllocError`] if there is no memory for it.
-pub fn new_text<A: Allocator + Copy>(
+pub fn new_text<'a, A: Allocator>(
     alloc: A,
-    change: LineRewrite<'_>,
+    change: LineRewrite<'a>,
     separator: &[u8],
     value: &[u8],
-) -> Result<Vec<u8, A>, AllocError>
-    ensures { IfOk result (λ text.
-        text.items ≡ new_text (rewrite_view change.entry) separator.now value.now) }
+) -> Result<CowSlice<'a, u8, A>, AllocError>
+    ensures { IfOk result (λ text. cow_slice_items text
+        ≡ new_text (rewrite_view change.entry) separator.now value.now) }
 {
     match change {
-        LineRewrite::Prepend(text) => joined(
-            alloc,
-            text,
-            if value.is_empty() { b"" } else { b" " },
-        ),
-        LineRewrite::ReplaceWord { value, .. } => Vec::from_slice(alloc, value),
+        LineRewrite::Prepend(text) => {
+            let space: &[u8] = if value.is_empty() { b"" } else { b" " };
+            joined(alloc, text, space)
+        }
+        LineRewrite::ReplaceWord { value, .. } => Ok(CowSlice::Borrowed(value)),
         LineRewrite::InsertWord {
             side: Side::Before,
             new,
@@ -432,17 +432,21 @@ pub fn new_text<A: Allocator + Copy>(
             new,
             ..
         } => joined(alloc, separator, new),
-        LineRewrite::Substitute { to, .. } => Vec::from_slice(alloc, to),
-        LineRewrite::SetOperator(flavor) => Vec::from_slice(alloc, flavor.text().as_bytes()),
+        LineRewrite::Substitute { to, .. } => Ok(CowSlice::Borrowed(to)),
+        LineRewrite::SetOperator(flavor) => Ok(CowSlice::Borrowed(flavor.text().as_bytes())),
     }
 }
 
 // Two texts, one after the other.
-fn joined<A: Allocator>(alloc: A, left: &[u8], right: &[u8]) -> Result<Vec<u8, A>, AllocError>
-    ensures { IfOk result (λ all. all.items ≡ left.now ++ right.now) }
+fn joined<'a, A: Allocator>(
+    alloc: A,
+    left: &[u8],
+    right: &[u8],
+) -> Result<CowSlice<'a, u8, A>, AllocError>
+    ensures { IfOk result (λ all. cow_slice_items all ≡ left.now ++ right.now) }
 {
     let mut all = Vec::with_capacity(alloc, left.len() + right.len())?;
     all.extend_from_slice(left)?;
     all.extend_from_slice(right)?;
-    Ok(all)
+    Ok(CowSlice::Owned(all))
 }

@@ -18,7 +18,9 @@ fn blanks_before(text: &[u8]) -> usize
     ensures count { result ≡ blanks_before text.now }
     ensures within { result ≤ length text.now }
 {
-    text.iter().take_while(|byte| blank::is_blank(**byte)).count()
+    text.iter()
+        .take_while(|byte| blank::is_blank(**byte))
+        .count()
 }
 
 /// How many bytes stand before the first blank of a text.

@@ -1,4 +1,5 @@
 use Rattle.std.proofs.Common.{◌≡◌, ◌∙◌, sym, ap, subst, ℕ, List, length, None}
+use Rattle.std.specs.Cow.{cow_slice_items}
 use Rattle.std.specs.Prelude.{IfSome}
 use Rattle.mk_lines.specs.Cells.{Cell, joined_byte, line_cells}
 use Rattle.mk_class.specs.Assignments.{Assignment}
@@ -44,28 +45,28 @@ unrefused-by c k v w e h = ap (first_of_words c k) e ∙ h
 
 -- what is made of the line, for each assignment that it may be
 written : (g : Over) (c : In_ok-written g) (a : Assignment Cell) → IsAssignmentIn c.args.place.now.context (line_view c.args.line.now) a
-    → IsWritten (rewrite_view c.args.change) (line_view c.args.line.now) a c.args.ranges.now c.in_ok-written.written.items
+    → IsWritten (rewrite_view c.args.change) (line_view c.args.line.now) a c.args.ranges.now (cow_slice_items c.in_ok-written.written)
 written g c a I =
     let d = rewrite_view c.args.change in
     let l = line_view c.args.line.now in
     let v = c.value_text-value.result.now in
     let p = c.args.assignment in
     let s = separator_place d (text_of_line l) p in
-    is-written d c.args.place.now.context l a p c.args.ranges.now v c.in_ok-written.written.items I c.requires.at c.requires.sought c.requires.ranges c.value_text-value.ensures
+    is-written d c.args.place.now.context l a p c.args.ranges.now v (cow_slice_items c.in_ok-written.written) I c.requires.at c.requires.sought c.requires.ranges c.value_text-value.ensures
     (unrefused-by d (length c.args.ranges.now) v (value_text_located l) c.value_text-value.ensures c.requires.one)
-    (text-by d c.separator_bytes.result.now (separator_bytes (line_cells l.bytes) s) v c.in_ok-written.written.items c.in_ok-written.ensures (c.separator_bytes.ensures ∙ ap (separator_bytes (line_cells l.bytes)) c.separator_place-separator.ensures))
+    (text-by d c.separator_bytes.result.now (separator_bytes (line_cells l.bytes) s) v (cow_slice_items c.in_ok-written.written) c.in_ok-written.ensures (c.separator_bytes.ensures ∙ ap (separator_bytes (line_cells l.bytes)) c.separator_place-separator.ensures))
 
 said : (g : Over) (c : In_ok-read g) (a : Assignment Cell) → IsAssignmentIn c.args.place.now.context (line_view c.args.line.now) a
-    → IsSaid (rewrite_view c.args.change) (line_view c.args.line.now) a c.args.assignment c.args.ranges.now c.in_ok-read.read.items
+    → IsSaid (rewrite_view c.args.change) (line_view c.args.line.now) a c.args.assignment c.args.ranges.now (cow_slice_items c.in_ok-read.read)
 said g c a I =
     let d = rewrite_view c.args.change in
     let l = line_view c.args.line.now in
     let v = c.value_text-value.result.now in
     let p = c.args.assignment in
     let s = separator_place d (text_of_line l) p in
-    is-said d c.args.place.now.context l a p c.args.ranges.now v c.in_ok-read.read.items I c.requires.at c.requires.sought c.requires.ranges c.value_text-value.ensures
+    is-said d c.args.place.now.context l a p c.args.ranges.now v (cow_slice_items c.in_ok-read.read) I c.requires.at c.requires.sought c.requires.ranges c.value_text-value.ensures
     (unrefused-by d (length c.args.ranges.now) v (value_text_located l) c.value_text-value.ensures c.requires.one)
-    (text-by d c.separator_text.result.now (separator_text (text_of_line l) s) v c.in_ok-read.read.items c.in_ok-read.ensures (c.separator_text.ensures ∙ ap (separator_text (text_of_line l)) c.separator_place-separator.ensures))
+    (text-by d c.separator_text.result.now (separator_text (text_of_line l) s) v (cow_slice_items c.in_ok-read.read) c.in_ok-read.ensures (c.separator_text.ensures ∙ ap (separator_text (text_of_line l)) c.separator_place-separator.ensures))
 
 placed : (g : Over) (c : In_ok-read g) → HasPlaces (rewrite_view c.args.change) (line_view c.args.line.now) c.requires.own.assigned c.args.ranges.now
 placed g c =
@@ -80,13 +81,13 @@ new_bytes-requires-clause-apart g c = (placed g (goal.at.new_bytes-requires-clau
 pub new_front-requires : goal.new_front-requires
 new_front-requires g c =
     let M = said g (goal.at.new_front-requires g c).In_ok-read c.requires.own.assigned c.requires.own.is in
-    record { can = subst (CanRewrite (rewrite_view c.args.change) (text_of_line (line_view c.args.line.now)) c.args.assignment c.args.ranges.now) (sym c.deref-2.ensures.value) M.can }
+    record { can = subst (CanRewrite (rewrite_view c.args.change) (text_of_line (line_view c.args.line.now)) c.args.assignment c.args.ranges.now) (sym c.as_slice-2.ensures.value) M.can }
 
 pub returns-clause-made : goal.returns-clause-made
 returns-clause-made g c =
     let W = written g (goal.at.returns-clause-made g c).In_ok-written in
     let M = said g (goal.at.returns-clause-made g c).In_ok-read in
     record {
-      bytes_are = λ a I. c.in_ok-bytes.ensures ∙ (ap (λ (n : List ℕ). rewritten (line_view c.args.line.now).bytes n (raw_ranges (line_cells (line_view c.args.line.now).bytes) c.args.ranges.now)) c.deref.ensures.value ∙ (W a I).bytes);
-      value_is = λ a I. c.in_ok-front.ensures.value ∙ (ap (λ (n : List ℕ). value_made (rewrite_view c.args.change) (text_of_line (line_view c.args.line.now)) c.args.assignment c.args.ranges.now n) c.deref-2.ensures.value ∙ (M a I).value);
+      bytes_are = λ a I. c.in_ok-bytes.ensures ∙ (ap (λ (n : List ℕ). rewritten (line_view c.args.line.now).bytes n (raw_ranges (line_cells (line_view c.args.line.now).bytes) c.args.ranges.now)) c.as_slice.ensures.value ∙ (W a I).bytes);
+      value_is = λ a I. c.in_ok-front.ensures.value ∙ (ap (λ (n : List ℕ). value_made (rewrite_view c.args.change) (text_of_line (line_view c.args.line.now)) c.args.assignment c.args.ranges.now n) c.as_slice-2.ensures.value ∙ (M a I).value);
     }
