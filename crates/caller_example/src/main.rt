@@ -114,9 +114,9 @@ fn migrate(
     Ok(())
 }
 
-// Makes an edit, or tells why it is refused.
-fn make(rt: &HostRuntime, session: &mut Session, what: &str, edit: &Edit) -> Result<()> {
-    if let Err(refusal) = session.apply(edit) {
+// Tells why an edit is refused, if it is.
+fn tell(rt: &HostRuntime, what: &str, made: Result<(), Refusal>) -> Result<()> {
+    if let Err(refusal) = made {
         println!(rt; "{what}: refused {} {}", refusal.number(), refusal.name())?;
     }
     Ok(())
@@ -127,13 +127,8 @@ fn show(rt: &HostRuntime, step: &str, session: &Session) -> Result<()> {
     Ok(session.doc().write_to(&mut StdSink::new(rt.stdout()))?)
 }
 
-fn main(rt: HostRuntime) -> Result<()> {
-    let path = env::args(&rt)?.nth(1).context("usage: MAKEFILE")?;
-    let file = File::open(&rt, path.as_str())?;
-    let text = read_all(rt.alloc(), &mut StdSource::new(file))?;
-    let mut session = Session::open_vec(rt.alloc(), text, 100)?;
-
-    // each variable that is assigned more than once, with the numbers of its lines
+// Prints each variable that is assigned more than once, with the numbers of its lines.
+fn list(rt: &HostRuntime, session: &Session) -> Result<()> {
     for found in assignments(session.doc()) {
         let name = found.assignment.name();
         let same = assignments_of(session.doc(), name);
@@ -142,21 +137,44 @@ fn main(rt: HostRuntime) -> Result<()> {
             println!(rt; "{}: {lines:?}", String::from_utf8_lossy(rt.alloc(), name)?)?;
         }
     }
+    Ok(())
+}
+
+// Puts a recipe line below each rule for a target.
+fn clean(rt: &HostRuntime, session: &mut Session) -> Result<()> {
     let last = rule_lines_for(session.doc(), b"clean").last();
     for nth in 1..=last.map_or(0, |rule| rule.nth) {
-        let clean = Edit::recipe(rt.alloc(), b"clean", b"rm -rf build")?.nth(nth);
-        make(&rt, &mut session, "clean", &clean)?;
+        let recipe = Edit::recipe(rt.alloc(), b"clean", b"rm -rf build")?.nth(nth);
+        tell(rt, "clean", session.apply(&recipe))?;
     }
-    show(&rt, "cleaned", &session)?;
+    Ok(())
+}
+
+// Makes two edits as one, and takes them back.
+fn edit(rt: &HostRuntime, session: &mut Session) -> Result<()> {
     session.begin()?;
-    let set = Edit::set(rt.alloc(), b"CC", b"clang")?;
-    make(&rt, &mut session, "set", &set)?;
-    let append = Edit::append(rt.alloc(), b"CFLAGS", b"-g")?;
-    make(&rt, &mut session, "append", &append)?;
+    tell(rt, "set", session.set(b"CC", b"clang"))?;
+    tell(rt, "append", session.append(b"CFLAGS", b"-g"))?;
     session.end()?;
-    show(&rt, "edited", &session)?;
+    show(rt, "edited", session)?;
     session.undo()?;
-    show(&rt, "undone", &session)?;
-    migrate(rt.alloc(), &mut session, b"CC", b"gcc", b"clang")?;
-    show(&rt, "migrated", &session)
+    show(rt, "undone", session)
+}
+
+// The session is lent to each step: who owns it drops it on each way out.
+fn steps(rt: &HostRuntime, session: &mut Session) -> Result<()> {
+    list(rt, session)?;
+    clean(rt, session)?;
+    show(rt, "cleaned", session)?;
+    edit(rt, session)?;
+    migrate(rt.alloc(), session, b"CC", b"gcc", b"clang")?;
+    show(rt, "migrated", session)
+}
+
+fn main(rt: HostRuntime) -> Result<()> {
+    let path = env::args(&rt)?.nth(1).context("usage: MAKEFILE")?;
+    let file = File::open(&rt, path.as_str())?;
+    let text = read_all(rt.alloc(), &mut StdSource::new(file))?;
+    let mut session = Session::open_vec(rt.alloc(), text, 100)?;
+    steps(&rt, &mut session)
 }

@@ -23,11 +23,12 @@ impl<'a> Ends<'a> {
             return Ok(0);
         };
         self.0 = rest;
-        match *end {
-            b'0'..=b'9' => Ok(most.min((*end - b'0') as usize)),
-            b'i' => Err(io::Error::from(ErrorKind::Interrupted)),
-            _ => Err(io::Error::from(ErrorKind::Other)),
-        }
+        let kind = match *end {
+            b'0'..=b'9' => return Ok(most.min((*end - b'0') as usize)),
+            b'i' => ErrorKind::Interrupted,
+            _ => ErrorKind::Other,
+        };
+        Err(io::Error::from(kind))
     }
 }
 

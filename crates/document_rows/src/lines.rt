@@ -1,6 +1,7 @@
 //! Lines, cells, units and words.
 ghost use Rattle.std.specs.Prelude.{◌<◌};
 
+use crate::documents::copied;
 use mk_lines::cells::cells;
 use mk_lines::ends::{file_line_end, is_continued, is_open, line_end, without_line_end};
 use mk_lines::source::read_all;
@@ -49,8 +50,7 @@ pub fn read(case: &Case<'_>, text: &[u8], step: &[u8], call: &[u8]) -> Result<Ve
 
 /// A whole text.
 pub fn read_whole(case: &Case<'_>, text: &[u8]) -> Result<Vec<u8>, Fault> {
-    let whole = read_all(case.heap, &mut MemorySource::new(text, 100))?;
-    Ok(Vec::from_slice(case.alloc, whole.as_slice())?)
+    copied(case, read_all(case.heap, &mut MemorySource::new(text, 100)))
 }
 
 /// The joined text of a line, whether it has a bad fold, and whether it has a stray byte.

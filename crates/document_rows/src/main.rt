@@ -23,6 +23,7 @@ mod queries;
 mod views;
 
 use mk_lines::Fault;
+use mk_lines::sink::write_parts;
 use std::alloc::Global;
 use test_support::difference::Stop;
 use test_support::{Calls, Case, MemorySink, RunRow, run_call, run_tables};
@@ -47,7 +48,11 @@ impl Calls for DocumentCalls {
     }
 
     fn write(&self, case: &Case<'_>, out: &mut MemorySink) -> Result<bool, Fault> {
-        queries::write(case, out)
+        if let ("write-parts", [first, second, third]) = (case.table, case.fields) {
+            write_parts(out, &[first, second, third])?;
+            return Ok(true);
+        }
+        documents::write(case, out)
     }
 }
 
@@ -62,43 +67,20 @@ fn of_devices(case: &Case<'_>) -> Result<Option<Vec<u8>>, Fault> {
         ("context", [text]) => classes::context_after(case, text),
         ("diff", [name, old, new]) => diffs::between(case, name, old, new),
         ("painted", [diff]) => diffs::in_colours(case, diff),
-
         _ => return of_documents(case),
     };
     Ok(Some(answer?))
 }
 
-/// Makes a call on a document, or another one.
+/// Makes a call that parses or reads by itself, or one on a document.
 fn of_documents(case: &Case<'_>) -> Result<Option<Vec<u8>>, Fault> {
     let answer = match (case.table, case.fields) {
         ("parse", [text]) => documents::parsed(case, text),
         ("parse-vec", [text]) => documents::parsed_vec(case, text),
-        ("lines-in-contexts", [text]) => documents::lines_in_contexts(case, text),
         ("read-line", []) => documents::read_line(case),
         ("own-bytes", [text]) => documents::own_bytes(case, text),
-        ("document-writes", [text]) => documents::writes(case, text),
-        ("text-of", [text]) => views::text_again(case, text),
-        _ => return of_views(case),
-    };
-    Ok(Some(answer?))
-}
-
-/// Makes a call that lists a document.
-fn of_views(case: &Case<'_>) -> Result<Option<Vec<u8>>, Fault> {
-    let answer = match (case.table, case.fields) {
-        ("parts", [text]) => views::parts(case, text),
-        ("positions", [text]) => views::positions(case, text),
-        ("branches", [text]) => views::branches(case, text),
-        ("numbers", [text, target]) => views::numbers(case, text, target),
-        ("assignments", [text, name]) => views::assignments_in(case, text, name),
-        ("rules", [text, target]) => views::rules_in(case, text, target),
-        ("line-caveats", [text]) => queries::caveats_of_lines(case, text),
-        ("few-writes", [query, text]) => queries::few_writes(case, query, text),
-        ("json", [query, text]) => json::lines(case, query, text),
-        ("json-lines", [query, text]) => json::count_lines(case, query, text),
         ("text-line", [text]) => json::text_line(case, text),
-
-        _ => return Ok(None),
+        _ => return documents::answer(case),
     };
     Ok(Some(answer?))
 }

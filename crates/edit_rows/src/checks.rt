@@ -1,42 +1,46 @@
 //! The checks of a row by a session: its commands, and all that was done undone and done again.
 
 use crate::document::{check_lines, text_of};
+use crate::growths::check_refused_growth;
 use crate::rows::{Expectation, Row};
 use mk_session::{Detail, Refusal, Session};
 use std::alloc::{AllocError, Global};
 use test_support::Heap;
 use test_support::difference::{Stop, at_most, no_fault, same_number, same_text, same_word};
 
-/// Runs the commands of a row in a session.
-///
-/// - Each reply and the text at the end are the expected ones.
-/// - A refused command leaves the text.
-/// - After each command the document is what the parse of its text gives.
-/// - Undoing all leads to the first text, and redoing it to the last, through the same texts.
-///
-/// What is checked has the session by a reference: if a function owns it, each way out of the function
-/// drops it, which makes its proof long.
-pub fn check_by_session<'h>(alloc: Global, heap: &'h Heap, row: &Row<'_, 'h>) -> Result<(), Stop> {
+/// Runs the commands of a row in a session, and refuses the growth after so many others if there is a number.
+/// Whether one was refused.
+pub fn check_in_session<'h>(
+    alloc: Global,
+    heap: &'h Heap,
+    row: &Row<'_, 'h>,
+    admitted: Option<u64>,
+) -> Result<bool, Stop> {
+    heap.refuse_none();
     let mut session = opened(alloc, heap, row)?;
-    check_session(alloc, &mut session, row)
+    match admitted {
+        Some(admitted) => check_refused_growth(alloc, heap, &mut session, row, admitted),
+        None => check_session(alloc, &mut session, row),
+    }
 }
 
 /// The session of a row.
-pub fn opened<'h>(
-    alloc: Global,
-    heap: &'h Heap,
-    row: &Row<'_, '_>,
-) -> Result<Session<&'h Heap>, Stop> {
+fn opened<'h>(alloc: Global, heap: &'h Heap, row: &Row<'_, '_>) -> Result<Session<&'h Heap>, Stop> {
     let session = Session::open(heap, row.makefile.as_slice(), row.depth);
     no_fault(alloc, "the opening of the makefile", session)
 }
 
 /// Runs the commands of a row in its session, and undoes and redoes them.
+///
+/// - Each reply and the text at the end are the expected ones.
+/// - A refused command leaves the text.
+/// - After each command the document is what the parse of its text gives.
+/// - Undoing all leads to the first text, and redoing it to the last, through the same texts.
 fn check_session<'h>(
     alloc: Global,
     session: &mut Session<&'h Heap>,
     row: &Row<'_, 'h>,
-) -> Result<(), Stop> {
+) -> Result<bool, Stop> {
     for expectation in row.commands.iter() {
         check_command(alloc, session, expectation)?;
     }
@@ -49,7 +53,8 @@ fn check_session<'h>(
     let read = session.rereads();
     check_undos_and_redos(alloc, session, row)?;
     let what = "the lines read by undos and redos";
-    same_number(alloc, what, read, session.rereads())
+    same_number(alloc, what, read, session.rereads())?;
+    Ok(false)
 }
 
 /// Fails if a session has another text.

@@ -1,6 +1,6 @@
 //! A row with each growth of its commands refused in turn.
 
-use crate::checks::{check_reply, opened};
+use crate::checks::{check_in_session, check_reply};
 use crate::document::has_text;
 use crate::rows::{Expectation, Row};
 use mk_session::{Command, Edit, Refusal, Session};
@@ -9,14 +9,9 @@ use test_support::Heap;
 use test_support::difference::{Stop, holds};
 
 /// Runs the commands of a row in a session, once for each of their growths, which is refused then.
-///
-/// - A command that finds no memory changes nothing, and is made afterwards. Of the refusals none but
-///   `Misread` may be hidden by it, and `Leans` of whole lines and of `uncomment`.
-/// - The text at the end is the expected one.
-/// - The end of a group, undoing all and redoing it take no memory.
 pub fn check_growths<'h>(alloc: Global, heap: &'h Heap, row: &Row<'_, 'h>) -> Result<(), Stop> {
     for admitted in 0..1_000u64 {
-        if !check_refused_growth(alloc, heap, row, admitted)? {
+        if !check_in_session(alloc, heap, row, Some(admitted))? {
             return Ok(());
         }
     }
@@ -24,19 +19,23 @@ pub fn check_growths<'h>(alloc: Global, heap: &'h Heap, row: &Row<'_, 'h>) -> Re
 }
 
 /// Refuses the growth after so many others, and says whether there are so many.
-fn check_refused_growth<'h>(
+///
+/// - A command that finds no memory changes nothing, and is made afterwards. Of the refusals none but
+///   `Misread` may be hidden by it, and `Leans` of whole lines and of `uncomment`.
+/// - The text at the end is the expected one.
+/// - The end of a group, undoing all and redoing it take no memory.
+pub fn check_refused_growth<'h>(
     alloc: Global,
-    heap: &'h Heap,
+    heap: &Heap,
+    session: &mut Session<&'h Heap>,
     row: &Row<'_, 'h>,
     admitted: u64,
 ) -> Result<bool, Stop> {
-    heap.refuse_none();
-    let mut session = opened(alloc, heap, row)?;
     heap.refuse_one_after(admitted);
-    check_commands(alloc, heap, &mut session, row)?;
+    check_commands(alloc, heap, session, row)?;
     let is_refused = heap.has_refused();
     heap.refuse_all();
-    check_without_memory(alloc, heap, &mut session, row)?;
+    check_without_memory(alloc, heap, session, row)?;
     Ok(is_refused)
 }
 

@@ -1,6 +1,7 @@
 //! The plan of one edit, and the patch that it gives.
 ghost use Rattle.std.specs.Prelude.{IfOk};
 ghost use Rattle.mk_patch.specs.Moves.{FitMoves};
+ghost use Rattle.mk_tree.specs.Documents.{IsFaithful};
 
 use crate::checks::check_reply;
 use crate::document::{check_lines, parsed, text_of};
@@ -26,9 +27,6 @@ pub fn check_only_plan<'h>(alloc: Global, heap: &'h Heap, row: &Row<'_, 'h>) -> 
 }
 
 /// Plans the edit of a row of one edit on its makefile.
-///
-/// The plan reads no more lines than the edit costs, and refuses what the row expects to be refused. Its
-/// patch leads to the expected text and back, and there again.
 fn check_plan<'h>(
     alloc: Global,
     heap: &'h Heap,
@@ -38,36 +36,57 @@ fn check_plan<'h>(
 ) -> Result<(), Stop> {
     let mut meter = Meter::new();
     let mut doc = parsed(alloc, heap, row.makefile.as_slice(), &mut meter)?;
-    let read = meter.count();
-    let planned = plan(heap, &doc, edit, &mut meter);
-    let what = "the lines read by the plan";
-    at_most(alloc, what, row.cost, meter.count().saturating_sub(read))?;
+    check_planned(alloc, heap, row, reply, edit, &mut doc, meter)
+}
+
+/// The plan reads no more lines than the edit costs, and refuses what the row expects to be refused. Its
+/// patch leads to the expected text and back, and there again.
+fn check_planned<'h>(
+    alloc: Global,
+    heap: &'h Heap,
+    row: &Row<'_, 'h>,
+    reply: &str,
+    edit: &Edit<&'h Heap>,
+    doc: &mut Doc<&'h Heap>,
+    mut meter: Meter,
+) -> Result<(), Stop>
+    requires { IsFaithful doc.old }
+{
+    let before = meter.count();
+    let planned = plan(heap, doc, edit, &mut meter);
+    let read = meter.count().saturating_sub(before);
     match planned {
         Ok(patch) => {
-            same_word(alloc, "the reply of the plan", reply, "done")?;
-            check_sizes(alloc, row, &patch)?;
-            check_patch(alloc, row, &mut doc, patch)
+            check_accepted(alloc, row, reply, read, &patch)?;
+            check_patch(alloc, row, doc, patch)
         }
-        Err(refusal) => check_reply(alloc, "the reply of the plan", reply, Err(refusal)),
+        Err(refusal) => {
+            check_read(alloc, row, read)?;
+            check_reply(alloc, "the reply of the plan", reply, Err(refusal))
+        }
     }
 }
 
-/// Fails if a patch holds or takes more lines than its row says, and a line more: a last line gets a line
-/// end where a line is put in after it.
-fn check_sizes(alloc: Global, row: &Row<'_, '_>, patch: &Patch<&Heap>) -> Result<(), Stop> {
+/// Fails if a plan reads more lines than its row says.
+fn check_read(alloc: Global, row: &Row<'_, '_>, read: u64) -> Result<(), Stop> {
+    at_most(alloc, "the lines read by the plan", row.cost, read)
+}
+
+/// Fails if a row expects a refusal, or if its plan reads more lines than it says, or the patch holds or takes
+/// more, and a line more: a last line gets a line end where a line is put in after it.
+fn check_accepted(
+    alloc: Global,
+    row: &Row<'_, '_>,
+    reply: &str,
+    read: u64,
+    patch: &Patch<&Heap>,
+) -> Result<(), Stop> {
+    check_read(alloc, row, read)?;
+    same_word(alloc, "the reply of the plan", reply, "done")?;
     let (cost, size) = (one_more(row.cost), one_more(row.size));
-    at_most(
-        alloc,
-        "the lines held by the patch",
-        cost,
-        patch.held() as u64,
-    )?;
-    at_most(
-        alloc,
-        "the lines that the patch takes",
-        size,
-        patch.takes() as u64,
-    )
+    let (held, takes) = (patch.held() as u64, patch.takes() as u64);
+    at_most(alloc, "the lines held by the patch", cost, held)?;
+    at_most(alloc, "the lines that the patch takes", size, takes)
 }
 
 fn one_more(limit: Option<u64>) -> Option<u64> {

@@ -43,30 +43,29 @@ pub fn read_row<'a, 'h>(alloc: Global, heap: &'h Heap, columns: &[&'a str]) -> R
     let [depth, makefile, expected, cost, size, commands @ ..] = columns else {
         bail!("a row without its columns");
     };
-    // (the numbers first, and the texts in a function of their own: a way out drops what was read
-    // before)
+    // (the numbers first: a way out drops what was read before)
     let depth = depth.parse::<u32>().context("no depth")?;
     let cost = read_limit(cost)?;
     let size = read_limit(size)?;
-    let (makefile, expected) = read_texts(alloc, makefile, expected)?;
+    let commands = read_commands(alloc, heap, commands)?;
+    let makefile = unescape(alloc, makefile)?;
+    let expected = read_expected(alloc, expected)?;
     Ok(Row {
         depth,
         makefile,
         expected,
         cost,
         size,
-        commands: read_commands(alloc, heap, commands)?,
+        commands,
     })
 }
 
-/// The texts before and after the commands. The column of the second is `-` if there is none.
-fn read_texts(alloc: Global, makefile: &str, expected: &str) -> Result<(Vec<u8>, Option<Vec<u8>>)> {
-    let makefile = unescape(alloc, makefile)?;
-    if expected == "-" {
-        return Ok((makefile, None));
+/// The text after the commands, or none if the column is `-`.
+fn read_expected(alloc: Global, column: &str) -> Result<Option<Vec<u8>>> {
+    if column == "-" {
+        return Ok(None);
     }
-    let expected = unescape(alloc, expected)?;
-    Ok((makefile, Some(expected)))
+    Ok(Some(unescape(alloc, column)?))
 }
 
 /// A number of lines, or none if the column is `-`.
@@ -85,13 +84,21 @@ fn read_commands<'a, 'h>(
 ) -> Result<Vec<Expectation<'a, 'h>>> {
     let mut commands = Vec::new(alloc);
     for pair in columns.chunks(2) {
-        let [reply, command] = pair else {
-            bail!("a reply without its command");
-        };
-        let command = read_command(heap, &unescape(alloc, command)?)?;
-        commands.push(Expectation { command, reply })?;
+        commands.push(read_expectation(alloc, heap, pair)?)?;
     }
     Ok(commands)
+}
+
+fn read_expectation<'a, 'h>(
+    alloc: Global,
+    heap: &'h Heap,
+    pair: &[&'a str],
+) -> Result<Expectation<'a, 'h>> {
+    let [reply, command] = pair else {
+        bail!("a reply without its command");
+    };
+    let command = read_command(heap, &unescape(alloc, command)?)?;
+    Ok(Expectation { command, reply })
 }
 
 /// The command of the line of a script.

@@ -107,15 +107,20 @@ fn undos(rt: &HostRuntime, session: &mut Session) -> anyhow::Result<()> {
     told(rt, "undos", start, 0, undone)
 }
 
+// Edits a makefile, and undoes all.
+fn edited(rt: &HostRuntime, session: &mut Session) -> anyhow::Result<()> {
+    walked(rt, session)?;
+    prepared(session)?;
+    sets(rt, session)?;
+    assigns(rt, session)?;
+    renames(rt, session)?;
+    undos(rt, session)
+}
+
 /// Measures edits of a makefile.
-// The steps are functions of their own: in one, each way out would drop all that is live there, and
-// its proof would take most of the time of this crate's.
+// The steps are functions of their own, which borrow the session: each way out of a function that owns it
+// would drop it, and its proof would take most of the time of this crate's.
 pub(crate) fn measure(rt: &HostRuntime, text: &[u8]) -> anyhow::Result<()> {
     let mut session = opened(rt, text)?;
-    walked(rt, &session)?;
-    prepared(&mut session)?;
-    sets(rt, &mut session)?;
-    assigns(rt, &mut session)?;
-    renames(rt, &mut session)?;
-    undos(rt, &mut session)
+    edited(rt, &mut session)
 }

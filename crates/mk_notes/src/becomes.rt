@@ -143,23 +143,43 @@ fn misread_assignment<A: Allocator, B: Allocator + Copy>(
     let Class::Assign(assignment, _) = line.class() else {
         return Ok(None);
     };
-    let text = line.text();
-    let value = text.get(assignment.value.start..assignment.value.end);
-    let Some(value) = new_value(alloc, value.unwrap_or_default(), change)? else {
+    let (text, at) = (line.text(), assignment.value);
+    let Some(value) = new_value(alloc, part(text, at.start, at.end), change)? else {
         return Ok(None);
     };
-    let mut new = Vec::new(alloc);
-    new.extend_from_slice(text.get(..assignment.value.start).unwrap_or_default())?;
-    new.extend_from_slice(&value)?;
-    new.extend_from_slice(text.get(assignment.value.end..).unwrap_or_default())?;
-    let Some(doc) = opened(alloc, &new)? else {
-        return Ok(None);
+    let (front, rest) = (part(text, 0, at.start), part(text, at.end, text.len()));
+    let new = joined(alloc, front, &value, rest)?;
+    let is_read = reads_as(alloc, &new, &value)?;
+    Ok(if is_read { None } else { Some(new) })
+}
+
+// A value between two texts.
+fn joined<B: Allocator>(
+    alloc: B,
+    front: &[u8],
+    value: &[u8],
+    rest: &[u8],
+) -> Result<Vec<u8, B>, AllocError> {
+    let mut all = Vec::new(alloc);
+    push_all(&mut all, &[front, value, rest])?;
+    Ok(all)
+}
+
+// Puts some texts behind another.
+fn push_all<B: Allocator>(new: &mut Vec<u8, B>, texts: &[&[u8]]) -> Result<(), AllocError> {
+    for text in texts {
+        new.extend_from_slice(text)?;
+    }
+    Ok(())
+}
+
+// Whether a text reads as the line of an assignment of a value. So does one that is no document.
+fn reads_as<B: Allocator + Copy>(alloc: B, text: &[u8], value: &[u8]) -> Result<bool, AllocError> {
+    let Some(doc) = opened(alloc, text)? else {
+        return Ok(true);
     };
     let read = doc.get(0).and_then(|line| line.assignment());
-    if doc.len() == 1 && read.is_some_and(|it| inner(it.value()) == inner(&value)) {
-        return Ok(None);
-    }
-    Ok(Some(new))
+    Ok(doc.len() == 1 && read.is_some_and(|it| inner(it.value()) == inner(value)))
 }
 
 // The same of a text that is put in the place of another in a recipe line: the new line is cut in two, or goes
@@ -171,14 +191,32 @@ fn misread_recipe<B: Allocator + Copy>(
     to: &[u8],
 ) -> Result<Option<Vec<u8, B>>, AllocError> {
     let mut new = Vec::new(alloc);
-    new.extend_from_slice(line.get(..1).unwrap_or_default())?;
-    push_replaced(&mut new, line.get(1..).unwrap_or_default(), from, to)?;
+    push_recipe(&mut new, line, from, to)?;
     let Some(doc) = opened(alloc, &new)? else {
         return Ok(None);
     };
     if doc.len() == 1 && (is_open(line) || !is_open(&new)) {
         return Ok(None);
     }
+    first_text(alloc, &doc)
+}
+
+// Puts a recipe line behind a text, with `to` in the place of each occurrence of `from` behind its prefix.
+fn push_recipe<B: Allocator>(
+    new: &mut Vec<u8, B>,
+    line: &[u8],
+    from: &[u8],
+    to: &[u8],
+) -> Result<(), AllocError> {
+    new.extend_from_slice(part(line, 0, 1))?;
+    push_replaced(new, part(line, 1, line.len()), from, to)
+}
+
+// The text of the first line of a document.
+fn first_text<B: Allocator + Copy>(
+    alloc: B,
+    doc: &Doc<B>,
+) -> Result<Option<Vec<u8, B>>, AllocError> {
     let text = doc.get(0).map_or(b"".as_slice(), |line| line.text());
     Ok(Some(Vec::from_slice(alloc, text)?))
 }
@@ -191,18 +229,16 @@ fn new_value<B: Allocator + Copy>(
     change: LineRewrite<'_>,
 ) -> Result<Option<Vec<u8, B>>, AllocError> {
     let mut new = Vec::new(alloc);
-    match change {
-        LineRewrite::Prepend(text) => {
-            new.extend_from_slice(text)?;
-            new.extend_from_slice(if value.is_empty() { b"" } else { b" " })?;
-            new.extend_from_slice(value)?;
-        }
+    let space: &[u8] = if value.is_empty() { b"" } else { b" " };
+    let put = match change {
+        LineRewrite::Prepend(text) => push_all(&mut new, &[text, space, value]),
         LineRewrite::ReplaceWord { word, value: text } => {
-            push_with_words(&mut new, value, word, text)?
+            push_with_words(&mut new, value, word, text)
         }
-        LineRewrite::Substitute { from, to } => push_replaced(&mut new, value, from, to)?,
+        LineRewrite::Substitute { from, to } => push_replaced(&mut new, value, from, to),
         LineRewrite::InsertWord { .. } | LineRewrite::SetOperator(_) => return Ok(None),
-    }
+    };
+    put?;
     Ok(Some(new))
 }
 

@@ -3,6 +3,7 @@
 use crate::part::Part::{Makefile, Number, Words};
 use crate::text::Notes;
 use mk_edit_language::{Detail, Edit, Refusal};
+use mk_queries::Object;
 use std::alloc::{AllocError, Allocator};
 
 impl<'a, A: Allocator, B: Allocator + Copy> Notes<'a, A, B> {
@@ -36,22 +37,24 @@ impl<'a, A: Allocator, B: Allocator + Copy> Notes<'a, A, B> {
         refusal: Refusal,
     ) -> Result<(), AllocError> {
         let mut object = self.object("refusal", true)?;
-        object.number("number", usize::from(refusal.number()))?;
-        object.string("name", refusal.name())?;
-        match refusal.detail() {
-            Detail::Count(count) => object.number("detail", count as usize)?,
-            Detail::Field(field) => object.string("detail", field.name())?,
-            Detail::Nothing => {}
-        }
+        put_refusal(&mut object, refusal)?;
         match edit {
-            Some(edit) => {
-                self.asked(edit)?;
-                self.member(&mut object, "command")?;
-                self.sentence(edit, refusal)?;
-            }
+            Some(edit) => self.explain(&mut object, edit, refusal)?,
             None => self.plain_sentence(refusal)?,
         }
         self.end(object)
+    }
+
+    // Puts what an edit asks for into an object, and says what is so.
+    fn explain<C: Allocator>(
+        &mut self,
+        object: &mut Object<B>,
+        edit: &Edit<C>,
+        refusal: Refusal,
+    ) -> Result<(), AllocError> {
+        self.asked(edit)?;
+        self.member(object, "command")?;
+        self.sentence(edit, refusal)
     }
 
     // Puts a refusal as reports name it, at the end of its line.
@@ -81,5 +84,19 @@ impl<'a, A: Allocator, B: Allocator + Copy> Notes<'a, A, B> {
             _ => "there is no memory",
         };
         self.say(said, &[Makefile])
+    }
+}
+
+// Puts a refusal into an object, as reports name it.
+fn put_refusal<B: Allocator + Copy>(
+    object: &mut Object<B>,
+    refusal: Refusal,
+) -> Result<(), AllocError> {
+    object.number("number", usize::from(refusal.number()))?;
+    object.string("name", refusal.name())?;
+    match refusal.detail() {
+        Detail::Count(count) => object.number("detail", count as usize),
+        Detail::Field(field) => object.string("detail", field.name()),
+        Detail::Nothing => Ok(()),
     }
 }

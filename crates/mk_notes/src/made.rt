@@ -51,12 +51,12 @@ impl<B: Allocator + Copy> RunNotes<'_, B> {
         doc: &Doc<A>,
         edit: &Edit<C>,
     ) -> Result<Vec<u8, B>, AllocError> {
-        let mut notes = Notes::new(self.alloc, self.names, line, doc);
         let mut tally = match self.tally.take() {
             Some(tally) => tally,
             None => Tally::of(self.alloc, doc)?,
         };
         tally.follow(edit)?;
+        let mut notes = Notes::new(self.alloc, self.names, line, doc);
         let put = notes.made(&tally, &mut self.made, edit);
         self.tally = Some(tally);
         put?;

@@ -44,8 +44,8 @@ impl<'a, A: Allocator, B: Allocator + Copy> Notes<'a, A, B> {
         parts: &[Part<'_>],
     ) -> Result<(), AllocError> {
         if self.names.is_json {
-            let object = self.object("note", true)?;
             self.say(sentence, parts)?;
+            let object = self.object("note", true)?;
             return self.end(object);
         }
         self.script_line()?;

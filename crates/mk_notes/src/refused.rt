@@ -6,7 +6,7 @@
 use crate::address::{count_of, line_of, meant_by, name_in};
 use crate::line::{has_target, is_hidden, is_near};
 use crate::open_value::is_open_to;
-use crate::run_notes::RunNotes;
+use crate::run_notes::{RunNotes, Walks};
 use crate::text::Notes;
 use crate::whole_lines::{address_of_site, is_run_at, number_of_site, sought_by};
 use mk_class::Class;
@@ -53,13 +53,7 @@ impl<C: Allocator + Copy> RunNotes<'_, C> {
         refusal: Refusal,
     ) -> Result<Vec<u8, C>, AllocError> {
         let mut notes = Notes::new(self.alloc, self.names, line, doc);
-        notes.walks = self.refused.are_left();
-        notes.error(edit, refusal)?;
-        if let Some(edit) = edit {
-            if self.refused.may_walk(&mut notes)? {
-                notes.on_refusal(edit, refusal)?;
-            }
-        }
+        notes.refusal(&mut self.refused, edit, refusal)?;
         Ok(notes.into_text())
     }
 
@@ -77,16 +71,39 @@ impl<C: Allocator + Copy> RunNotes<'_, C> {
     ) -> Result<Vec<u8, C>, AllocError> {
         let mut notes = Notes::new(self.alloc, self.names, line, doc);
         if let Some(address) = meant_by(edit) {
-            if self.refused.may_walk(&mut notes)? && count_of(doc, address) == 0 {
-                let said = b"; did you mean one of these?";
-                notes.near(address, &[b"`try` finds no ", name_in(address), said])?;
-            }
+            notes.passed_over(&mut self.refused, address)?;
         }
         Ok(notes.into_text())
     }
 }
 
 impl<'a, A: Allocator, C: Allocator + Copy> Notes<'a, A, C> {
+    // Puts the line on a refusal, and the notes below it.
+    fn refusal<B: Allocator>(
+        &mut self,
+        walks: &mut Walks,
+        edit: Option<&Edit<B>>,
+        refusal: Refusal,
+    ) -> Result<(), AllocError> {
+        self.walks = walks.are_left();
+        self.error(edit, refusal)?;
+        if let Some(edit) = edit {
+            if walks.may_walk(self)? {
+                self.on_refusal(edit, refusal)?;
+            }
+        }
+        Ok(())
+    }
+
+    // Puts the notes on the lines of names that are spelled like that of an address, if none has that.
+    fn passed_over(&mut self, walks: &mut Walks, address: Address<'_>) -> Result<(), AllocError> {
+        if walks.may_walk(self)? && count_of(self.doc, address) == 0 {
+            let said = b"; did you mean one of these?";
+            self.near(address, &[b"`try` finds no ", name_in(address), said])?;
+        }
+        Ok(())
+    }
+
     // Puts the notes on a refusal of an edit.
     fn on_refusal<B: Allocator>(
         &mut self,

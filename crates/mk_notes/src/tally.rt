@@ -6,7 +6,7 @@ use mk_class::Flavor;
 use mk_edit_language::{EachEdit, Edit, LineChange, Place};
 use mk_edit_parts::address::Address;
 use mk_index::bucket::hash_of;
-use mk_tree::{Doc, WordTexts};
+use mk_tree::{Doc, Line, WordTexts};
 use std::alloc::{AllocError, Allocator};
 use std::collections::BTreeMap;
 
@@ -43,20 +43,32 @@ impl<A: Allocator + Copy> Tally<A> {
             is_doubtful: false,
         };
         for line in doc.iter() {
-            tally.is_doubtful = tally.is_doubtful || is_doubtful(line);
-            if let Some(name) = line.define() {
-                tally.add(Use::Variable, name, 1)?;
-            }
-            if let Some(assignment) = line.assignment() {
-                tally.assign(assignment.name(), assignment.flavor())?;
-            }
-            if let Some(rule) = line.rule() {
-                for target in rule.targets() {
-                    tally.add(Use::Target, target, 1)?;
-                }
-            }
+            tally.count_line(line)?;
         }
         Ok(tally)
+    }
+
+    // Counts a line.
+    fn count_line<B: Allocator>(&mut self, line: &Line<B>) -> Result<(), AllocError> {
+        self.is_doubtful = self.is_doubtful || is_doubtful(line);
+        if let Some(name) = line.define() {
+            self.add(Use::Variable, name, 1)?;
+        }
+        if let Some(assignment) = line.assignment() {
+            self.assign(assignment.name(), assignment.flavor())?;
+        }
+        match line.rule() {
+            Some(rule) => self.add_targets(rule.targets()),
+            None => Ok(()),
+        }
+    }
+
+    // Counts a line of a rule for these targets.
+    fn add_targets(&mut self, targets: WordTexts<'_>) -> Result<(), AllocError> {
+        for target in targets {
+            self.add(Use::Target, target, 1)?;
+        }
+        Ok(())
     }
 
     /// Counts the lines of an edit that was made: those that it has put in, and those that it has taken
@@ -83,12 +95,7 @@ impl<A: Allocator + Copy> Tally<A> {
             Edit::RemoveAssign { name, .. }
             | Edit::CommentOut { name, .. }
             | Edit::Uncomment { name, .. } => self.assign(name, Flavor::Conditional),
-            Edit::AddRule { targets, .. } => {
-                for target in WordTexts::new(targets) {
-                    self.add(Use::Target, target, 1)?;
-                }
-                Ok(())
-            }
+            Edit::AddRule { targets, .. } => self.add_targets(WordTexts::new(targets)),
             Edit::RemoveRule { target, .. } => self.add(Use::Target, target, 1),
             // New lines may be of any class, and others may be in another conditional.
             Edit::ExchangeLines { .. } => {

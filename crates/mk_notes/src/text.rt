@@ -83,13 +83,24 @@ impl<'a, A: Allocator, B: Allocator + Copy> Notes<'a, A, B> {
     ) -> Result<Object<B>, AllocError> {
         let lines = mem::replace(&mut self.json, Vec::new(self.alloc));
         let mut object = Object::begin(self.alloc, lines)?;
+        self.begin(&mut object, kind, is_on_script)?;
+        Ok(object)
+    }
+
+    // Puts the first members of an object.
+    fn begin(
+        &self,
+        object: &mut Object<B>,
+        kind: &str,
+        is_on_script: bool,
+    ) -> Result<(), AllocError> {
         object.string("kind", kind)?;
         object.string("file", self.names.makefile)?;
         if is_on_script {
             object.string("script", self.names.script)?;
             object.number("line", self.line as usize)?;
         }
-        Ok(object)
+        Ok(())
     }
 
     /// Puts what was said into an object as a member, if anything was.
@@ -111,8 +122,8 @@ impl<'a, A: Allocator, B: Allocator + Copy> Notes<'a, A, B> {
     /// Puts a note on the line of the script.
     pub(crate) fn script(&mut self, said: &[&[u8]]) -> Result<(), AllocError> {
         if self.names.is_json {
-            let object = self.object("note", true)?;
             self.push(said)?;
+            let object = self.object("note", true)?;
             return self.end(object);
         }
         self.script_line()?;
@@ -152,14 +163,24 @@ impl<'a, A: Allocator, B: Allocator + Copy> Notes<'a, A, B> {
     // Puts the object on a line of the makefile, with the same parts.
     fn line_object(&mut self, at: Position, line: &Line<A>) -> Result<(), AllocError> {
         let mut object = self.object("note", false)?;
+        self.line_members(&mut object, at, line)?;
+        self.end(object)
+    }
+
+    // Puts the members of this object, and says what the line is.
+    fn line_members(
+        &mut self,
+        object: &mut Object<B>,
+        at: Position,
+        line: &Line<A>,
+    ) -> Result<(), AllocError> {
         object.number("line", at.number)?;
         self.excerpt(line.text())?;
-        self.member(&mut object, "text")?;
+        self.member(object, "text")?;
         if let Some(start) = BranchStart::of(self.doc, at) {
             object.number("branch", start.line.number)?;
         }
-        self.push(&[kind(line).unwrap_or("").as_bytes()])?;
-        self.end(object)
+        self.push(&[kind(line).unwrap_or("").as_bytes()])
     }
 
     /// Puts the notes on some lines of the makefile: on the first ten, and how many more there are. Before
@@ -203,8 +224,8 @@ impl<'a, A: Allocator, B: Allocator + Copy> Notes<'a, A, B> {
             let mut digits = itoa::Buffer::new();
             let more = digits.format(count - MOST_LINES).as_bytes();
             if self.names.is_json {
-                let object = self.object("note", false)?;
                 self.push(&[b"and ", more, b" more"])?;
+                let object = self.object("note", false)?;
                 self.end(object)?;
             } else {
                 self.makefile()?;

@@ -1,6 +1,6 @@
 -- One command more that was answered.
 use Rattle.std.proofs.Common.{◌≡◌, refl, sym, ap, ◌∙◌, subst, ℕ, List, [], ◌∷◌, ◌++◌, append_assoc, inl, inr}
-use Rattle.std.specs.Prelude.{Option, None, Some, ⊤}
+use Rattle.std.specs.Prelude.{Option, None, Some, ⊤, Result, Ok, Err, OnOk}
 use Rattle.std.specs.Io.KnownBytes.{Appends, Keeps, IsAtEnd}
 use Rattle.std.specs.List.{AllByRecursion}
 use Rattle.std.proofs.KnownBytes.{Appends-kept, Appends-nil, Appends-trans}
@@ -47,6 +47,12 @@ ends (Some xs) (Some ys) commands h e = h ∙ ap (λ t. commands ++ commands_in 
 -- what went out stays so where nothing more goes out
 pub says-kept : (a b c : Option (List ℕ)) (Says : List ℕ → Type 0) → SaysOut a b Says → Keeps b c → SaysOut a c Says
 says-kept a b c Says (text, is_out, says) kept = (text, Appends-kept a b c text is_out kept, says)
+
+-- the same behind a result
+pub says-on_ok : {T E : Type 0} (result : Result T E) (a b c : Option (List ℕ)) (Says : List ℕ → Type 0) → SaysOut a b Says → Keeps b c
+    → OnOk result (SaysOut a c Says)
+says-on_ok (Ok t) a b c Says said kept = says-kept a b c Says said kept
+says-on_ok (Err e) a b c Says said kept = tt
 
 -- ---- what is said before lines of blocks
 

@@ -13,4 +13,5 @@ pub mod SessionReplies
 pub mod StandingScripts
 pub mod Talks
 -- # Vocabulary of private contracts
+pub mod Answered
 pub mod CommandLogs

@@ -27,12 +27,6 @@ abbrev pub IsLeft : {A : Type 0} → Opened → Asked → (is_done : Bool) → (
 IsLeft opened asked is_done text old new =
     left_with opened new ≡ (if writes opened asked && is_done then text else left_with opened old)
 
--- the same of a line that asks for this, if it does
-abbrev pub IsLeftBy : {A : Type 0} → Opened → Option Asked → (text : List ℕ)
-    → (old new : Option (Vec ℕ A)) → Type 0
-IsLeftBy opened None text old new = new ≡ old
-IsLeftBy opened (Some asked) text old new = (is_done : Bool) × IsLeft opened asked is_done text old new
-
 -- A `quit` may be done: right after one that was not, or where the makefile was left with the text.
 abbrev pub MayQuit : (is_warned : Bool) → (left text : List ℕ) → Type 0
 MayQuit is_warned left text = (is_warned ≡ true) ⊎ (text ≡ left)

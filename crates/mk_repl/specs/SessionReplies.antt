@@ -1,10 +1,12 @@
 -- What a makefile that is open replies to a command by the protocol, and what is shown after it. Its text is
 -- a line, or a line and below it those of its blocks.
 -- Told in docs/PROTOCOL.md, "Replies" and "Requests".
-use Rattle.std.specs.Prelude.{◌≡◌, ◌≢◌, ◌⊎◌, ℕ, Bool, true, false, ◌&&◌, if◌then◌else◌, List, ◌++◌, Option, Some, None, Result, Ok, Err, Vec, IfOk, IfSome, is_ok, is_some, option_and_then, codes}
+use Rattle.std.specs.Prelude.{◌≡◌, ◌≢◌, ◌⊎◌, ⊤, ℕ, Bool, true, false, ◌&&◌, if◌then◌else◌, List, ◌++◌, Option, Some, None, Result, Ok, Err, Vec, IfOk, IfSome, is_ok, is_some, option_and_then, codes}
 use Rattle.mk_edit_language.specs.declared.refusal.Refusal.TheVariants.{GroupOpen}
 use Rattle.mk_history.specs.Shown.{Shown}
+use Rattle.mk_cli.specs.declared.request.Query.{Query}
 use Rattle.mk_repl.specs.AnswerLines.{answer_lines, lines_between}
+use Rattle.mk_repl.specs.QueryTexts.{query_text}
 use Rattle.mk_repl.specs.Replies.{IsLineExecuted, reply_to}
 use Rattle.mk_repl.specs.Requests.{Asked, Print, Of, Word, request_in}
 use Rattle.mk_repl.specs.Reverted.{undone}
@@ -54,7 +56,25 @@ answer_for_person text (Of of.Recipes target) =
     Some (recipes_text (Some target) (document_lines text))
 answer_for_person text other = None
 
--- the same in the form in which the makefile was opened
+-- the lines that a request asks for by their numbers, if it does
+abbrev pub answer_printed : (text : List ℕ) → Asked → Option (List ℕ)
+answer_printed text (Print from to) = Some (lines_between from to text)
+answer_printed text other = None
+
+-- what holds of `script`
+abbrev pub IfScript : Asked → Type 0 → Type 0
+IfScript (Word word.Script) P = P
+IfScript other P = ⊤
+
+-- A query has the answer to a request, which is not `script`; or none has it, and the answer is known only
+-- where it is lines that are asked for by their numbers.
+abbrev pub IsListed : Asked → Option Query → Type 0
+IsListed asked (Some query) =
+    IfScript asked ⊥
+    × ((text : List ℕ) → answer_for_person text asked ≡ query_text query (document_lines text))
+IsListed asked None = (text : List ℕ) → answer_for_person text asked ≡ answer_printed text asked
+
+-- the answer for a person in the form in which the makefile was opened
 abbrev pub answer_in : Opened → (text : List ℕ) → Asked → Option (List ℕ)
 answer_in opened text asked = option_and_then (in_form opened.form) (answer_for_person text asked)
 
@@ -63,7 +83,7 @@ abbrev pub HasAnswer : (wanted : Option (List ℕ)) → Result (List ℕ) NotDon
 HasAnswer wanted result = IfSome wanted (λ text. IfOk result (λ answer. answer ≡ text))
 
 -- a script is answered for a person: it makes the text that is shown of the one that was opened
-abbrev HasScript : Opened → (text : List ℕ) → Result (List ℕ) NotDone → Type 0
+abbrev pub HasScript : Opened → (text : List ℕ) → Result (List ℕ) NotDone → Type 0
 HasScript opened text result =
     opened.form ≡ Text → IfOk result (λ script. MakesText script opened.text.items text)
 

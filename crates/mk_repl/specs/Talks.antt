@@ -3,10 +3,12 @@
 -- lines are not read comes to: before it, why, the reply, and after it; and what handling a command comes
 -- to: before it, its text, the reply, whether the talk goes on, and after it.
 -- Told in docs/PROTOCOL.md, "Lines", "Blocks" and "Replies".
-use Rattle.std.specs.Prelude.{◌≡◌, ◌⊎◌, ℕ, List, [], ◌∷◌, ◌++◌, Option, IfSome, codes}
+use Rattle.std.specs.Prelude.{◌≡◌, ◌⊎◌, ℕ, Bool, true, false, List, [], ◌∷◌, ◌++◌, Option, IfSome, Result, IfErr, IfOk, OnOk, codes}
 use Rattle.std.specs.Io.KnownBytes.{Appends, IsAtEnd}
 use Rattle.std.specs.List.{AllByRecursion}
 use Rattle.mk_lines.specs.Lists.{concat}
+use Rattle.mk_lines.specs.declared.fault.Fault.{Fault}
+use Rattle.mk_lines.specs.declared.fault.Fault.TheVariants.{Write}
 use Rattle.mk_repl.specs.CommandLines.{IsUnread, LosesCommand, commands_in}
 use Rattle.mk_repl.specs.InputLines.{IsShort}
 use Rattle.mk_repl.specs.declared.command_lines.Unread.{Unread}
@@ -26,6 +28,13 @@ unread_reply NoMemory = codes "fault no memory\n"
 -- A text went out, of which this holds.
 abbrev pub SaysOut : (before after : Option (List ℕ)) → (Says : List ℕ → Type 0) → Type 0
 SaysOut before after Says = (text : List ℕ) × Appends before after text × Says text
+
+-- A text went out of a sink, of which this holds with the value that is answered; or the sink failed.
+pub record Tells {S T : Type 0} (contents : S → Option (List ℕ)) (failed : S → Bool) (old new : S)
+    (result : Result T Fault) (Says : T → List ℕ → Type 0) : Type 0 where
+  pub said : IfOk result (λ value. SaysOut (contents old) (contents new) (Says value))
+  pub fault : IfErr result (λ fault. (fault ≡ Write) × (failed new ≡ true))
+  pub works : OnOk result (failed new ≡ false)
 
 -- The commands of a source, if its bytes are known, are first these, and then others.
 abbrev pub BeginsWith : (bytes : Option (List ℕ)) → (commands rest : List (List (List ℕ))) → Type 0

@@ -79,6 +79,23 @@ impl<'a, A: Allocator> CommandLines<'a, A> {
         }
     }
 
+    // The words that are waited for behind a line, which may be the first of them.
+    fn words_behind(line: &[u8], words: &'a [&'a [u8]]) -> &'a [&'a [u8]]
+        requires { IsShort line.now }
+        ensures { map bytes result.now ≡ waited_behind line.now (map bytes words.now) }
+    {
+        match words {
+            [word, others @ ..] => {
+                if line_text(line) == *word {
+                    others
+                } else {
+                    words
+                }
+            }
+            [] => words,
+        }
+    }
+
     /// Takes the next line, which may end the block that is open.
     pub(crate) fn take(&mut self, line: &[u8])
         requires { IsShort line.now }
@@ -86,11 +103,7 @@ impl<'a, A: Allocator> CommandLines<'a, A> {
         ensures read { Takes (line.now ∷ []) self.old self.new }
     {
         self.put(line);
-        if let [word, others @ ..] = self.words {
-            if line_text(line) == *word {
-                self.words = others;
-            }
-        }
+        self.words = Self::words_behind(line, self.words);
     }
 
     /// Takes note that the next line is too long.

@@ -38,11 +38,13 @@ impl Member {
     fn push(&mut self, command: &[u8], edit: Edit) -> Result<(), AllocError>
         ensures { OnOk result (edits_of self.new ≡ edits_of self.old ++ edit_of edit ∷ []) }
     {
-        push_command(&mut self.line, &mut self.below, command)?;
-        if self.edits.push(edit).is_err() {
-            return Err(AllocError);
+        match self.edits.push(edit) {
+            Ok(()) => {
+                push_command(&mut self.line, &mut self.below, command)?;
+                Ok(())
+            }
+            Err(_) => Err(AllocError),
         }
-        Ok(())
     }
 
     // The group is ended.
@@ -159,12 +161,14 @@ impl CommandLog {
         ensures closes { OnOk result (Closes (edits_of member) self.old self.new) }
         ensures same { IsOfLog self.old self.new }
     {
-        if self.done.push(member).is_err() {
-            return Err(AllocError);
+        match self.done.push(member) {
+            Ok(()) => {
+                let beyond = self.done.len().saturating_sub(self.depth);
+                self.floor = self.floor.max(beyond);
+                Ok(())
+            }
+            Err(_) => Err(AllocError),
         }
-        let beyond = self.done.len().saturating_sub(self.depth);
-        self.floor = self.floor.max(beyond);
-        Ok(())
     }
 
     // An edit was made by this command. What was undone cannot be redone any more.

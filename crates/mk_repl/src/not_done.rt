@@ -1,7 +1,7 @@
 //! Why a request is not done, and what is said of that.
-ghost use Rattle.std.specs.Prelude.{◌≡◌, false};
+ghost use Rattle.std.specs.Prelude.{◌≡◌, List, ℕ, false};
 ghost use Rattle.mk_lines.specs.Device.{Writes};
-ghost use Rattle.mk_repl.specs.SessionFaults.{fault_text};
+ghost use Rattle.mk_repl.specs.SessionFaults.{fault_text, said_text};
 ghost use Rattle.mk_repl.specs.declared.not_done.NotDone.TheVariants.{NoMemory};
 
 use mk_escape::write_name;
@@ -44,6 +44,35 @@ impl From<AllocError> for NotDone {
     }
 }
 
+// What a reply says of a request that is not done.
+#[derive(Clone, Copy)]
+enum Said {
+    // What a report says of a refusal.
+    Refusal(Refusal),
+    // A text.
+    Text(&'static [u8]),
+    // A text, the name of a file, and another text.
+    Named(&'static [u8], &'static [u8]),
+}
+
+// What a reply says of a request that is not done.
+fn said_of(not_done: NotDone) -> Said
+    ensures { (name : List ℕ) → said_text result name ≡ fault_text not_done name }
+{
+    match not_done {
+        NotDone::Refused(refusal) => Said::Refusal(refusal),
+        NotDone::NotACommand => Said::Text(b"fault not a command\n"),
+        NotDone::NoMemory => Said::Text(b"fault no memory\n"),
+        NotDone::NoRefusal => Said::Text(b"fault no such refusal\n"),
+        NotDone::NoCommand => Said::Text(b"fault no such command\n"),
+        NotDone::CannotRead => Said::Named(b"fault cannot read ", b"\n"),
+        NotDone::CannotWrite => Said::Named(b"fault cannot write ", b"\n"),
+        NotDone::HasChanged => Said::Named(b"fault ", b" has changed\n"),
+        NotDone::BeyondDepth => Said::Text(b"fault edits beyond the depth\n"),
+        NotDone::Unwritten => Said::Text(b"fault unwritten changes\n"),
+    }
+}
+
 /// Writes the reply on a request that is not done, with the name of a makefile, whose control characters are
 /// escaped: a reply is one line.
 ///
@@ -55,16 +84,9 @@ pub fn put_fault<W: ByteSink>(not_done: NotDone, name: &[u8], out: &mut W) -> Re
     ensures { Writes W.contents W.failed W.flushes out.old out.new result
         (fault_text not_done name.now) }
 {
-    match not_done {
-        NotDone::Refused(refusal) => write_refusal(out, refusal),
-        NotDone::NotACommand => write_all(out, b"fault not a command\n"),
-        NotDone::NoMemory => write_all(out, b"fault no memory\n"),
-        NotDone::NoRefusal => write_all(out, b"fault no such refusal\n"),
-        NotDone::NoCommand => write_all(out, b"fault no such command\n"),
-        NotDone::CannotRead => write_name(out, b"fault cannot read ", name, b"\n"),
-        NotDone::CannotWrite => write_name(out, b"fault cannot write ", name, b"\n"),
-        NotDone::HasChanged => write_name(out, b"fault ", name, b" has changed\n"),
-        NotDone::BeyondDepth => write_all(out, b"fault edits beyond the depth\n"),
-        NotDone::Unwritten => write_all(out, b"fault unwritten changes\n"),
+    match said_of(not_done) {
+        Said::Refusal(refusal) => write_refusal(out, refusal),
+        Said::Text(text) => write_all(out, text),
+        Said::Named(before, behind) => write_name(out, before, name, behind),
     }
 }

@@ -1,16 +1,18 @@
 //! The replies of a makefile that is open, by the protocol.
-ghost use Rattle.std.specs.Prelude.{◌≡◌, ◌⊎◌, false, true, [], Err, IfErr, IfOk, IsOkAnd, Ok, OnOk, Some, is_ok};
+ghost use Rattle.std.specs.Prelude.{◌≡◌, ◌⊎◌, false, true, [], Err, IfErr, IfOk, IsOkAnd, Ok, Some, is_ok};
 ghost use Rattle.mk_repl.specs.AnswerLines.{answer_lines};
-ghost use Rattle.mk_repl.specs.Quits.{IsLeftBy, IsWarned, MayQuit, left_with};
-ghost use Rattle.mk_repl.specs.Requests.{Word, request_in};
-ghost use Rattle.mk_repl.specs.Talks.{SaysOut, greeting, unread_reply};
+ghost use Rattle.mk_repl.specs.Quits.{IsWarned, MayQuit, left_with};
+ghost use Rattle.mk_repl.specs.Requests.{Word, asked_of, request_in};
+ghost use Rattle.mk_repl.specs.Replies.{reply_to};
+ghost use Rattle.mk_repl.specs.SessionFaults.{fault_text};
+ghost use Rattle.mk_repl.specs.Talks.{Tells, greeting, unread_reply};
 ghost use Rattle.mk_repl.specs.SessionReplies.{IsHandled, IsOtherAnswered, IsReplyTo, answer_text};
 
 use crate::not_done::{NotDone, put_fault};
 use crate::server::Server;
 use crate::{
-    After, Executed, Handler, RequestWord, Unread, answer_lines, read_request, write_greeting,
-    write_reply, write_unread,
+    After, Executed, Handler, Request, RequestWord, Unread, answer_lines, read_request,
+    write_greeting, write_reply, write_unread,
 };
 use mk_lines::sink::{write_all, write_parts};
 use mk_lines::{ByteSink, Fault};
@@ -40,10 +42,8 @@ impl Server<'_> {
         out: &mut W,
     ) -> Result<(), Fault>
         requires { W.failed out.old ≡ false }
-        ensures said { OnOk result (SaysOut (W.contents out.old) (W.contents out.new)
-            (IsReplyTo name.now (answer_text answer))) }
-        ensures fault { IfErr result (λ fault. (fault ≡ Fault.Write) × (W.failed out.new ≡ true)) }
-        ensures works { OnOk result (W.failed out.new ≡ false) }
+        ensures { Tells W.contents W.failed out.old out.new result
+            (λ _. IsReplyTo name.now (answer_text answer)) }
     {
         match self.quoted(answer) {
             Ok(lines) => write_parts(out, &[lines.as_slice(), b"ok\n"]),
@@ -51,54 +51,87 @@ impl Server<'_> {
         }
     }
 
-    // Replies to a text that is no command.
-    fn answer_other<W: ByteSink>(&mut self, text: &[u8], out: &mut W) -> Result<After, Fault>
+    // Replies to a text that is neither a command nor a request.
+    fn answer_nothing<W: ByteSink>(&mut self, out: &mut W) -> Result<After, Fault>
         requires { W.failed out.old ≡ false }
-        ensures said { IfOk result (λ after. SaysOut (W.contents out.old) (W.contents out.new) (λ reply.
-            IsOtherAnswered (request_in text.now) self.old.opened self.old.session.shown reply after
-            self.new.session.shown)) }
+        ensures told { Tells W.contents W.failed out.old out.new result (λ after reply.
+            (reply ≡ fault_text NotDone.NotACommand []) × (after ≡ After.GoesOn)) }
+        ensures session { self.new.session ≡ self.old.session }
         ensures opened { self.new.opened ≡ self.old.opened }
-        ensures quit { result ≡ Ok After.Ends → request_in text.now ≡ Some (Word RequestWord.Quit)
+        ensures warned { self.new.is_warned ≡ false }
+    {
+        self.forget_quit();
+        put_fault(NotDone::NotACommand, b"", out)?;
+        Ok(After::GoesOn)
+    }
+
+    // Replies to a request.
+    fn answer_request<W: ByteSink>(
+        &mut self,
+        request: Request<'_>,
+        out: &mut W,
+    ) -> Result<After, Fault>
+        requires { W.failed out.old ≡ false }
+        ensures told { Tells W.contents W.failed out.old out.new result (λ after reply.
+            IsOtherAnswered (Some (asked_of request.entry)) self.old.opened self.old.session.shown reply
+            after self.new.session.shown) }
+        ensures opened { self.new.opened ≡ self.old.opened }
+        ensures quit { result ≡ Ok After.Ends → asked_of request.entry ≡ Word RequestWord.Quit
             → MayQuit self.old.is_warned (left_with self.old.opened self.old.written)
             self.new.session.shown.text }
-        ensures left { IsLeftBy self.old.opened (request_in text.now) self.new.session.shown.text
-            self.old.written self.new.written }
-        ensures warned { self.new.is_warned ≡ true
-            → request_in text.now ≡ Some (Word RequestWord.Quit) }
-        ensures fault { IfErr result (λ fault. (fault ≡ Fault.Write) × (W.failed out.new ≡ true)) }
-        ensures works { OnOk result (W.failed out.new ≡ false) }
+        ensures warned { self.new.is_warned ≡ true → asked_of request.entry ≡ Word RequestWord.Quit }
     {
-        let Some(request) = read_request(text) else {
-            self.forget_quit();
-            put_fault(NotDone::NotACommand, self.name().as_bytes(), out)?;
-            return Ok(After::GoesOn);
-        };
         let asked = self.ask(request);
         self.put_answer(asked.answer, self.file_of(request), out)?;
         Ok(asked.after)
     }
 
-    // Replies to a text, which is a line, or a line and below it those of its blocks.
-    fn answer_to<W: ByteSink>(&mut self, text: &[u8], out: &mut W) -> Result<After, Fault>
+    // Replies to a text that is no command.
+    fn answer_other<W: ByteSink>(&mut self, text: &[u8], out: &mut W) -> Result<After, Fault>
         requires { W.failed out.old ≡ false }
-        ensures said { IfOk result (λ after. SaysOut (W.contents out.old) (W.contents out.new) (λ reply.
-            IsHandled text.now self.old.opened self.old.session.shown reply after
-            self.new.session.shown
-            × IsWarned (request_in text.now) reply self.old.is_warned self.new.is_warned
-            × (self.new.opened ≡ self.old.opened))) }
+        ensures told { Tells W.contents W.failed out.old out.new result (λ after reply.
+            IsOtherAnswered (request_in text.now) self.old.opened self.old.session.shown reply after
+            self.new.session.shown) }
+        ensures opened { self.new.opened ≡ self.old.opened }
         ensures quit { result ≡ Ok After.Ends → request_in text.now ≡ Some (Word RequestWord.Quit)
             → MayQuit self.old.is_warned (left_with self.old.opened self.old.written)
             self.new.session.shown.text }
-        ensures fault { IfErr result (λ fault. (fault ≡ Fault.Write) × (W.failed out.new ≡ true)) }
-        ensures works { OnOk result (W.failed out.new ≡ false) }
+        ensures warned { self.new.is_warned ≡ true
+            → request_in text.now ≡ Some (Word RequestWord.Quit) }
     {
-        let executed = self.execute(text);
-        if executed == Executed::NoCommand {
-            return self.answer_other(text, out);
+        match read_request(text) {
+            Some(request) => self.answer_request(request, out),
+            None => self.answer_nothing(out),
         }
-        write_reply(executed, out)?;
-        Ok(After::GoesOn)
     }
+
+    // Replies to a text, which is a line, or a line and below it those of its blocks.
+    fn answer_to<W: ByteSink>(&mut self, text: &[u8], out: &mut W) -> Result<After, Fault>
+        requires { W.failed out.old ≡ false }
+        ensures told { Tells W.contents W.failed out.old out.new result (λ after reply.
+            IsHandled text.now self.old.opened self.old.session.shown reply after
+            self.new.session.shown
+            × IsWarned (request_in text.now) reply self.old.is_warned self.new.is_warned
+            × (self.new.opened ≡ self.old.opened)) }
+        ensures quit { result ≡ Ok After.Ends → request_in text.now ≡ Some (Word RequestWord.Quit)
+            → MayQuit self.old.is_warned (left_with self.old.opened self.old.written)
+            self.new.session.shown.text }
+    {
+        match self.execute(text) {
+            Executed::NoCommand => self.answer_other(text, out),
+            executed => answer_command(executed, out),
+        }
+    }
+}
+
+// Replies to a command of which this came.
+fn answer_command<W: ByteSink>(executed: Executed, out: &mut W) -> Result<After, Fault>
+    requires { W.failed out.old ≡ false }
+    ensures { Tells W.contents W.failed out.old out.new result (λ after reply.
+        (reply ≡ reply_to executed) × (after ≡ After.GoesOn)) }
+{
+    write_reply(executed, out)?;
+    Ok(After::GoesOn)
 }
 
 impl Handler for Server<'_> {

@@ -1,5 +1,6 @@
 //! What a line asks for that is no command of a script.
-ghost use Rattle.std.specs.Prelude.{◌≡◌, ◌≤◌, length, option_map};
+ghost use Rattle.std.specs.Prelude.{◌≡◌, ◌≤◌, length, map, option_map};
+ghost use Rattle.mk_script.specs.WordReading.{named};
 ghost use Rattle.mk_repl.specs.Requests.{after_word, asked_of, before_word, first_word, gap_length, is_gap, number, print_between};
 ghost use Rattle.mk_repl.specs.Requests.{get_nth, request_alone, request_by, request_in, request_named, request_of_named, request_with, word_length};
 
@@ -73,37 +74,36 @@ const PRINT: &[u8] = b"print";
 
 const NTH: &[u8] = b"nth";
 
-const EXPLAIN: &[u8] = b"explain";
-
-const HELP: &[u8] = b"help";
-
 const GET: &[u8] = b"get";
 
-const DIFF: &[u8] = b"diff";
+// The requests of one word.
+const WORDS: [(RequestWord, &[u8]); 14] = [
+    (RequestWord::Diff, b"diff"),
+    (RequestWord::Vars, b"vars"),
+    (RequestWord::Rules, b"rules"),
+    (RequestWord::Recipes, b"recipes"),
+    (RequestWord::Check, b"check"),
+    (RequestWord::Caveats, b"caveats"),
+    (RequestWord::Write, b"write"),
+    (RequestWord::WriteAnyway, b"write!"),
+    (RequestWord::History, b"history"),
+    (RequestWord::Script, b"script"),
+    (RequestWord::Help, b"help"),
+    (RequestWord::Revert, b"revert"),
+    (RequestWord::Quit, b"quit"),
+    (RequestWord::QuitAnyway, b"quit!"),
+];
 
-const VARS: &[u8] = b"vars";
-
-const RULES: &[u8] = b"rules";
-
-const RECIPES: &[u8] = b"recipes";
-
-const CHECK: &[u8] = b"check";
-
-const CAVEATS: &[u8] = b"caveats";
-
-const WRITE: &[u8] = b"write";
-
-const WRITE_ANYWAY: &[u8] = b"write!";
-
-const HISTORY: &[u8] = b"history";
-
-const SCRIPT: &[u8] = b"script";
-
-const REVERT: &[u8] = b"revert";
-
-const QUIT: &[u8] = b"quit";
-
-const QUIT_ANYWAY: &[u8] = b"quit!";
+// The first words of the requests of two words.
+const FIRST_WORDS: [(RequestOf, &[u8]); 7] = [
+    (RequestOf::Explain, b"explain"),
+    (RequestOf::Help, b"help"),
+    (RequestOf::Get, GET),
+    (RequestOf::Vars, b"vars"),
+    (RequestOf::Rules, b"rules"),
+    (RequestOf::Recipes, b"recipes"),
+    (RequestOf::Write, b"write"),
+];
 
 // The most digits that a number may have.
 const MOST_DIGITS: usize = 9;
@@ -164,64 +164,31 @@ fn number(word: &[u8]) -> Option<u64>
     Some(value)
 }
 
+// What the first row of a table with this word has.
+fn named<K: Copy>(mut table: &[(K, &[u8])], word: &[u8]) -> Option<K>
+    ensures { result ≡ named (map (λ row. (row.0, row.1.now)) table.entry.now) word.now }
+{
+    while let [row, rest @ ..] = table {
+        if word == row.1 {
+            return Some(row.0);
+        }
+        table = rest;
+    }
+    None
+}
+
 // The request of one word that a word is.
 fn request_named(word: &[u8]) -> Option<RequestWord>
     ensures { result ≡ request_named word.now }
 {
-    if word == DIFF {
-        Some(RequestWord::Diff)
-    } else if word == VARS {
-        Some(RequestWord::Vars)
-    } else if word == RULES {
-        Some(RequestWord::Rules)
-    } else if word == RECIPES {
-        Some(RequestWord::Recipes)
-    } else if word == CHECK {
-        Some(RequestWord::Check)
-    } else if word == CAVEATS {
-        Some(RequestWord::Caveats)
-    } else if word == WRITE {
-        Some(RequestWord::Write)
-    } else if word == WRITE_ANYWAY {
-        Some(RequestWord::WriteAnyway)
-    } else if word == HISTORY {
-        Some(RequestWord::History)
-    } else if word == SCRIPT {
-        Some(RequestWord::Script)
-    } else if word == HELP {
-        Some(RequestWord::Help)
-    } else if word == REVERT {
-        Some(RequestWord::Revert)
-    } else if word == QUIT {
-        Some(RequestWord::Quit)
-    } else if word == QUIT_ANYWAY {
-        Some(RequestWord::QuitAnyway)
-    } else {
-        None
-    }
+    named(&WORDS, word)
 }
 
 // The request of two words whose first word this is.
 fn request_of_named(word: &[u8]) -> Option<RequestOf>
     ensures { result ≡ request_of_named word.now }
 {
-    if word == EXPLAIN {
-        Some(RequestOf::Explain)
-    } else if word == HELP {
-        Some(RequestOf::Help)
-    } else if word == GET {
-        Some(RequestOf::Get)
-    } else if word == VARS {
-        Some(RequestOf::Vars)
-    } else if word == RULES {
-        Some(RequestOf::Rules)
-    } else if word == RECIPES {
-        Some(RequestOf::Recipes)
-    } else if word == WRITE {
-        Some(RequestOf::Write)
-    } else {
-        None
-    }
+    named(&FIRST_WORDS, word)
 }
 
 // A request with one word behind its first.

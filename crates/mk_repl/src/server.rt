@@ -17,7 +17,7 @@ ghost use Rattle.mk_tree.specs.Documents.{document_lines};
 ghost use Rattle.mk_repl.specs.QueryTexts.{query_text};
 ghost use Rattle.mk_repl.specs.Quits.{IsLeft, MayQuit, left_with};
 ghost use Rattle.mk_repl.specs.SessionForms.{in_form};
-ghost use Rattle.mk_repl.specs.SessionReplies.{HasAnswer, IsRequestDone, IsReverted, after_request, answer_in, answer_text, is_quit};
+ghost use Rattle.mk_repl.specs.SessionReplies.{HasAnswer, IfScript, IsListed, IsRequestDone, IsReverted, after_request, answer_printed, answer_text, is_quit};
 
 use crate::answer::{came_of, unread};
 use crate::command_log::CommandLog;
@@ -98,6 +98,43 @@ fn is_idle(refusal: Refusal) -> bool
     )
 }
 
+// The query that answers a request of one word, if one does.
+fn listed_word(word: RequestWord) -> Option<Query<'static>>
+    ensures { IsListed (Word word) result }
+{
+    match word {
+        RequestWord::Vars => Some(Query::Vars(None)),
+        RequestWord::Rules => Some(Query::Rules(None)),
+        RequestWord::Recipes => Some(Query::Recipes(None)),
+        RequestWord::Check => Some(Query::Check),
+        RequestWord::Caveats => Some(Query::Caveats),
+        _ => None,
+    }
+}
+
+// The same of a request of two words.
+fn listed_of(of: RequestOf, word: &[u8]) -> Option<Query<'_>>
+    ensures { IsListed (Of of word.now) result }
+{
+    match of {
+        RequestOf::Vars => Some(Query::Vars(Some(word))),
+        RequestOf::Rules => Some(Query::Rules(Some(word))),
+        RequestOf::Recipes => Some(Query::Recipes(Some(word))),
+        _ => None,
+    }
+}
+
+// The query that answers a request, if one does.
+fn listed(request: Request<'_>) -> Option<Query<'_>>
+    ensures { IsListed (asked_of request.entry) result }
+{
+    match request {
+        Request::Of(of, word) => listed_of(of, word),
+        Request::Word(word) => listed_word(word),
+        _ => None,
+    }
+}
+
 // Whether the session goes on after a request that was done or not.
 fn after_request(request: Request<'_>, is_done: bool) -> After
     ensures { result ≡ after_request (asked_of request.entry) is_done }
@@ -110,6 +147,8 @@ fn after_request(request: Request<'_>, is_done: bool) -> After
 }
 
 impl<'a> Server<'a> {
+    ghost use Rattle.mk_repl.specs.Answered.{IsAnswered, IsChange, IsDone};
+
     /// Opens a text, which is that of the makefile, or that of a makefile that is missing.
     ///
     /// # Errors
@@ -435,74 +474,97 @@ impl<'a> Server<'a> {
         Ok(Vec::from_slice(self.rt.alloc(), HELP.as_bytes())?)
     }
 
-    // What is answered to a request of one word; the text of the answer.
-    fn done_word(&mut self, word: RequestWord) -> Result<Vec<u8>, NotDone>
-        ensures done { IsRequestDone (Word word) self.old.opened self.old.session.shown
-            self.new.session.shown (answer_text result) }
-        ensures opened { self.new.opened ≡ self.old.opened }
-        ensures quit { word ≡ RequestWord.Quit → OnOk result (MayQuit self.old.is_warned
-            (left_with self.old.opened self.old.written) self.new.session.shown.text) }
-        ensures left { IsLeft self.old.opened (Word word) (is_ok result) self.new.session.shown.text
-            self.old.written self.new.written }
+    // The text of the answer to a question of one word that no query answers: `diff`, `history`, `script`
+    // or `help`.
+    fn text_of_word(&self, word: RequestWord) -> Result<Vec<u8>, NotDone>
+        ensures { IfScript (Word word) (IfOk result (λ script. MakesText script.items
+            self.now.opened.text.items self.now.session.shown.text)) }
     {
         match word {
-            RequestWord::Diff => return self.in_form(self.diff()?),
-            RequestWord::Vars => return self.query(Query::Vars(None)),
-            RequestWord::Rules => return self.query(Query::Rules(None)),
-            RequestWord::Recipes => return self.query(Query::Recipes(None)),
-            RequestWord::Check => return self.query(Query::Check),
-            RequestWord::Caveats => return self.query(Query::Caveats),
-            RequestWord::History => return self.in_form(self.command_log.text()?),
-            RequestWord::Script => return self.in_form(self.script()?),
-            RequestWord::Help => return self.in_form(self.commands()?),
-            RequestWord::Write => self.write_if_left()?,
-            RequestWord::WriteAnyway => self.write_text()?,
-            RequestWord::Revert => self.revert()?,
-            RequestWord::Quit => self.quit()?,
-            RequestWord::QuitAnyway => {}
+            RequestWord::Diff => self.diff(),
+            RequestWord::History => Ok(self.command_log.text()?),
+            RequestWord::Script => self.script(),
+            _ => self.commands(),
         }
-        Ok(Vec::new(self.rt.alloc()))
     }
 
-    // What is answered to a request of two words; the text of the answer.
-    fn done_of(&mut self, of: RequestOf, word: &[u8]) -> Result<Vec<u8>, NotDone>
-        ensures answer { HasAnswer (answer_in self.old.opened self.old.session.shown.text (Of of word.now))
+    // The same of two words: `explain`, `help` or `get`.
+    fn text_of_two(&self, of: RequestOf, word: &[u8]) -> Result<Vec<u8>, NotDone> {
+        match of {
+            RequestOf::Explain => self.explain(word),
+            RequestOf::Help => self.help(word),
+            _ => self.get(None, word),
+        }
+    }
+
+    // The text of the answer to a question that no query answers.
+    fn text_of(&self, request: Request<'_>) -> Result<Vec<u8>, NotDone>
+        ensures printed { HasAnswer (answer_printed self.now.session.shown.text (asked_of request.entry))
             (answer_text result) }
-        ensures session { self.new.session ≡ self.old.session }
-        ensures opened { self.new.opened ≡ self.old.opened }
-        ensures left { IsLeft self.old.opened (Of of word.now) (is_ok result)
-            self.new.session.shown.text self.old.written self.new.written }
+        ensures script { IfScript (asked_of request.entry) (IfOk result (λ script. MakesText script.items
+            self.now.opened.text.items self.now.session.shown.text)) }
+    {
+        match request {
+            Request::Print(from, to) => self.print(from, to),
+            Request::GetNth(nth, name) => self.get_nth(nth, name),
+            Request::Of(of, word) => self.text_of_two(of, word),
+            Request::Word(word) => self.text_of_word(word),
+        }
+    }
+
+    // What is answered to a question.
+    fn answer(&self, request: Request<'_>) -> Result<Vec<u8>, NotDone>
+        ensures { IsAnswered (asked_of request.entry) self.now (answer_text result) }
+    {
+        match listed(request) {
+            Some(query) => self.query(query),
+            None => self.in_form(self.text_of(request)?),
+        }
+    }
+
+    // What came of a request of one word that is no question.
+    fn change_word(&mut self, word: RequestWord) -> Option<Result<(), NotDone>>
+        ensures { IsChange (Word word) self.old self.new result }
+    {
+        match word {
+            RequestWord::Write => Some(self.write_if_left()),
+            RequestWord::WriteAnyway => Some(self.write_text()),
+            RequestWord::Revert => Some(self.revert()),
+            RequestWord::Quit => Some(self.quit()),
+            RequestWord::QuitAnyway => Some(Ok(())),
+            _ => None,
+        }
+    }
+
+    // The same of two words.
+    fn change_of(&mut self, of: RequestOf, word: &[u8]) -> Option<Result<(), NotDone>>
+        ensures { IsChange (Of of word.now) self.old self.new result }
     {
         match of {
-            RequestOf::Explain => self.in_form(self.explain(word)?),
-            RequestOf::Help => self.in_form(self.help(word)?),
-            RequestOf::Get => self.in_form(self.get(None, word)?),
-            RequestOf::Vars => self.query(Query::Vars(Some(word))),
-            RequestOf::Rules => self.query(Query::Rules(Some(word))),
-            RequestOf::Recipes => self.query(Query::Recipes(Some(word))),
-            RequestOf::Write => {
-                self.write_to(word)?;
-                Ok(Vec::new(self.rt.alloc()))
-            }
+            RequestOf::Write => Some(self.write_to(word)),
+            _ => None,
+        }
+    }
+
+    // What came of a request that is no question.
+    fn change(&mut self, request: Request<'_>) -> Option<Result<(), NotDone>>
+        ensures { IsChange (asked_of request.entry) self.old self.new result }
+    {
+        match request {
+            Request::Of(of, word) => self.change_of(of, word),
+            Request::Word(word) => self.change_word(word),
+            Request::Print(_, _) | Request::GetNth(_, _) => None,
         }
     }
 
     // What is answered to a request.
     fn done(&mut self, request: Request<'_>) -> Result<Vec<u8>, NotDone>
-        ensures done { IsRequestDone (asked_of request.entry) self.old.opened self.old.session.shown
-            self.new.session.shown (answer_text result) }
-        ensures opened { self.new.opened ≡ self.old.opened }
-        ensures quit { asked_of request.entry ≡ Word RequestWord.Quit → OnOk result
-            (MayQuit self.old.is_warned (left_with self.old.opened self.old.written)
-            self.new.session.shown.text) }
-        ensures left { IsLeft self.old.opened (asked_of request.entry) (is_ok result)
-            self.new.session.shown.text self.old.written self.new.written }
+        ensures { IsDone (asked_of request.entry) self.old self.new (answer_text result) }
     {
-        match request {
-            Request::Print(from, to) => self.in_form(self.print(from, to)?),
-            Request::GetNth(nth, name) => self.in_form(self.get_nth(nth, name)?),
-            Request::Of(of, word) => self.done_of(of, word),
-            Request::Word(word) => self.done_word(word),
+        match self.change(request) {
+            Some(Ok(())) => Ok(Vec::new(self.rt.alloc())),
+            Some(Err(not_done)) => Err(not_done),
+            None => self.answer(request),
         }
     }
 

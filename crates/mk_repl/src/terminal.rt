@@ -1,12 +1,12 @@
 //! A makefile that is open at a terminal: a prompt before each line, and sentences for replies.
 //!
 //! This is a second handler, and not a second loop: the greeting is the first prompt, and each
-//! reply ends with the next one. Before the line of a block stands a shorter prompt. An end of the input that does not end the session ends a talk, and
-//! another one begins. Which lines of a diff show an edit is told by the diff without colours: with
+//! reply ends with the next one. Before the line of a block stands a shorter prompt. An end of the
+//! input that does not end the session ends a talk, and another one begins. Which lines of a diff show an edit is told by the diff without colours: with
 //! colours a line begins with a sequence of the terminal.
-ghost use Rattle.std.specs.Prelude.{◌≡◌, ◌++◌, codes, false, true, ⊤, IfErr, IfOk, OnOk};
+ghost use Rattle.std.specs.Prelude.{◌≡◌, ◌++◌, codes, false, ⊤, IfOk, OnOk};
 ghost use Rattle.mk_lines.specs.Device.{Writes};
-ghost use Rattle.mk_repl.specs.Talks.{SaysOut};
+ghost use Rattle.mk_repl.specs.Talks.{Tells};
 ghost use Rattle.mk_diff.specs.PaintedDiffs.{shown_diff};
 ghost use Rattle.mk_escape.specs.Escapes.{escaped};
 
@@ -39,8 +39,8 @@ fn write_prompt<'b, W: ByteSink>(
 
 // A makefile that is open at a terminal.
 #[derive(Drop)]
-struct Terminal<'a> {
-    server: Server<'a>,
+struct Terminal<'s, 'a> {
+    server: &'s mut Server<'a>,
     // The name of the makefile, its control characters escaped.
     name: Vec<u8>,
     // The text as it was shown last.
@@ -49,9 +49,9 @@ struct Terminal<'a> {
     has_color: bool,
 }
 
-impl<'a> Terminal<'a> {
+impl<'s, 'a> Terminal<'s, 'a> {
     // The session is at its first line.
-    fn open(server: Server<'a>, has_color: bool) -> Result<Terminal<'a>, Fault> {
+    fn open(server: &'s mut Server<'a>, has_color: bool) -> Result<Terminal<'s, 'a>, Fault> {
         let alloc = server.runtime().alloc();
         let name = escaped(alloc, server.name().as_bytes(), Layout::Escaped)?;
         let shown = Vec::from_slice(alloc, server.left())?;
@@ -75,9 +75,7 @@ impl<'a> Terminal<'a> {
     // Writes a text, and what stands before the next line.
     fn put_prompt<W: ByteSink>(&self, said: &[u8], out: &mut W) -> Result<(), Fault>
         requires { W.failed out.old ≡ false }
-        ensures said { OnOk result (SaysOut (W.contents out.old) (W.contents out.new) (λ _. ⊤)) }
-        ensures fault { IfErr result (λ fault. (fault ≡ Fault.Write) × (W.failed out.new ≡ true)) }
-        ensures works { OnOk result (W.failed out.new ≡ false) }
+        ensures { Tells W.contents W.failed out.old out.new result (λ _ _. ⊤) }
     {
         write_prompt(said, &self.name, self.mark(), out)
     }
@@ -90,12 +88,12 @@ impl<'a> Terminal<'a> {
     }
 
     // A diff as it is shown.
-    fn diff_shown(&self, diff: Vec<u8>) -> Result<Vec<u8>, NotDone>
+    fn diff_shown(&self, diff: &[u8]) -> Result<Vec<u8>, NotDone>
         ensures { IfOk result (λ text. text.items
-            ≡ shown_diff self.now.has_color (escaped Layout.Kept diff.items)) }
+            ≡ shown_diff self.now.has_color (escaped Layout.Kept diff.now)) }
     {
         let alloc = self.server.runtime().alloc();
-        let diff = escaped(alloc, &diff, Layout::Kept)?;
+        let diff = escaped(alloc, diff, Layout::Kept)?;
         match shown(alloc, diff, self.has_color) {
             Ok(text) => Ok(text),
             Err(_) => Err(NotDone::NoMemory),
@@ -103,11 +101,10 @@ impl<'a> Terminal<'a> {
     }
 
     // The lines of a diff that were taken out and put in, as they are shown.
-    fn changes_of(&self, diff: Vec<u8>) -> Result<Vec<u8>, NotDone> {
+    fn changes_of(&self, diff: &[u8]) -> Result<Vec<u8>, NotDone> {
         let alloc = self.server.runtime().alloc();
-        let plain = Vec::from_slice(alloc, diff.as_slice())?;
         let shown = self.diff_shown(diff)?;
-        Ok(changed_lines(alloc, plain.as_slice(), shown.as_slice())?)
+        Ok(changed_lines(alloc, diff, shown.as_slice())?)
     }
 
     // What has changed since the text was shown last, of which no more is said from now on.
@@ -117,7 +114,7 @@ impl<'a> Terminal<'a> {
         let shown = mem::replace(&mut self.shown, text);
         let name = patch_name(self.server.name().as_bytes());
         match diff(alloc, shown.as_slice(), self.shown.as_slice(), name) {
-            Ok(diff) => self.changes_of(diff),
+            Ok(diff) => self.changes_of(diff.as_slice()),
             Err(_) => Err(NotDone::NoMemory),
         }
     }
@@ -141,11 +138,12 @@ impl<'a> Terminal<'a> {
     // The answer to a request, and a line end behind it where it has none.
     fn answer(&mut self, request: Request<'_>) -> Result<Vec<u8>, NotDone> {
         let text = self.server.ask(request).answer?;
+        let file = self.server.file_of(request);
         match request {
             Request::Word(RequestWord::Write | RequestWord::WriteAnyway)
-            | Request::Of(RequestOf::Write, _) => self.written(self.server.file_of(request)),
+            | Request::Of(RequestOf::Write, _) => self.written(file),
             Request::Word(RequestWord::Revert) => self.done(),
-            Request::Word(RequestWord::Diff) => self.diff_shown(text),
+            Request::Word(RequestWord::Diff) => self.diff_shown(text.as_slice()),
             _ => {
                 let alloc = self.server.runtime().alloc();
                 let mut text = escaped(alloc, &text, Layout::Kept)?;
@@ -163,7 +161,8 @@ impl<'a> Terminal<'a> {
             Ok(text) => Ok(text),
             Err(not_done) => {
                 let mut said = self.change()?;
-                let sentence = self.sentence(not_done, self.server.file_of(request))?;
+                let file = self.server.file_of(request);
+                let sentence = self.sentence(not_done, file)?;
                 said.extend_from_slice(sentence.as_slice())?;
                 Ok(said)
             }
@@ -204,23 +203,16 @@ impl<'a> Terminal<'a> {
         }
     }
 
-    // Says what is to be said of a text, and the next prompt if the session goes on.
-    fn put_said<W: ByteSink>(
-        &self,
-        said: Result<Vec<u8>, NotDone>,
-        out: &mut W,
-    ) -> Result<After, Fault>
+    // Says a text, and the next prompt if the session goes on.
+    fn put_said<W: ByteSink>(&self, said: &[u8], out: &mut W) -> Result<After, Fault>
         requires { W.failed out.old ≡ false }
-        ensures said { OnOk result (SaysOut (W.contents out.old) (W.contents out.new) (λ _. ⊤)) }
-        ensures fault { IfErr result (λ fault. (fault ≡ Fault.Write) × (W.failed out.new ≡ true)) }
-        ensures works { OnOk result (W.failed out.new ≡ false) }
+        ensures { Tells W.contents W.failed out.old out.new result (λ _ _. ⊤) }
     {
-        let text = text_said(&said);
         if self.server.is_over() {
-            write_all(out, text)?;
+            write_all(out, said)?;
             return Ok(After::Ends);
         }
-        self.put_prompt(text, out)?;
+        self.put_prompt(said, out)?;
         Ok(After::GoesOn)
     }
 
@@ -253,7 +245,7 @@ fn text_said(said: &Result<Vec<u8>, NotDone>) -> &[u8] {
     }
 }
 
-impl Handler for Terminal<'_> {
+impl Handler for Terminal<'_, '_> {
     fn greet<W: ByteSink>(&self, out: &mut W) -> Result<(), Fault> {
         self.put_prompt(b"", out)
     }
@@ -273,13 +265,13 @@ impl Handler for Terminal<'_> {
 
     fn handle<W: ByteSink>(&mut self, text: &[u8], out: &mut W) -> Result<After, Fault> {
         let said = self.said(text);
-        self.put_said(said, out)
+        self.put_said(text_said(&said), out)
     }
 }
 
 // Replies to the lines of a source up to its end, which is a `quit`, or up to another one.
 fn serve_once<S: ByteSource, W: ByteSink>(
-    terminal: &mut Terminal<'_>,
+    terminal: &mut Terminal<'_, '_>,
     source: &mut S,
     out: &mut W,
 ) -> Result<(), Fault>
@@ -296,14 +288,9 @@ fn serve_once<S: ByteSource, W: ByteSink>(
     Ok(())
 }
 
-/// Replies at a terminal to the lines of a source, also behind an end of it that is a `quit` which is
-/// not done. What changes is shown in colours or not. The session is not given up: the program ends soon.
-///
-/// # Errors
-///
-/// Those of [`serve`], and [`Fault::NoMemory`] if there is none for the text that is shown.
-pub fn serve_at_terminal<S: ByteSource, W: ByteSink>(
-    server: Server<'_>,
+// Replies to the lines of a source, also behind an end of it that is a `quit` which is not done.
+fn serve_all<S: ByteSource, W: ByteSink>(
+    server: &mut Server<'_>,
     has_color: bool,
     source: &mut S,
     out: &mut W,
@@ -315,9 +302,28 @@ pub fn serve_at_terminal<S: ByteSource, W: ByteSink>(
     for _ in 0..u64::MAX {
         serve_once(&mut terminal, source, out)?;
         if terminal.server.is_over() {
-            mem::forget(terminal);
             return Ok(());
         }
     }
     Err(Fault::TooLong)
+}
+
+/// Replies at a terminal to the lines of a source, also behind an end of it that is a `quit` which is
+/// not done. What changes is shown in colours or not. The session is not given up: the program ends soon.
+///
+/// # Errors
+///
+/// Those of [`serve`], and [`Fault::NoMemory`] if there is none for the text that is shown.
+pub fn serve_at_terminal<S: ByteSource, W: ByteSink>(
+    mut server: Server<'_>,
+    has_color: bool,
+    source: &mut S,
+    out: &mut W,
+) -> Result<(), Fault>
+    requires source_works { S.failed source.old ≡ false }
+    requires out_works { W.failed out.old ≡ false }
+{
+    let served = serve_all(&mut server, has_color, source, out);
+    mem::forget(server);
+    served
 }

@@ -92,6 +92,14 @@ Adds old n stands new (Err NoMemory) =
     (x : Saying) × (stands ≡ Some x)
     × ((others : List Step) × SayMore old (record { line = n; saying = x }) others)
 
+-- The same of a line below a step, of which it makes a longer one; above that step these stand.
+abbrev pub AddsBelow : {X : Type 0} → (seen : X → Step) → (above : List Step) → (last : Step)
+    → (number : ℕ) → Option Saying → Result X LineFault → Type 0
+AddsBelow seen above last n stands (Ok step) =
+    (x : Saying) × (stands ≡ Some x)
+    × SayMore (above ++ last ∷ []) (record { line = n; saying = x }) (above ++ seen step ∷ [])
+AddsBelow seen above last n stands (Err fault) = Adds (above ++ last ∷ []) n stands [] (Err fault)
+
 -- The same of a line and the lines below it, of which these are left.
 abbrev pub AddsLine : (old : List Step) → (number : ℕ) → Option (Saying × List (List ℕ))
     → (new : List Step) → Result (Unit {0}) LineFault → (left : List (List ℕ)) → Type 0

@@ -28,6 +28,9 @@ pub record EditAt : Type 0 where
   pub line : ℕ
   pub edit : Edit
 
+abbrev pub edit_at : (line : ℕ) → Edit → EditAt
+edit_at line edit = record { line = line; edit = edit }
+
 -- A step of a script: a command alone; the command of an edit with `try` before it; or a chain,
 -- which is the command of an edit and, below it, one or more alternatives with `or` before them.
 pub data Step : Type 0 where

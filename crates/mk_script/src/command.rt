@@ -4,7 +4,7 @@ ghost use Rattle.std.specs.Prelude.{◌≡◌};
 ghost use Rattle.mk_edit_language.specs.CommandViews.{command_of};
 ghost use Rattle.mk_edit_language.specs.EditViews.{edit_of};
 ghost use Rattle.mk_script.specs.SeenFields.{field_texts};
-ghost use Rattle.mk_script.specs.CommandReading.{alone, command_after, edit_after, edit_in};
+ghost use Rattle.mk_script.specs.CommandReading.{command_after, edit_after, edit_in};
 ghost use Rattle.mk_script.specs.ReaderAnswers.{IsRead, begins_comment, is_skipped};
 
 use crate::edit::{Which, make_edit};
@@ -32,16 +32,6 @@ fn begins_comment(line: &[u8]) -> bool
     }
 }
 
-// A call of a session, if no field stands behind it.
-fn alone<A: Allocator>(call: Command<A>, fields: &[Field<'_>]) -> Result<Command<A>, LineFault>
-    ensures { IsRead command_of (alone (command_of call) (field_texts fields.now)) result }
-{
-    match fields {
-        [] => Ok(call),
-        [_, ..] => Err(LineFault::NotACommand),
-    }
-}
-
 /// The command that a word of the table and the fields behind it are.
 ///
 /// # Errors
@@ -55,12 +45,15 @@ pub(crate) fn read_command<A: Allocator + Copy>(
 ) -> Result<Command<A>, LineFault>
     ensures { IsRead command_of (command_after word (field_texts fields.now)) result }
 {
-    match word {
-        Word::Undo => alone(Command::Undo, fields),
-        Word::Redo => alone(Command::Redo, fields),
-        Word::Begin => alone(Command::Begin, fields),
-        Word::End => alone(Command::End, fields),
-        Word::Cancel => alone(Command::Cancel, fields),
+    match (word, fields) {
+        (Word::Undo, []) => Ok(Command::Undo),
+        (Word::Redo, []) => Ok(Command::Redo),
+        (Word::Begin, []) => Ok(Command::Begin),
+        (Word::End, []) => Ok(Command::End),
+        (Word::Cancel, []) => Ok(Command::Cancel),
+        (Word::Undo | Word::Redo | Word::Begin | Word::End | Word::Cancel, _) => {
+            Err(LineFault::NotACommand)
+        }
         _ => Ok(Command::Apply(read_edit_after(alloc, word, fields)?)),
     }
 }

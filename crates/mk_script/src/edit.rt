@@ -2,11 +2,12 @@
 //!
 //! Fields stay in their line until it is known that they make an edit. Then their bytes are copied,
 //! once each: memory is asked for only if there is an edit.
-ghost use Rattle.std.specs.Prelude.{◌≡◌, option_map};
+ghost use Rattle.std.specs.Prelude.{◌≡◌, option_and_then, option_map};
 ghost use Rattle.mk_edit_language.specs.Edits as edits;
-ghost use Rattle.mk_edit_language.specs.EditViews.{edit_of, line_change_of, place_of, site_of, value_change_of};
+ghost use Rattle.mk_edit_language.specs.EditViews.{edit_of, line_change_of, place_of, site_of};
+ghost use Rattle.mk_script.specs.Numbers.{number};
 ghost use Rattle.mk_script.specs.SeenFields.{field_texts};
-ghost use Rattle.mk_script.specs.CommandReading.{add_line, before_last, change_each, change_line, edit_with, exchange_lines, insert_lines, last_fields, line_change, line_edit, new_assign, new_rule, numbered, one, place_in, place_with, plain_edit, plain_place, prereq_edit, recipe_edit, site_in, site_with, three, two};
+ghost use Rattle.mk_script.specs.CommandReading.{add_line, before_last, change_line, edit_with, exchange_lines, front, insert_lines, last_fields, line_change, line_edit, new_assign, new_rule, numbered, one, place_in, place_with, plain_edit, plain_place, prereq_edit, recipe_edit, site_in, site_with, three, two};
 ghost use Rattle.mk_script.specs.ReaderAnswers.{IsRead, copied, copied_numbered, copied_three, copied_two, which_of};
 
 use crate::fault::LineFault;
@@ -204,54 +205,89 @@ pub(crate) fn make_edit<A: Allocator + Copy>(
 ) -> Result<Edit<A>, LineFault>
     ensures { IsRead edit_of (edit_with (which_of which) word (field_texts fields.now)) result }
 {
-    match word {
-        Word::Set => {
-            let (name, value) = two_copied(alloc, fields)?;
-            Ok(changing(which, name, ValueChange::Set(value)))
-        }
-        Word::SetIf => {
-            let (name, old, value) = three_copied(alloc, fields)?;
-            Ok(changing(which, name, ValueChange::SetIf { old, value }))
-        }
-        Word::Append => {
-            let (name, value) = two_copied(alloc, fields)?;
-            Ok(changing(which, name, ValueChange::Append(value)))
-        }
-        Word::Add => {
-            let (name, word) = two_copied(alloc, fields)?;
-            Ok(changing(which, name, ValueChange::Add(word)))
-        }
-        Word::Drop => {
-            let (name, word) = two_copied(alloc, fields)?;
-            Ok(changing(which, name, ValueChange::Remove(word)))
-        }
-        _ => match which {
-            Which::One(nth) => make_line_edit(alloc, nth, word, fields),
-            Which::Every => make_change_each(alloc, word, fields),
-        },
+    match which {
+        Which::One(nth) => make_one(alloc, nth, word, fields),
+        Which::Every => make_each(alloc, word, fields),
     }
 }
 
-// The edit of the values of a name.
-fn changing<A: Allocator>(which: Which, name: Vec<u8, A>, change: ValueChange<A>) -> Edit<A>
-    ensures { edit_of result
-        ≡ edits.ChangeValue (which_of which) name.items (value_change_of change) }
+// An edit of one line; by a word that changes no value, or not at its name, another one.
+#[tactic(auto, using(crate::proofs::on_commands::TableLemmas::is_some_mapped))]
+fn make_one<A: Allocator + Copy>(
+    alloc: A,
+    nth: Option<u32>,
+    word: Word,
+    fields: &[Field<'_>],
+) -> Result<Edit<A>, LineFault>
+    ensures { IsRead edit_of (edit_with (edits.One nth) word (field_texts fields.now)) result }
 {
-    let nth = match which {
-        Which::Every => return Edit::ChangeValues { name, change },
-        Which::One(nth) => nth,
-    };
-    match change {
-        ValueChange::Set(value) => Edit::SetValue { nth, name, value },
-        ValueChange::SetIf { old, value } => Edit::SetValueIf {
-            nth,
-            name,
-            old,
-            value,
-        },
-        ValueChange::Append(value) => Edit::AppendValue { nth, name, value },
-        ValueChange::Add(word) => Edit::AddWord { nth, name, word },
-        ValueChange::Remove(word) => Edit::RemoveWord { nth, name, word },
+    match word {
+        Word::Set => {
+            let (name, value) = two_copied(alloc, fields)?;
+            Ok(Edit::SetValue { nth, name, value })
+        }
+        Word::SetIf => {
+            let (name, old, value) = three_copied(alloc, fields)?;
+            Ok(Edit::SetValueIf {
+                nth,
+                name,
+                old,
+                value,
+            })
+        }
+        Word::Append => {
+            let (name, value) = two_copied(alloc, fields)?;
+            Ok(Edit::AppendValue { nth, name, value })
+        }
+        Word::Add => {
+            let (name, word) = two_copied(alloc, fields)?;
+            Ok(Edit::AddWord { nth, name, word })
+        }
+        Word::Drop => {
+            let (name, word) = two_copied(alloc, fields)?;
+            Ok(Edit::RemoveWord { nth, name, word })
+        }
+        _ => make_line_edit(alloc, nth, word, fields),
+    }
+}
+
+// An edit of each assignment of a name. No word goes beside others in each.
+#[tactic(auto, using(crate::proofs::on_commands::TableLemmas::is_some_mapped))]
+fn make_each<A: Allocator + Copy>(
+    alloc: A,
+    word: Word,
+    fields: &[Field<'_>],
+) -> Result<Edit<A>, LineFault>
+    ensures { IsRead edit_of (edit_with edits.Every word (field_texts fields.now)) result }
+{
+    match word {
+        Word::Set => {
+            let (name, value) = two_copied(alloc, fields)?;
+            let change = ValueChange::Set(value);
+            Ok(Edit::ChangeValues { name, change })
+        }
+        Word::SetIf => {
+            let (name, old, value) = three_copied(alloc, fields)?;
+            let change = ValueChange::SetIf { old, value };
+            Ok(Edit::ChangeValues { name, change })
+        }
+        Word::Append => {
+            let (name, value) = two_copied(alloc, fields)?;
+            let change = ValueChange::Append(value);
+            Ok(Edit::ChangeValues { name, change })
+        }
+        Word::Add => {
+            let (name, word) = two_copied(alloc, fields)?;
+            let change = ValueChange::Add(word);
+            Ok(Edit::ChangeValues { name, change })
+        }
+        Word::Drop => {
+            let (name, word) = two_copied(alloc, fields)?;
+            let change = ValueChange::Remove(word);
+            Ok(Edit::ChangeValues { name, change })
+        }
+        Word::AddBefore | Word::AddAfter => Err(LineFault::NotACommand),
+        _ => make_change_each(alloc, word, fields),
     }
 }
 
@@ -450,16 +486,7 @@ fn make_recipe_edit<A: Allocator + Copy>(
                 line,
             })
         }
-        Word::RecipeDel => {
-            let (target, number) = two(fields)?;
-            let number = number_of(number)?;
-            let target = target.to_vec(alloc)?;
-            Ok(Edit::RemoveRecipe {
-                nth,
-                target,
-                number,
-            })
-        }
+        Word::RecipeDel => make_recipe_del(alloc, nth, fields),
         Word::RecipeReplace => {
             let (target, old, line) = three_copied(alloc, fields)?;
             Ok(Edit::SetRecipeByText {
@@ -476,6 +503,28 @@ fn make_recipe_edit<A: Allocator + Copy>(
         Word::RecipeSubst => make_recipe_subst(alloc, nth, fields),
         _ => make_exchange(alloc, nth, word, fields),
     }
+}
+
+// `recipe-del TARGET K`.
+#[tactic(auto, using(crate::proofs::on_commands::TableLemmas::is_some_mapped))]
+fn make_recipe_del<A: Allocator + Copy>(
+    alloc: A,
+    nth: Option<u32>,
+    fields: &[Field<'_>],
+) -> Result<Edit<A>, LineFault>
+    ensures { IsRead edit_of
+        (option_and_then (λ p. option_map
+        (λ n. edits.RemoveLines (edits.OfRecipe nth p.0 (edits.ByNumber n))) (number p.1))
+        (two (field_texts fields.now))) result }
+{
+    let (target, number) = two(fields)?;
+    let number = number_of(number)?;
+    let target = target.to_vec(alloc)?;
+    Ok(Edit::RemoveRecipe {
+        nth,
+        target,
+        number,
+    })
 }
 
 // `recipe-subst TARGET FROM TO`.
@@ -569,23 +618,20 @@ fn make_change_line<A: Allocator + Copy>(
     Ok(Edit::ChangeLine { nth, name, change })
 }
 
-// The same of each assignment of a name. No word goes beside others in each.
+// The same of each assignment of a name.
 fn make_change_each<A: Allocator + Copy>(
     alloc: A,
     word: Word,
     fields: &[Field<'_>],
 ) -> Result<Edit<A>, LineFault>
-    ensures { IsRead edit_of (change_each word (field_texts fields.now)) result }
+    ensures { IsRead edit_of
+        (option_and_then (λ p. option_map (λ c. edits.EachLine (edits.ChangeEach p.0 c))
+        (line_change word p.1)) (front (field_texts fields.now))) result }
 {
-    match word {
-        Word::AddBefore | Word::AddAfter => Err(LineFault::NotACommand),
-        _ => {
-            let (name, others) = front(fields)?;
-            let change = make_line_change(alloc, word, others)?;
-            let name = name.to_vec(alloc)?;
-            Ok(Edit::EachLine(EachEdit::ChangeEach { name, change }))
-        }
-    }
+    let (name, others) = front(fields)?;
+    let change = make_line_change(alloc, word, others)?;
+    let name = name.to_vec(alloc)?;
+    Ok(Edit::EachLine(EachEdit::ChangeEach { name, change }))
 }
 
 // What is done to the line, by the fields behind the name.

@@ -3,13 +3,14 @@
 //! With the lines of its blocks a line says one thing, and what the lines say is what the steps say: so
 //! no definition goes over the lines with a state. An `or` that may not stand in its line is found before its
 //! edit is read, so want of memory never hides it.
-ghost use Rattle.std.specs.Prelude.{◌≡◌, ◌+◌, length, map, option_map, IfOk, IfErr};
+ghost use Rattle.std.specs.Prelude.{◌≡◌, ◌+◌, ◌++◌, ◌∷◌, [], List, length, map, option_map, IfOk, IfErr};
 ghost use Rattle.mk_script.specs.Lines.{Or};
-ghost use Rattle.mk_script.specs.Scripts.{IsScript, IsScriptFault, step_of};
+ghost use Rattle.mk_script.specs.Scripts as scripts;
+ghost use Rattle.mk_script.specs.Scripts.{IsScript, IsScriptFault, edit_at, numbered_edit, step_of};
 ghost use Rattle.mk_script.specs.BlockReading.{saying};
 ghost use Rattle.mk_script.specs.CommandReading.{edit_in, saying_in};
 ghost use Rattle.mk_script.specs.SeenFields.{field_texts};
-ghost use Rattle.mk_script.specs.ReaderAnswers.{Adds, AddsLine, Pushes};
+ghost use Rattle.mk_script.specs.ReaderAnswers.{Adds, AddsBelow, AddsLine, IsRead, Pushes};
 
 use crate::block::fields_with_blocks;
 use crate::command::{is_skipped, read_command, read_edit};
@@ -123,12 +124,40 @@ fn add_alternative<A: Allocator + Copy>(
     let Some(last) = steps.pop() else {
         return Err(LineFault::NotACommand);
     };
-    let Some((first, mut others)) = last.into_edits(alloc) else {
+    let step = with_alternative(alloc, last, number, rest)?;
+    push(steps, step)
+}
+
+// A step with one alternative more: the edit that follows `or`.
+fn with_alternative<A: Allocator + Copy>(
+    alloc: A,
+    step: Step<A>,
+    number: u64,
+    rest: &[Field<'_>],
+) -> Result<Step<A>, LineFault>
+    ensures { (above : List scripts.Step) → AddsBelow step_of above (step_of step) number
+        (option_map Or (edit_in (field_texts rest.now))) result }
+{
+    let Some((first, mut others)) = step.into_edits(alloc) else {
         return Err(LineFault::NotACommand);
     };
-    let edit = read_edit(alloc, rest)?;
-    push(&mut others, NumberedEdit { line: number, edit })?;
-    push(steps, Step::Chain(Chain { first, others }))
+    push_edit(alloc, &mut others, number, rest)?;
+    Ok(Step::Chain(Chain { first, others }))
+}
+
+// Puts the edit that some fields are behind others.
+fn push_edit<A: Allocator + Copy>(
+    alloc: A,
+    edits: &mut Vec<NumberedEdit<A>, A>,
+    number: u64,
+    fields: &[Field<'_>],
+) -> Result<(), LineFault>
+    ensures { IsRead (λ done. map numbered_edit edits.new.items)
+        (option_map (λ edit. map numbered_edit edits.old.items ++ edit_at number edit ∷ [])
+        (edit_in (field_texts fields.now))) result }
+{
+    let edit = read_edit(alloc, fields)?;
+    push(edits, NumberedEdit { line: number, edit })
 }
 
 // Puts a value behind others.

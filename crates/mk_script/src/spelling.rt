@@ -38,8 +38,8 @@ pub fn are_alike(one: &[u8], other: &[u8]) -> bool {
 /// The first word with which commands begin that is spelled like this word, if there is one. Of several the
 /// first of the table is meant.
 pub fn nearest_command(word: &[u8]) -> Option<&'static str> {
-    for (form, kind, _) in COMMANDS {
-        let command = CommandForm(form, kind).word();
+    for (form, kind, _) in &COMMANDS {
+        let command = CommandForm(form, *kind).word();
         if are_alike(word, command.as_bytes()) {
             return Some(command);
         }

@@ -290,10 +290,23 @@ fn exchange_text<A: Allocator + Copy, B: Allocator>(
     ensures { IfOk result (λ text. IsTextOf
         (exchange_fields (site_of site.now) (lines_of block.now)) text) }
 {
-    match (site, block) {
-        (_, Some(block)) => block_text(alloc, site, block),
-        (Site::OfLines { nth, old }, None) => said_with(alloc, *nth, b"line-remove", &[], old),
-        (Site::OfRule { nth, target }, None) => said(alloc, *nth, b"rule-remove", &[target]),
+    match block {
+        Some(block) => block_text(alloc, site, block),
+        None => removal_text(alloc, site),
+    }
+}
+
+// The command that takes the lines of a site out.
+fn removal_text<A: Allocator + Copy, B: Allocator>(
+    alloc: A,
+    site: &Site<B>,
+) -> Result<CommandText<A>, AllocError>
+    requires { has_no_command (ExchangeLines (site_of site.now) []) ≡ false }
+    ensures { IfOk result (λ text. IsTextOf (exchange_fields (site_of site.now) []) text) }
+{
+    match site {
+        Site::OfLines { nth, old } => said_with(alloc, *nth, b"line-remove", &[], old),
+        Site::OfRule { nth, target } => said(alloc, *nth, b"rule-remove", &[target]),
         _ => unreachable!(),
     }
 }

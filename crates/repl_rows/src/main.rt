@@ -6,8 +6,6 @@
 //! - [`talks`]: a whole talk, and the lines of its source.
 #![tactic(auto)]
 
-ghost use Rattle.std.specs.Prelude.{◌≡◌, false};
-
 mod replies;
 mod talks;
 
@@ -25,33 +23,21 @@ impl Calls for ReplCalls {
             ("request", [line]) => replies::request(case, line),
             ("answer-lines", [text]) => replies::lines_of_answer(case, text),
             ("lines-between", [text, from, to]) => replies::between(case, text, from, to),
-            ("replies", [makefile, lines]) => replies::heard(case, makefile, lines),
-            ("reply", [makefile, line]) => replies::reply(case, makefile, line),
-            ("revert", [makefile, depth]) => replies::reverted(case, makefile, depth),
-            _ => return of_talks(case),
+            ("read-line", [text]) => talks::lines_of(case, text),
+            ("read-line-fails", [text, from, to]) => talks::failing_line(case, text, from, to),
+            ("talk", [lines, call]) => talks::talk(case, lines, call),
+            ("failing-talk", [lines, text]) => talks::failing_talk(case, lines, text),
+            _ => return replies::answer(case),
         };
         Ok(Some(answer?))
     }
 
     fn write(&self, case: &Case<'_>, out: &mut MemorySink) -> Result<bool, Fault> {
         match (case.table, case.fields) {
-            ("replies", [makefile, lines]) => replies::write(case, makefile, lines, out)?,
-            _ => return Ok(false),
+            ("replies", [makefile, lines]) => replies::write(case, makefile, lines, out),
+            _ => Ok(false),
         }
-        Ok(true)
     }
-}
-
-/// Makes a call on a talk.
-fn of_talks(case: &Case<'_>) -> Result<Option<Vec<u8>>, Fault> {
-    let answer = match (case.table, case.fields) {
-        ("read-line", [text]) => talks::lines_of(case, text),
-        ("read-line-fails", [text, from, to]) => talks::failing_line(case, text, from, to),
-        ("talk", [lines, call]) => talks::talk(case, lines, call),
-        ("failing-talk", [lines, text]) => talks::failing_talk(case, lines, text),
-        _ => return Ok(None),
-    };
-    Ok(Some(answer?))
 }
 
 impl RunRow for ReplCalls {

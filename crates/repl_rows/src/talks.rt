@@ -4,28 +4,51 @@ use mk_lines::sink::{write_all, write_parts};
 use mk_lines::{ByteSink, ByteSource, Fault};
 use mk_repl::{After, Handler, LineRead, Unread, read_line, serve, write_greeting, write_unread};
 use test_support::text::{joined, number};
-use test_support::{Case, MemorySink, MemorySource};
+use test_support::{Case, Heap, MemorySink, MemorySource};
 
 /// How each line of a text is read, and the lines, up to 10 of them. A bar stands behind each.
 pub fn lines_of(case: &Case<'_>, text: &[u8]) -> Result<Vec<u8>, Fault> {
-    let mut source = MemorySource::new(text, 100_000);
     let mut line = Vec::new(case.heap);
+    lines_by(case, text, &mut line)
+}
+
+fn lines_by<'h>(
+    case: &Case<'h>,
+    text: &[u8],
+    line: &mut Vec<u8, &'h Heap>,
+) -> Result<Vec<u8>, Fault> {
+    let mut source = MemorySource::new(text, 100_000);
     let mut shown = Vec::new(case.alloc);
     for _ in 0..10 {
         if source.failed() {
             return Err(Fault::Read);
         }
-        let read = read_line(&mut source, &mut line)?;
-        let said = format!(in case.alloc; "{read:?} {} ", source.left())?;
-        shown.extend_from_slice(said.as_bytes())?;
-        match read {
-            LineRead::Line => shown.extend_from_slice(&line)?,
-            LineRead::TooLong => {}
-            LineRead::End => return Ok(shown),
+        let read = read_line(&mut source, line)?;
+        push_line(case, &mut shown, read, source.left(), line)?;
+        if read == LineRead::End {
+            break;
         }
-        shown.push(b'|')?;
     }
     Ok(shown)
+}
+
+/// Pushes how a line was read, how many bytes are left, and the line with a bar.
+fn push_line(
+    case: &Case<'_>,
+    shown: &mut Vec<u8>,
+    read: LineRead,
+    left: usize,
+    line: &[u8],
+) -> Result<(), Fault> {
+    let said = format!(in case.alloc; "{read:?} {left} ")?;
+    shown.extend_from_slice(said.as_bytes())?;
+    match read {
+        LineRead::Line => shown.extend_from_slice(line)?,
+        LineRead::TooLong => {}
+        LineRead::End => return Ok(()),
+    }
+    shown.push(b'|')?;
+    Ok(())
 }
 
 /// How the first line of a text is read whose reads fail, from the one of a number to the one before another
@@ -81,6 +104,15 @@ pub fn talk(case: &Case<'_>, lines: &[u8], call: &[u8]) -> Result<Vec<u8>, Fault
     let mut source = MemorySource::new(lines, 1_000).failing_at(Some(number(call)));
     let mut out = MemorySink::new(Vec::new(case.alloc), 100);
     let talked = serve(case.heap, &mut source, &mut Echo, &mut out);
+    talked_of(case, talked, &out, source.left())
+}
+
+fn talked_of(
+    case: &Case<'_>,
+    talked: Result<(), Fault>,
+    out: &MemorySink,
+    left: usize,
+) -> Result<Vec<u8>, Fault> {
     if talked == Err(Fault::NoMemory) {
         return Err(if out.writes() == 0 {
             Fault::NoMemory
@@ -91,7 +123,7 @@ pub fn talk(case: &Case<'_>, lines: &[u8], call: &[u8]) -> Result<Vec<u8>, Fault
     if out.bytes().ends_with(b"fault no memory\n[q\n]\n") {
         return Err(Fault::NoMemory);
     }
-    let (flushes, left) = (out.flushes(), source.left());
+    let flushes = out.flushes();
     let said = format!(in case.alloc; "{talked:?}, flushes {flushes}, left {left}: ")?;
     Ok(joined(case.alloc, &[said.as_bytes(), out.bytes()])?)
 }

@@ -7,7 +7,7 @@ use mk_history::laws::{
 };
 use mk_history::{Change, History, HistoryError, Sequence, SureChange};
 use mk_lines::Fault;
-use mk_patch::{PatchBuilder, Step};
+use mk_patch::{Patch, PatchBuilder, Step};
 use std::alloc::AllocError;
 use test_support::{Case, Heap};
 
@@ -61,10 +61,19 @@ pub fn errors(case: &Case<'_>) -> Result<Vec<u8>, Fault> {
 }
 
 /// The text `abcd` after a change, its undo and its redo, each with whether it can be undone and redone.
-#[tactic(auto, using(mk_history::proofs::on_histories::ChainLemmas::chains))]
 pub fn history(case: &Case<'_>) -> Result<Vec<u8>, Fault> {
-    let mut text = *b"abcd";
     let mut history = History::new(case.heap, 2)?;
+    undone_and_redone(case, &mut history)
+}
+
+#[tactic(auto, using(mk_history::proofs::on_histories::ChainLemmas::chains))]
+fn undone_and_redone<'h>(
+    case: &Case<'h>,
+    history: &mut History<SetByte, &'h Heap>,
+) -> Result<Vec<u8>, Fault>
+    requires { history.old ≡ record { depth = 2; done = []; undone = [] } }
+{
+    let mut text = *b"abcd";
     let Ok(inverse) = (SetByte { at: 3, byte: b'z' }).apply(&mut text) else {
         unreachable!()
     };
@@ -110,10 +119,18 @@ pub fn sequence(case: &Case<'_>) -> Result<Vec<u8>, Fault> {
 
 /// What a patch that takes out two lines tells of its steps.
 pub fn patch(case: &Case<'_>) -> Result<Vec<u8>, Fault> {
-    let mut builder = PatchBuilder::with_room(case.heap, 2)?;
+    let patch = two_steps(case.heap)?;
+    steps_of(case, &patch)
+}
+
+fn two_steps(heap: &Heap) -> Result<Patch<&Heap>, AllocError> {
+    let mut builder = PatchBuilder::with_room(heap, 2)?;
     builder.push(Step::TakeOut(0));
     builder.push(Step::TakeOut(0));
-    let patch = builder.finish();
+    Ok(builder.finish())
+}
+
+fn steps_of(case: &Case<'_>, patch: &Patch<&Heap>) -> Result<Vec<u8>, Fault> {
     let (steps, held, takes) = (patch.step_count(), patch.held(), patch.takes());
     let second = matches!(patch.step(1), Some(Step::TakeOut(0)));
     let only = patch.only_step().is_some();

@@ -1,7 +1,7 @@
-//! Edits by the calls that make them, beside the lines of scripts that say the same; and by the calls of a
-//! session.
+//! Edits by the calls that make them, beside the lines of scripts that say the same, and how they are shown;
+//! and by the calls of a session.
 
-use crate::sessions::{edit_of, open, text_of};
+use crate::sessions::{edit_of, said, with_text};
 use mk_lines::Fault;
 use mk_session::{
     Edit, Flavor, Place, Refusal, RuleSeparator, Session, Site, clone_edit, clone_place,
@@ -13,14 +13,32 @@ use test_support::{Case, Heap};
 
 /// Whether the copy of the edit that the call of a number makes is the edit of a line.
 pub fn made(case: &Case<'_>, call: &[u8], line: &[u8]) -> Result<Vec<u8>, Fault> {
-    let edit = edit_at(case.heap, number(call))?;
-    is_read(case, &clone_edit(&edit)?, line)
+    let read = edit_of(case.heap, line)?;
+    is_made(case, number(call), &read)
 }
 
-fn is_read<'h>(case: &Case<'h>, edit: &Edit<&'h Heap>, line: &[u8]) -> Result<Vec<u8>, Fault> {
-    let read = edit_of(case.heap, line)?;
-    let is_same = is_same_edit(edit, &read) && *edit == read;
-    Ok(is_same.to_string(case.alloc)?.into_bytes())
+fn is_made<'h>(case: &Case<'h>, number: u64, read: &Edit<&'h Heap>) -> Result<Vec<u8>, Fault> {
+    let edit = edit_at(case.heap, number)?;
+    is_copied(case, &edit, read)
+}
+
+fn is_copied<'h>(
+    case: &Case<'h>,
+    edit: &Edit<&'h Heap>,
+    read: &Edit<&'h Heap>,
+) -> Result<Vec<u8>, Fault> {
+    let copy = clone_edit(edit)?;
+    said(case, is_same_edit(&copy, read) && copy == *read)
+}
+
+/// How the edit of a line is shown: as a derive shows it.
+pub fn edit_shown(case: &Case<'_>, line: &[u8]) -> Result<Vec<u8>, Fault> {
+    let edit = edit_of(case.alloc, line)?;
+    format_edit(case, &edit)
+}
+
+fn format_edit(case: &Case<'_>, edit: &Edit) -> Result<Vec<u8>, Fault> {
+    Ok(format!(in case.alloc; "{edit:?}")?.into_bytes())
 }
 
 /// The edit of a number.
@@ -127,11 +145,14 @@ fn same_copy<'h>(place: &Place<&'h Heap>) -> Result<Place<&'h Heap>, AllocError>
     }
 }
 
-/// The text after the call of a session of a number, on a makefile.
-pub fn applied(case: &Case<'_>, call: &[u8], makefile: &[u8]) -> Result<Vec<u8>, Fault> {
-    let mut session = open(case.heap, makefile, 100)?;
-    match apply_at(&mut session, number(call)) {
-        Ok(()) => Ok(text_of(case.alloc, &session)?),
+/// The text of a session after its call of a number.
+pub fn applied<'h>(
+    case: &Case<'h>,
+    session: &mut Session<&'h Heap>,
+    call: &[u8],
+) -> Result<Vec<u8>, Fault> {
+    match apply_at(session, number(call)) {
+        Ok(()) => with_text(case, "", session),
         Err(Refusal::NoMemory) => Err(Fault::NoMemory),
         Err(_) => Err(Fault::Read),
     }

@@ -5,10 +5,10 @@
 //! - [`scripts`]: `mk_script`.
 //! - [`changes`]: `mk_history` at a change of a type of its own, and `mk_patch`.
 //! - [`made`]: edits by the calls that make them, and by the calls of a session.
-//! - [`sessions`]: sessions, lookups, and how edits are shown.
+//! - [`sessions`]: sessions.
 //! - [`groups`]: groups of edits that are one call, and dry runs.
 //! - [`memory`]: how many bytes edits take.
-//! - [`index`]: what an index tells, and what it leaves to a walk over all lines.
+//! - [`index`]: lookups, what an index tells, and what it leaves to a walk over all lines.
 //! - [`runs`]: `mk_run`, over devices that fail.
 #![tactic(auto)]
 
@@ -22,8 +22,10 @@ mod scripts;
 mod sessions;
 
 use mk_lines::Fault;
+use sessions::Start;
 use std::alloc::Global;
 use test_support::difference::Stop;
+use test_support::text::number;
 use test_support::{Calls, Case, MemorySink, RunRow, run_call, run_tables};
 
 /// The calls of this program.
@@ -37,8 +39,8 @@ impl Calls for RunCalls {
             ("written-value", [value]) => scripts::written_value(case, value),
             ("mistake", [script, line]) => scripts::mistake(case, script, line),
             ("alike", [one, other]) => scripts::alike(case, one, other),
+            ("edit-shown", [line]) => made::edit_shown(case, line),
             ("made", [call, line]) => made::made(case, call, line),
-            ("applied", [call, makefile]) => made::applied(case, call, makefile),
             _ => return of_changes(case),
         };
         Ok(Some(answer?))
@@ -58,28 +60,6 @@ fn of_changes(case: &Case<'_>) -> Result<Option<Vec<u8>>, Fault> {
         ("sequence", []) => changes::sequence(case),
         ("history-errors", []) => changes::errors(case),
         ("patch", []) => changes::patch(case),
-        _ => return of_sessions(case),
-    };
-    Ok(Some(answer?))
-}
-
-/// Makes a call on a session, or another one.
-fn of_sessions(case: &Case<'_>) -> Result<Option<Vec<u8>>, Fault> {
-    let answer = match (case.table, case.fields) {
-        ("lookup", [makefile, name]) => sessions::lookup(case, makefile, name),
-        ("session", [makefile, depth]) => sessions::opened(case, makefile, depth),
-        ("session-shown", [makefile, script]) => sessions::shown(case, makefile, script),
-        ("edit-shown", [line]) => sessions::edit_shown(case, line),
-        ("same-growths", [makefile, line]) => sessions::same_growths(case, makefile, line),
-        ("without-memory", [makefile, before, script]) => {
-            sessions::without_memory(case, makefile, before, script)
-        }
-        ("group", [makefile, before, edits]) => {
-            groups::answered(case, makefile, before, edits, false)
-        }
-        ("dry-run", [makefile, before, edits]) => {
-            groups::answered(case, makefile, before, edits, true)
-        }
         _ => return of_memory(case),
     };
     Ok(Some(answer?))
@@ -88,16 +68,23 @@ fn of_sessions(case: &Case<'_>) -> Result<Option<Vec<u8>>, Fault> {
 /// Makes a call that tells how much memory is taken, or another one.
 fn of_memory(case: &Case<'_>) -> Result<Option<Vec<u8>>, Fault> {
     let answer = match (case.table, case.fields) {
-        ("memory", [makefile, edit, lines]) => memory::by_lines(case, makefile, edit, lines),
-        ("same-memory", [short, long, edit]) => memory::same(case, short, long, edit),
-        ("memory-by-index", [text, edit, lines]) => memory::by_index(case, text, edit, lines),
-        ("memory-by-edits", [text, edit, edits]) => memory::by_edits(case, text, edit, edits),
-        ("memory-of-bytes", [text, edit, bytes]) => {
-            memory::by_bytes(case, text, edit, bytes, false)
+        ("memory", [text, edit, lines]) => {
+            memory::of_first(case, [text, edit], Start::Nothing, number(lines), 0)
         }
-        ("memory-of-index", [text, edit, bytes]) => memory::by_bytes(case, text, edit, bytes, true),
+        ("memory-of-bytes", [text, edit, bytes]) => {
+            memory::of_first(case, [text, edit], Start::Nothing, 1, number(bytes))
+        }
+        ("memory-of-index", [text, edit, bytes]) => {
+            memory::of_first(case, [text, edit], Start::Expecting, 1, number(bytes))
+        }
         ("memory-of-parse", [text, bytes]) => memory::of_parse(case, text, bytes),
-        ("first-of-group", [text, edit]) => memory::first_of_group(case, text, edit),
+        ("same-memory", [short, long, edit]) => memory::same(case, short, long, edit),
+        ("first-of-group", [text, edit]) => {
+            memory::is_less(case, [text, edit], Start::Begin, Start::Nothing)
+        }
+        ("expected-edits", [text, edit]) => {
+            memory::is_less(case, [text, edit], Start::Nothing, Start::Expecting)
+        }
         _ => return of_indexes(case),
     };
     Ok(Some(answer?))
@@ -106,20 +93,19 @@ fn of_memory(case: &Case<'_>) -> Result<Option<Vec<u8>>, Fault> {
 /// Makes a call on an index, or another one.
 fn of_indexes(case: &Case<'_>) -> Result<Option<Vec<u8>>, Fault> {
     let answer = match (case.table, case.fields) {
-        ("expected-edits", [makefile, edit]) => index::expected_edits(case, makefile, edit),
-        ("found-lines", [makefile, name]) => index::found_lines(case, makefile, name),
-        ("told", [makefile, name]) => index::told(case, makefile, name),
-        ("tells", [makefile, listed]) => index::tells(case, makefile, listed),
-        ("known", [makefile, edits]) => index::known(case, makefile, edits),
+        ("lookup", [makefile, name]) => index::of_document(case, makefile, name),
+        ("told", [makefile, name]) => index::of_document(case, makefile, name),
+        ("tells", [makefile, listed]) => index::of_document(case, makefile, listed),
+        ("known", [makefile, edits]) => index::of_finder(case, makefile, edits, None),
         ("known-after", [makefile, first, second]) => {
-            index::known_after(case, makefile, first, second)
+            index::of_finder(case, makefile, first, Some(second))
         }
         _ => return of_runs(case),
     };
     Ok(Some(answer?))
 }
 
-/// Makes a run.
+/// Makes a run, or a call on a session.
 fn of_runs(case: &Case<'_>) -> Result<Option<Vec<u8>>, Fault> {
     let answer = match (case.table, case.fields) {
         ("run", [makefile, script, flags, report]) => {
@@ -131,8 +117,7 @@ fn of_runs(case: &Case<'_>) -> Result<Option<Vec<u8>>, Fault> {
         ("reported-at-once", [makefile, script, flags, report]) => {
             runs::reported_at_once(case, [makefile, script, flags], report)
         }
-
-        _ => return Ok(None),
+        _ => return sessions::answer(case),
     };
     Ok(Some(answer?))
 }

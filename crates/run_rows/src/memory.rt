@@ -1,14 +1,12 @@
 //! The memory that edits take. What a change keeps for its undo is a part of it, and so is what the
 //! document keeps of its new lines.
 
-use crate::index::first_growths;
-use crate::sessions::{execute, growths_of, open};
+use crate::sessions::{Start, first_growths, growths_of, said};
 use mk_lines::Fault;
 use mk_session::{Expected, Session};
 use mk_tree::Doc;
-use std::alloc::Global;
 use test_support::text::number;
-use test_support::{Case, Growths, Heap};
+use test_support::{Case, Heap};
 
 /// The bytes that an edit of short lines takes at most: so many by itself, and so many for each line that
 /// it changes.
@@ -29,128 +27,88 @@ fn most_bytes_of_marks(lines: u64) -> u64 {
 }
 
 /// Whether bytes are no more than so many edits or changed lines may take, and some others; else the bytes.
-fn shown(alloc: Global, bytes: u64, changed: &[u8], others: u64) -> Result<Vec<u8>, Fault> {
-    let most = MOST_BYTES.saturating_mul(number(changed).saturating_add(1));
+fn shown(case: &Case<'_>, bytes: u64, changed: u64, others: u64) -> Result<Vec<u8>, Fault> {
+    let most = MOST_BYTES.saturating_mul(changed.saturating_add(1));
     if bytes <= most.saturating_add(others) {
-        return Ok(Vec::from_slice(alloc, b"little")?);
+        return Ok(Vec::from_slice(case.alloc, b"little")?);
     }
-    Ok(bytes.to_string(alloc)?.into_bytes())
+    Ok(bytes.to_string(case.alloc)?.into_bytes())
 }
 
-/// Whether an edit takes memory for the lines alone that it changes.
-pub fn by_lines(
+/// Whether the first edit of a session takes memory for the lines alone that it changes, and at most so many
+/// other bytes: the new bytes of its lines, or the index that is made for it, and no second copy of either.
+/// An edit that is checked by reading also takes the text of the new line up to the end of its value, and the
+/// value.
+pub fn of_first(
     case: &Case<'_>,
-    makefile: &[u8],
-    edit: &[u8],
-    lines: &[u8],
+    [makefile, edit]: [&[u8]; 2],
+    start: Start,
+    lines: u64,
+    others: u64,
 ) -> Result<Vec<u8>, Fault> {
-    let growths = first_growths(case.heap, makefile, edit, false)?;
-    shown(case.alloc, growths.bytes, lines, 0)
-}
-
-/// Whether an edit takes at most so many bytes more than one of short lines: the new bytes of its lines, or
-/// the index that is made for it, and no second copy of either. An edit that is checked by reading also takes
-/// the text of the new line up to the end of its value, and the value.
-pub fn by_bytes(
-    case: &Case<'_>,
-    makefile: &[u8],
-    edit: &[u8],
-    bytes: &[u8],
-    expects: bool,
-) -> Result<Vec<u8>, Fault> {
-    let growths = first_growths(case.heap, makefile, edit, expects)?;
-    shown(case.alloc, growths.bytes, b"1", number(bytes))
+    let growths = first_growths(case.heap, makefile, edit, start)?;
+    shown(case, growths.bytes, lines, others)
 }
 
 /// Whether a makefile is parsed with at most so many bytes more than an edit of short lines takes: its text
 /// is copied once, and no line without a fold takes memory to be read.
 pub fn of_parse(case: &Case<'_>, makefile: &[u8], bytes: &[u8]) -> Result<Vec<u8>, Fault> {
-    case.heap.refuse_none();
     let _doc = Doc::open(case.heap, makefile)?;
-    let taken = case.heap.passed().bytes;
-    shown(case.alloc, taken, b"1", number(bytes))
+    shown(case, case.heap.passed().bytes, 1, number(bytes))
 }
 
-/// Whether an edit takes fewer growths behind `begin`, which takes the room for the first patch of a group.
-pub fn first_of_group(case: &Case<'_>, makefile: &[u8], edit: &[u8]) -> Result<Vec<u8>, Fault> {
-    let alone = first_growths(case.heap, makefile, edit, false)?;
-    let mut session = open(case.heap, makefile, 100)?;
-    let grouped = grouped_growths(case.heap, &mut session, edit)?;
-    let is_less = grouped.count < alone.count;
-    Ok(is_less.to_string(case.alloc)?.into_bytes())
-}
-
-fn grouped_growths<'h>(
-    heap: &'h Heap,
-    session: &mut Session<&'h Heap>,
-    edit: &[u8],
-) -> Result<Growths, Fault> {
-    execute(heap, session, b"begin")?;
-    growths_of(heap, session, edit)
+/// Whether the first edit of a session takes fewer growths after one start than after another: behind
+/// `begin`, which takes the room for the first patch of a group, and where no edits are expected, for which
+/// the first one makes an index.
+pub fn is_less(
+    case: &Case<'_>,
+    [makefile, edit]: [&[u8]; 2],
+    less: Start,
+    more: Start,
+) -> Result<Vec<u8>, Fault> {
+    let less = first_growths(case.heap, makefile, edit, less)?.count;
+    let more = first_growths(case.heap, makefile, edit, more)?.count;
+    said(case, less < more)
 }
 
 /// Whether an edit takes the same memory in two texts.
 pub fn same(case: &Case<'_>, short: &[u8], long: &[u8], edit: &[u8]) -> Result<Vec<u8>, Fault> {
-    let growths = first_growths(case.heap, short, edit, false)?;
-    let is_same = first_growths(case.heap, long, edit, false)? == growths;
-    Ok(is_same.to_string(case.alloc)?.into_bytes())
+    let growths = first_growths(case.heap, short, edit, Start::Nothing)?;
+    let is_same = first_growths(case.heap, long, edit, Start::Nothing)? == growths;
+    said(case, is_same)
 }
 
-/// Whether an edit takes memory for the lines alone that it changes, and a byte for each 16 lines, once the
-/// session has an index.
-pub fn by_index(
-    case: &Case<'_>,
-    makefile: &[u8],
+/// Whether an edit takes memory for the lines alone that it changes, and a byte for each 16 lines, in a
+/// session that expects edits of all kinds and has made its index for another edit, which is undone.
+pub fn by_index<'h>(
+    case: &Case<'h>,
+    session: &mut Session<&'h Heap>,
     edit: &[u8],
     lines: &[u8],
 ) -> Result<Vec<u8>, Fault> {
-    let mut session = open(case.heap, makefile, 100)?;
-    let bytes = indexed_bytes(case.heap, &mut session, edit)?;
-    shown(
-        case.alloc,
-        bytes,
-        lines,
-        most_bytes_of_marks(session.doc().len() as u64),
-    )
-}
-
-/// The bytes of an edit of a session that expects edits of all kinds, after another edit that is undone.
-fn indexed_bytes<'h>(
-    heap: &'h Heap,
-    session: &mut Session<&'h Heap>,
-    edit: &[u8],
-) -> Result<u64, Fault> {
     session.expect_edits(Expected {
         renames: true,
         lines: false,
         others: true,
     });
-    execute(heap, session, b"set A 2")?;
-    execute(heap, session, b"undo")?;
-    Ok(growths_of(heap, session, edit)?.bytes)
+    growths_of(case.heap, session, b"set A 2")?;
+    growths_of(case.heap, session, b"undo")?;
+    let bytes = growths_of(case.heap, session, edit)?.bytes;
+    let marks = most_bytes_of_marks(session.doc().len() as u64);
+    shown(case, bytes, number(lines), marks)
 }
 
 /// Whether a group takes memory for each of so many edits.
-pub fn by_edits(
-    case: &Case<'_>,
-    makefile: &[u8],
+pub fn by_edits<'h>(
+    case: &Case<'h>,
+    session: &mut Session<&'h Heap>,
     edit: &[u8],
     edits: &[u8],
 ) -> Result<Vec<u8>, Fault> {
-    let mut session = open(case.heap, makefile, 100)?;
-    let bytes = group_bytes(case.heap, &mut session, edit, number(edits))?;
-    shown(case.alloc, bytes, edits, 0)
-}
-
-fn group_bytes<'h>(
-    heap: &'h Heap,
-    session: &mut Session<&'h Heap>,
-    edit: &[u8],
-    edits: u64,
-) -> Result<u64, Fault> {
-    let mut bytes = growths_of(heap, session, b"begin")?.bytes;
+    let edits = number(edits);
+    let mut bytes = growths_of(case.heap, session, b"begin")?.bytes;
     for _ in 0..edits {
-        bytes = bytes.saturating_add(growths_of(heap, session, edit)?.bytes);
+        bytes = bytes.saturating_add(growths_of(case.heap, session, edit)?.bytes);
     }
-    Ok(bytes)
+    shown(case, bytes, edits, 0)
 }

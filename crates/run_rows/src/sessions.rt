@@ -1,17 +1,20 @@
-//! Sessions, and what they do without memory.
+//! Sessions: how they are shown, what they do without memory, and the growths that they take.
+//!
+//! [`answer`] and [`first_growths`] alone own a session, and hand it out by a reference: a function that owns
+//! one drops it on each way out, which makes its proof long.
 
-use crate::index::document;
+use crate::{groups, index, made, memory};
 use bstr::ByteSlice;
 use mk_lines::Fault;
 use mk_script::{Step, parse_script};
-use mk_session::lookup::{find_assignment, find_rule, get};
-use mk_session::{Command, Edit, Refusal, Session};
-use std::alloc::{AllocError, Allocator, Global};
+use mk_session::{Command, Edit, Expected, Refusal, Session};
+use std::alloc::{AllocError, Allocator};
+use std::fmt::Write as _;
 use test_support::text::{joined, number};
 use test_support::{Case, Growths, Heap};
 
 /// The command of a line of a script. A line that is none is a read fault.
-pub fn command_of<A: Allocator + Copy>(alloc: A, line: &[u8]) -> Result<Command<A>, Fault> {
+fn command_of<A: Allocator + Copy>(alloc: A, line: &[u8]) -> Result<Command<A>, Fault> {
     let Ok(mut steps) = parse_script(alloc, line) else {
         return Err(Fault::NoMemory);
     };
@@ -29,210 +32,225 @@ pub fn edit_of<A: Allocator + Copy>(alloc: A, line: &[u8]) -> Result<Edit<A>, Fa
     }
 }
 
-/// The commands of the lines of a script.
-fn commands_of<'h>(
-    alloc: Global,
-    heap: &'h Heap,
-    script: &[u8],
-) -> Result<Vec<Command<&'h Heap>>, Fault> {
-    let mut commands = Vec::new(alloc);
-    for line in script.split_str(b"\n") {
-        if !line.is_empty() {
-            commands.push(command_of(heap, line)?)?;
-        }
-    }
-    Ok(commands)
-}
-
-/// A session over a makefile. That no contract says what it holds keeps the proofs short of all that ask for
-/// one here; so it is with [`run`].
-pub fn open<'h>(heap: &'h Heap, makefile: &[u8], depth: u32) -> Result<Session<&'h Heap>, Fault> {
+/// A session over a makefile. That no contract says what it holds keeps the proofs of the two short that ask
+/// for one.
+fn open<'h>(heap: &'h Heap, makefile: &[u8], depth: u32) -> Result<Session<&'h Heap>, Fault> {
     Session::open(heap, makefile, depth)
 }
 
-/// Has a session execute a command.
-fn run<'h>(session: &mut Session<&'h Heap>, command: &Command<&'h Heap>) -> Result<(), Refusal> {
-    session.execute(command)
+/// Makes a call on a session over the first text of a case.
+pub fn answer(case: &Case<'_>) -> Result<Option<Vec<u8>>, Fault> {
+    let [makefile, texts @ ..] = case.fields else {
+        return Ok(None);
+    };
+    let mut session = open(case.heap, makefile, depth_of(case.table, texts))?;
+    answer_in(case, &mut session, texts)
 }
 
-/// The replies of a session to commands in turn: `done`, or the name of a refusal.
-fn executed<'h>(
-    alloc: Global,
-    session: &mut Session<&'h Heap>,
-    commands: &[Command<&'h Heap>],
-) -> Result<String, Fault> {
-    let mut replies = String::new(alloc);
-    for command in commands {
-        match run(session, command) {
-            Ok(()) => replies.push_str("done ")?,
-            Err(refusal) => push_refusal(&mut replies, refusal)?,
-        }
+/// The depth of the session of a table.
+fn depth_of(table: &str, texts: &[Vec<u8>]) -> u32 {
+    match (table, texts) {
+        ("session", [depth]) => u32::try_from(number(depth)).unwrap_or(0),
+        _ => 100,
     }
-    Ok(replies)
 }
 
-fn push_refusal(replies: &mut String, refusal: Refusal) -> Result<(), Fault> {
-    if refusal == Refusal::NoMemory {
-        return Err(Fault::NoMemory);
-    }
-    replies.push_str(refusal.name())?;
-    replies.push_str(" ")?;
-    Ok(())
-}
-
-/// A session that has executed a script, whatever it has replied.
-pub fn session_after<'h>(
-    case: &Case<'h>,
-    makefile: &[u8],
-    script: &[u8],
-) -> Result<Session<&'h Heap>, Fault> {
-    let mut session = open(case.heap, makefile, 100)?;
-    execute_script(case, &mut session, script)?;
-    Ok(session)
-}
-
-fn execute_script<'h>(
+fn answer_in<'h>(
     case: &Case<'h>,
     session: &mut Session<&'h Heap>,
-    script: &[u8],
-) -> Result<(), Fault> {
-    let commands = commands_of(case.alloc, case.heap, script)?;
-    executed(case.alloc, session, &commands)?;
-    Ok(())
+    texts: &[Vec<u8>],
+) -> Result<Option<Vec<u8>>, Fault> {
+    let answer = match (case.table, texts) {
+        ("session", [_]) => with_text(case, "", session),
+        ("session-shown", [script]) => shown(case, session, script),
+        ("same-growths", [line]) => same_growths(case, session, line),
+        ("without-memory", [before, script]) => without_memory(case, session, before, script),
+        ("group", [before, edits]) => groups::answered(case, session, [before, edits], false),
+        ("dry-run", [before, edits]) => groups::answered(case, session, [before, edits], true),
+        ("applied", [call]) => made::applied(case, session, call),
+        ("found-lines", [name]) => index::found_lines(case, session, name),
+        ("memory-by-index", [edit, lines]) => memory::by_index(case, session, edit, lines),
+        ("memory-by-edits", [edit, edits]) => memory::by_edits(case, session, edit, edits),
+        _ => return Ok(None),
+    };
+    Ok(Some(answer?))
 }
 
-/// Has a session execute a line, which it may not refuse for another cause than want of memory.
-pub fn execute<'h>(
+/// What a heap does while a session executes a line.
+#[derive(Clone, Copy)]
+pub enum Growing {
+    /// What it does before.
+    AsBefore,
+    /// It counts growths.
+    Counted,
+    /// It refuses each growth.
+    Refused,
+}
+
+/// The answer of a session to a line. The memory of the line itself is never refused, unless it was before.
+fn execute<'h>(
     heap: &'h Heap,
     session: &mut Session<&'h Heap>,
     line: &[u8],
-) -> Result<(), Fault> {
-    let command = command_of(heap, line)?;
-    match run(session, &command) {
-        Ok(()) => Ok(()),
-        Err(Refusal::NoMemory) => Err(Fault::NoMemory),
-        Err(_) => Err(Fault::Read),
+    growing: Growing,
+) -> Result<Result<(), Refusal>, Fault> {
+    if !matches!(growing, Growing::AsBefore) {
+        heap.refuse_none();
     }
+    let command = command_of(heap, line)?;
+    match growing {
+        Growing::AsBefore => {}
+        Growing::Counted => heap.refuse_none(),
+        Growing::Refused => heap.refuse_all(),
+    }
+    Ok(session.execute(&command))
 }
 
-/// The growths that a session takes to execute a line.
+/// The growths that a session takes to execute a line, which it may not refuse.
 pub fn growths_of<'h>(
     heap: &'h Heap,
     session: &mut Session<&'h Heap>,
     line: &[u8],
 ) -> Result<Growths, Fault> {
-    let command = command_of(heap, line)?;
-    heap.refuse_none();
-    match run(session, &command) {
+    match execute(heap, session, line, Growing::Counted)? {
         Ok(()) => Ok(heap.passed()),
         Err(_) => Err(Fault::Read),
     }
 }
 
-/// The text of a session.
-pub fn text_of(alloc: Global, session: &Session<&Heap>) -> Result<Vec<u8>, AllocError> {
-    let mut text = Vec::new(alloc);
+/// Has a session execute the lines of a script, and pushes its replies: `done`, or the name of a refusal.
+/// Whether a growth of the session was refused.
+pub fn execute_each<'h>(
+    heap: &'h Heap,
+    session: &mut Session<&'h Heap>,
+    script: &[u8],
+    growing: Growing,
+    replies: &mut String,
+) -> Result<bool, Fault> {
+    let mut is_refused = false;
+    for line in script.lines() {
+        let answer = execute(heap, session, line, growing)?;
+        is_refused |= heap.has_refused();
+        push_reply(replies, answer)?;
+    }
+    Ok(is_refused)
+}
+
+fn push_reply(replies: &mut String, answer: Result<(), Refusal>) -> Result<(), Fault> {
+    let reply = match answer {
+        Ok(()) => "done",
+        Err(Refusal::NoMemory) => return Err(Fault::NoMemory),
+        Err(refusal) => refusal.name(),
+    };
+    replies.push_str(reply)?;
+    replies.push_str(" ")?;
+    Ok(())
+}
+
+/// A front, and the text of a session.
+pub fn with_text<A: Allocator>(
+    case: &Case<'_>,
+    front: &str,
+    session: &Session<A>,
+) -> Result<Vec<u8>, Fault> {
+    let mut shown = Vec::from_slice(case.alloc, front.as_bytes())?;
+    push_text(&mut shown, session)?;
+    Ok(shown)
+}
+
+fn push_text<A: Allocator>(text: &mut Vec<u8>, session: &Session<A>) -> Result<(), AllocError> {
     for line in session.doc().iter() {
         text.extend_from_slice(line.bytes())?;
     }
-    Ok(text)
-}
-
-/// The text of a session that was opened at a depth.
-pub fn opened(case: &Case<'_>, makefile: &[u8], depth: &[u8]) -> Result<Vec<u8>, Fault> {
-    let depth = u32::try_from(number(depth)).unwrap_or(0);
-    let session = open(case.heap, makefile, depth)?;
-    Ok(text_of(case.alloc, &session)?)
+    Ok(())
 }
 
 /// How a session is shown after each command of a script.
-pub fn shown(case: &Case<'_>, makefile: &[u8], script: &[u8]) -> Result<Vec<u8>, Fault> {
-    let commands = commands_of(case.alloc, case.heap, script)?;
-    let mut session = open(case.heap, makefile, 100)?;
-    show_each(case.alloc, &mut session, &commands)
-}
-
-fn show_each<'h>(
-    alloc: Global,
+fn shown<'h>(
+    case: &Case<'h>,
     session: &mut Session<&'h Heap>,
-    commands: &[Command<&'h Heap>],
+    script: &[u8],
 ) -> Result<Vec<u8>, Fault> {
-    let mut shown = String::new(alloc);
-    for command in commands {
-        let _ = run(session, command);
-        shown.push_str(format!(in alloc; "{session:?}\n")?.as_str())?;
+    let mut shown = String::new(case.alloc);
+    for line in script.lines() {
+        let _ = execute(case.heap, session, line, Growing::AsBefore)?;
+        writeln!(shown, "{session:?}")?;
     }
     Ok(shown.into_bytes())
 }
 
-/// How the edit of a line is shown: as a derive shows it.
-pub fn edit_shown(case: &Case<'_>, line: &[u8]) -> Result<Vec<u8>, Fault> {
-    let edit = edit_of(case.alloc, line)?;
-    Ok(format!(in case.alloc; "{edit:?}")?.into_bytes())
+/// Whether something is so.
+pub fn said(case: &Case<'_>, is_so: bool) -> Result<Vec<u8>, Fault> {
+    Ok(is_so.to_string(case.alloc)?.into_bytes())
 }
 
 /// Whether an edit that is made 200 times takes the same growths each time.
-pub fn same_growths(case: &Case<'_>, makefile: &[u8], line: &[u8]) -> Result<Vec<u8>, Fault> {
-    let mut session = open(case.heap, makefile, 100)?;
-    let are_same = takes_same_growths(case.heap, &mut session, line)?;
-    Ok(are_same.to_string(case.alloc)?.into_bytes())
-}
-
-fn takes_same_growths<'h>(
-    heap: &'h Heap,
+fn same_growths<'h>(
+    case: &Case<'h>,
     session: &mut Session<&'h Heap>,
     line: &[u8],
-) -> Result<bool, Fault> {
-    let first = growths_of(heap, session, line)?;
+) -> Result<Vec<u8>, Fault> {
+    let first = growths_of(case.heap, session, line)?;
+    let mut are_same = true;
     for _ in 0..200 {
-        if growths_of(heap, session, line)? != first {
-            return Ok(false);
-        }
+        are_same &= growths_of(case.heap, session, line)? == first;
     }
-    Ok(true)
+    said(case, are_same)
 }
 
 /// The replies of a session, once it has executed a script, to the commands of another one while each growth
 /// is refused; whether these ask for memory, and how many lines they read; and the text.
-pub fn without_memory(
-    case: &Case<'_>,
-    makefile: &[u8],
+fn without_memory<'h>(
+    case: &Case<'h>,
+    session: &mut Session<&'h Heap>,
     before: &[u8],
     script: &[u8],
 ) -> Result<Vec<u8>, Fault> {
-    case.heap.refuse_none();
-    let mut session = session_after(case, makefile, before)?;
-    let commands = commands_of(case.alloc, case.heap, script)?;
-    execute_without_memory(case, &mut session, &commands)
-}
-
-fn execute_without_memory<'h>(
-    case: &Case<'h>,
-    session: &mut Session<&'h Heap>,
-    commands: &[Command<&'h Heap>],
-) -> Result<Vec<u8>, Fault> {
+    let (heap, alloc) = (case.heap, case.alloc);
+    let mut replies = String::new(alloc);
+    execute_each(heap, session, before, Growing::AsBefore, &mut replies)?;
+    replies.clear();
     let read = session.rereads();
-    case.heap.refuse_all();
-    let replies = executed(case.alloc, session, commands)?;
-    let (asks, read) = (
-        case.heap.has_refused(),
-        session.rereads().saturating_sub(read),
-    );
-    let said = format!(in case.alloc; "{replies}asks {asks}, reads {read}: ")?;
-    let text = text_of(case.alloc, session)?;
-    Ok(joined(case.alloc, &[said.as_bytes(), &text])?)
+    let asks = execute_each(heap, session, script, Growing::Refused, &mut replies)?;
+    let read = session.rereads().saturating_sub(read);
+    let said = format!(in alloc; "{replies}asks {asks}, reads {read}: ")?;
+    with_text(case, &said, session)
 }
 
-/// The value of the only assignment of a name, or the refusal of its lookup; the index of its line, and
-/// that of the only rule for it.
-pub fn lookup(case: &Case<'_>, makefile: &[u8], name: &[u8]) -> Result<Vec<u8>, Fault> {
-    let doc = document(case.alloc, makefile)?;
-    let assignment = find_assignment(&doc, None, name, None);
-    let rule = find_rule(&doc, None, name, None);
-    let lines = format!(in case.alloc; " {assignment:?} {rule:?}")?;
-    let value = match get(&doc, None, name) {
-        Ok(value) => value,
-        Err(refusal) => refusal.name().as_bytes(),
-    };
-    Ok(joined(case.alloc, &[value, lines.as_bytes()])?)
+/// What a session does before its first edit.
+#[derive(Clone, Copy)]
+pub enum Start {
+    /// Nothing.
+    Nothing,
+    /// It is told that edits besides renames are to come.
+    Expecting,
+    /// It begins a group.
+    Begin,
+}
+
+/// The growths of the first edit of a session.
+pub fn first_growths(
+    heap: &Heap,
+    makefile: &[u8],
+    edit: &[u8],
+    start: Start,
+) -> Result<Growths, Fault> {
+    let mut session = open(heap, makefile, 100)?;
+    growths_from(heap, &mut session, edit, start)
+}
+
+fn growths_from<'h>(
+    heap: &'h Heap,
+    session: &mut Session<&'h Heap>,
+    edit: &[u8],
+    start: Start,
+) -> Result<Growths, Fault> {
+    match start {
+        Start::Nothing => {}
+        Start::Expecting => session.expect_edits(index::OTHERS),
+        Start::Begin => {
+            growths_of(heap, session, b"begin")?;
+        }
+    }
+    growths_of(heap, session, edit)
 }

@@ -90,10 +90,16 @@ impl<A: Allocator + Copy> Object<A> {
     pub fn texts(&mut self, name: &str, words: WordTexts<'_>) -> Result<(), AllocError> {
         self.writer.key(name)?;
         self.writer.begin_array()?;
+        self.values(words)?;
+        self.writer.end_array()
+    }
+
+    // Puts texts, one after the other.
+    fn values(&mut self, words: WordTexts<'_>) -> Result<(), AllocError> {
         for word in words {
             self.value(word)?;
         }
-        self.writer.end_array()
+        Ok(())
     }
 
     /// Puts a member that is a string.

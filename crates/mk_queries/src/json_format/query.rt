@@ -11,10 +11,10 @@ ghost use Rattle.mk_tree.specs.Documents.{IsFaithful};
 
 use crate::json_format::line_objects::LineObjects;
 use crate::json_format::object::Object;
-use crate::listing::{RuleLine, Rules, numbered};
+use crate::listing::{Position, RecipeLine, RuleLine, Rules, is_of, numbered};
 use crate::{Caveat, line_caveats};
-use mk_class::{Class, Separator};
-use mk_tree::{AssignmentRef, Doc, WordTexts};
+use mk_class::{Class, Context, Separator};
+use mk_tree::{AssignmentRef, Doc, Line, WordTexts};
 use std::alloc::{AllocError, Allocator};
 
 /// A line of JSON on each assignment of a makefile in order, for targets or not; of the variable of
@@ -40,25 +40,44 @@ pub fn vars_json<A: Allocator, B: Allocator + Copy>(
     let mut text = Vec::new(alloc);
     let mut objects = LineObjects::new(&alloc, file, doc);
     for (position, line) in numbered(doc) {
-        let for_targets = line.target_assignment();
-        let assignment = match &for_targets {
-            Some(it) => Some(it.assignment()),
-            None => line.assignment(),
-        };
-        let is_asked = |it: &AssignmentRef<'_>| name.is_none_or(|name| it.name() == name);
-        if let Some(assignment) = assignment.filter(is_asked) {
-            let mut object = objects.begin(text, position)?;
-            if let Some(it) = &for_targets {
-                put_targets(&mut object, it.targets(), it.separator())?;
-            }
-            object.texts("modifiers", assignment.modifiers())?;
-            object.text("name", assignment.name())?;
-            object.string("operator", assignment.flavor().text())?;
-            object.text("value", assignment.value())?;
-            text = object.end()?;
-        }
+        text = put_variable(&mut objects, text, position, name, line)?;
     }
     Ok(text)
+}
+
+// Puts the object on a line behind a text, if it is an assignment, of the variable of a name if one is asked
+// for.
+fn put_variable<A: Allocator, B: Allocator + Copy>(
+    objects: &mut LineObjects<'_, A, B>,
+    text: Vec<u8, B>,
+    position: Position,
+    name: Option<&[u8]>,
+    line: &Line<A>,
+) -> Result<Vec<u8, B>, AllocError> {
+    match (line.assignment(), line.target_assignment()) {
+        (Some(it), _) if is_of(&it, name) => {
+            let object = objects.begin(text, position)?;
+            end_assignment(object, &it)
+        }
+        (_, Some(it)) if is_of(&it.assignment(), name) => {
+            let mut object = objects.begin(text, position)?;
+            put_targets(&mut object, it.targets(), it.separator())?;
+            end_assignment(object, &it.assignment())
+        }
+        _ => Ok(text),
+    }
+}
+
+// Puts the parts of an assignment, and ends its object.
+fn end_assignment<B: Allocator + Copy>(
+    mut object: Object<B>,
+    assignment: &AssignmentRef<'_>,
+) -> Result<Vec<u8, B>, AllocError> {
+    object.texts("modifiers", assignment.modifiers())?;
+    object.text("name", assignment.name())?;
+    object.string("operator", assignment.flavor().text())?;
+    object.text("value", assignment.value())?;
+    object.end()
 }
 
 // Puts the targets of an assignment or a rule, and what stands after them.
@@ -155,14 +174,24 @@ pub fn recipes_json<'a, A: Allocator, B: Allocator + Copy>(
             if line.number == 1 {
                 text = put_rule(&mut objects, text, &rule)?;
             }
-            let mut object = objects.begin(text, line.position)?;
-            object.number("rule", rule.position.number)?;
-            object.number("number", line.number as usize)?;
-            object.text("text", line.text)?;
-            text = object.end()?;
+            text = put_recipe(&mut objects, text, rule.position.number, &line)?;
         }
     }
     Ok(text)
+}
+
+// Puts the object on a recipe line of the rule of this number behind a text.
+fn put_recipe<A: Allocator, B: Allocator + Copy>(
+    objects: &mut LineObjects<'_, A, B>,
+    text: Vec<u8, B>,
+    rule: usize,
+    line: &RecipeLine<'_>,
+) -> Result<Vec<u8, B>, AllocError> {
+    let mut object = objects.begin(text, line.position)?;
+    object.number("rule", rule)?;
+    object.number("number", line.number as usize)?;
+    object.text("text", line.text)?;
+    object.end()
 }
 
 /// A line of JSON on each line of a makefile that is kept and not read inside, in order; and then one
@@ -195,12 +224,32 @@ pub fn check_json<A: Allocator, B: Allocator + Copy>(
             Class::Opaque => "opaque",
             _ => continue,
         };
-        let mut object = objects.begin(text, position)?;
-        object.string("kind", kind)?;
-        object.text("text", line.text())?;
-        text = object.end()?;
+        text = put_unread(&mut objects, text, position, kind, line.text())?;
     }
-    let end = doc.end_context();
+    put_end(alloc, text, file, doc.end_context())
+}
+
+// Puts the object on a line of this kind, which is not read inside, behind a text.
+fn put_unread<A: Allocator, B: Allocator + Copy>(
+    objects: &mut LineObjects<'_, A, B>,
+    text: Vec<u8, B>,
+    position: Position,
+    kind: &str,
+    line: &[u8],
+) -> Result<Vec<u8, B>, AllocError> {
+    let mut object = objects.begin(text, position)?;
+    object.string("kind", kind)?;
+    object.text("text", line)?;
+    object.end()
+}
+
+// Puts the object on what is open at the end behind a text, if anything is.
+fn put_end<B: Allocator + Copy>(
+    alloc: B,
+    text: Vec<u8, B>,
+    file: &[u8],
+    end: Context,
+) -> Result<Vec<u8, B>, AllocError> {
     if end.conds() == 0 && end.defines() == 0 {
         return Ok(text);
     }
@@ -237,13 +286,23 @@ pub fn caveats_json<A: Allocator, B: Allocator + Copy>(
     let mut objects = LineObjects::new(&alloc, file, doc);
     for ((position, _), caveat) in numbered(doc).zip(line_caveats(doc)) {
         if let Some(caveat) = caveat {
-            let mut object = objects.begin(text, position)?;
-            object.string("kind", kind_of(caveat))?;
-            object.string("sentence", caveat.sentence())?;
-            text = object.end()?;
+            text = put_caveat(&mut objects, text, position, caveat)?;
         }
     }
     Ok(text)
+}
+
+// Puts the object on a line with a caveat behind a text.
+fn put_caveat<A: Allocator, B: Allocator + Copy>(
+    objects: &mut LineObjects<'_, A, B>,
+    text: Vec<u8, B>,
+    position: Position,
+    caveat: Caveat,
+) -> Result<Vec<u8, B>, AllocError> {
+    let mut object = objects.begin(text, position)?;
+    object.string("kind", kind_of(caveat))?;
+    object.string("sentence", caveat.sentence())?;
+    object.end()
 }
 
 /// The line of JSON on the value of the variable of this name:

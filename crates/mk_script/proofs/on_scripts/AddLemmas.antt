@@ -1,5 +1,5 @@
 -- A line is added to steps, or is not.
-use Rattle.std.proofs.Common.{◌≡◌, ℕ, ◌-◌, false, List, [], ◌∷◌, ◌++◌, refl, sym, ap, ◌∙◌, subst, map, take, append_assoc}
+use Rattle.std.proofs.Common.{◌≡◌, ℕ, ◌-◌, ◌<◌, false, List, [], ◌∷◌, ◌++◌, length, refl, sym, ap, ◌∙◌, subst, arith, map, take, append_assoc}
 use Rattle.std.specs.Prelude.{Option, Some, None, option_map, option_and_then, is_some, Result, Ok, Err}
 use Rattle.std.specs.Result.{IsErrAnd}
 use Rattle.std.proofs.lemmas.List.{map-append}
@@ -9,11 +9,11 @@ use Rattle.mk_script.specs.BlockReading.{texts_of_line, said_from, saying}
 use Rattle.mk_script.specs.CommandReading.{Texts, worded, command_after, saying_after, saying_in}
 use Rattle.mk_script.specs.declared.table.Word.{Word}
 use Rattle.mk_script.specs.declared.table.Word.TheVariants as word
-use Rattle.mk_script.specs.Scripts.{EditAt, Step, SayingAt, or_at, sayings_of, sayings, chain_of}
-use Rattle.mk_script.specs.ReaderAnswers.{is_short, takes_alternative, SayMore, Adds, AddsLine, Pushes}
+use Rattle.mk_script.specs.Scripts.{EditAt, edit_at, Step, SayingAt, or_at, sayings_of, sayings, chain_of}
+use Rattle.mk_script.specs.ReaderAnswers.{IsRead, is_short, takes_alternative, SayMore, Adds, AddsBelow, AddsLine, Pushes}
 use Rattle.mk_script.specs.declared.fault.LineFault.{LineFault}
 use Rattle.mk_script.specs.declared.fault.LineFault.TheVariants.{NotACommand, NoMemory}
-use Rattle.mk_script.proofs.on_commands.TableLemmas.{mapped}
+use Rattle.mk_script.proofs.on_commands.TableLemmas.{is_some_mapped, mapped}
 use Rattle.mk_script.proofs.on_scripts.GroupLemmas.{sayings-last, none-first, none-below}
 
 -- ---- what is said more
@@ -27,7 +27,7 @@ chain-more first [] e = refl
 chain-more first (second ∷ others) e = ap (λ s. (sayings_of (chain_of first []) ++ or_at second ∷ []) ++ s) (map-append or_at others (e ∷ []))
 
 -- an alternative of the last step
-pub alternative-more : (base init : List Step) (first : EditAt) (others : List EditAt) (n : ℕ) (e : Edit) → base ≡ init ++ chain_of first others ∷ []
+alternative-more : (base init : List Step) (first : EditAt) (others : List EditAt) (n : ℕ) (e : Edit) → base ≡ init ++ chain_of first others ∷ []
     → SayMore base (record { line = n; saying = Or e }) (init ++ chain_of first (others ++ record { line = n; edit = e } ∷ []) ∷ [])
 alternative-more base init first others n e is =
     let x : SayingAt = record { line = n; saying = Or e } in
@@ -46,9 +46,47 @@ added f base old new step n stands x (Ok u) is more pushed =
 added f base old new step n stands x (Err NoMemory) is more pushed = (x, is, (map f old ++ f step ∷ [], more))
 added f base old new step n stands x (Err NotACommand) is more pushed = absurd (cc)
 
-pub added-short : (base others : List Step) (n : ℕ) (stands : Option Saying) (x : Saying) (new : List Step) → stands ≡ Some x → SayMore base (record { line = n; saying = x }) others
-    → Adds base n stands new (Err NoMemory)
-added-short base others n stands x new is more = (x, is, (others, more))
+-- a longer step in the place of the last one
+pub put-below : {X : Type 0} (f : X → Step) (base : List Step) (old new : List X) (last : Step) (step : X) (n : ℕ) (stands : Option Saying) (r : Result (Unit {0}) LineFault)
+    → base ≡ map f old ++ last ∷ [] → AddsBelow f (map f old) last n stands (Ok step) → Pushes old step new r → Adds base n stands (map f new) r
+put-below f base old new last step n stands r is (x, at, more) pushed =
+    added f base old new step n stands x r at (subst (λ (b : List Step). SayMore b (record { line = n; saying = x }) (map f old ++ f step ∷ [])) (sym is) more) pushed
+
+-- an edit behind others
+pub edit-pushed : {X : Type 0} (f : X → EditAt) (old new : List X) (x : X) (n : ℕ) (e : Edit) (o : Option Edit) (r : Result (Unit {0}) LineFault)
+    → o ≡ Some e → f x ≡ edit_at n e → Pushes old x new r → IsRead (λ (u : Unit {0}). map f new) (option_map (λ (d : Edit). map f old ++ edit_at n d ∷ []) o) r
+edit-pushed f old new x n e o (Ok u) at is pushed =
+    ap (λ y. option_map (λ (d : Edit). map f old ++ edit_at n d ∷ []) y) at
+    ∙ ap (λ l. Some l) (sym (ap (λ l. map f l) pushed ∙ (map-append f old (x ∷ []) ∙ ap (λ y. map f old ++ y ∷ []) is)))
+edit-pushed f old new x n e o (Err fault) at is pushed = rw (at, pushed) refl
+
+pub not-pushed : {X V : Type 0} (seen : V → X) (make : Edit → X) (o : Option Edit) (r : Result V LineFault) (fault : LineFault) → IsErrAnd r (λ e. e ≡ fault)
+    → is_some o ≡ is_short fault → IsRead seen (option_map make o) r
+not-pushed seen make o (Ok v) fault h none = absurd h
+not-pushed seen make o (Err e) fault h none = is_some_mapped make o ∙ (none ∙ ap is_short (sym h))
+
+-- what is told of edits to which one was put
+edit-put : (old new : List EditAt) (n : ℕ) (o : Option Edit) → option_map (λ (d : Edit). old ++ edit_at n d ∷ []) o ≡ Some new → (e : Edit) × (o ≡ Some e) × (old ++ edit_at n e ∷ [] ≡ new)
+edit-put old new n o h = mapped (λ (d : Edit). old ++ edit_at n d ∷ []) o new h
+
+pub some-put : {X : Type 0} (f : X → EditAt) (old : List EditAt) (new : List X) (n : ℕ) (o : Option Edit) → option_map (λ (d : Edit). old ++ edit_at n d ∷ []) o ≡ Some (map f new) → 0 < length new
+some-put f old [] n o h = absurd (let m = edit-put old [] n o h in none-behind old (edit_at n m.0) m.2)
+  where
+    none-behind : (l : List EditAt) (e : EditAt) → l ++ e ∷ [] ≡ [] → ⊥
+    none-behind [] e h = absurd (cc)
+    none-behind (y ∷ l) e h = absurd (cc)
+some-put f old (x ∷ new) n o h = omega arith
+
+pub alternative-put : (above : List Step) (last : Step) (first : EditAt) (others new : List EditAt) (n : ℕ) (o : Option Edit) → last ≡ chain_of first others
+    → option_map (λ (d : Edit). others ++ edit_at n d ∷ []) o ≡ Some new
+    → (x : Saying) × (option_map Or o ≡ Some x) × SayMore (above ++ last ∷ []) (record { line = n; saying = x }) (above ++ chain_of first new ∷ [])
+alternative-put above last first others new n o is put =
+    let m = edit-put others new n o put in (
+      Or m.0,
+      ap (λ y. option_map Or y) m.1,
+      subst (λ (l : List EditAt). SayMore (above ++ last ∷ []) (record { line = n; saying = Or m.0 }) (above ++ chain_of first l ∷ [])) m.2
+          (alternative-more (above ++ last ∷ []) above first others n m.0 (ap (λ s. above ++ s ∷ []) is)),
+    )
 
 -- ---- what was not read
 
@@ -77,6 +115,30 @@ below-refused base init last n o new is no_more = λ x stands others more.
     let e = alternative-is o x stands in
     none-below init last n e.0 no_more others (subst (λ b. SayMore b (record { line = n; saying = Or e.0 }) others) is (subst (λ s. SayMore base (record { line = n; saying = s }) others) e.1 more))
 
+-- a fault that is handed on
+pub handed-on : (base : List Step) (n : ℕ) (stands : Option Saying) (new : List Step) (r : Result (Unit {0}) LineFault) (fault : LineFault) → IsErrAnd r (λ e. e ≡ fault)
+    → Adds base n stands new (Err fault) → Adds base n stands new r
+handed-on base n stands new (Ok u) fault h adds = absurd h
+handed-on base n stands new (Err e) fault h adds = subst (λ f. Adds base n stands new (Err f)) (sym h) adds
+
+-- what is not read below a step is refused, whatever is left
+pub below-not-read : {X : Type 0} (f : X → Step) (above : List Step) (last : Step) (first : EditAt) (others : List EditAt) (n : ℕ) (o : Option Edit) (r : Result X LineFault) (fault : LineFault)
+    → last ≡ chain_of first others → IsErrAnd r (λ e. e ≡ fault) → is_some (option_map (λ (d : Edit). others ++ edit_at n d ∷ []) o) ≡ is_short fault
+    → AddsBelow f above last n (option_map Or o) r
+below-not-read f above last first others n o (Ok u) fault is h none = absurd h
+below-not-read f above last first others n o (Err e) fault is h none =
+    not-read o Or (above ++ last ∷ []) n (option_map Or o) [] e refl (sym (is_some_mapped (λ (d : Edit). others ++ edit_at n d ∷ []) o) ∙ (none ∙ ap is_short (sym h)))
+    (λ d. (above ++ chain_of first (others ++ edit_at n d ∷ []) ∷ [], alternative-more (above ++ last ∷ []) above first others n d (ap (λ s. above ++ s ∷ []) is)))
+
+pub below-left : (base above : List Step) (last : Step) (n : ℕ) (stands : Option Saying) (new : List Step) (r : Result (Unit {0}) LineFault) (fault : LineFault)
+    → base ≡ above ++ last ∷ [] → IsErrAnd r (λ e. e ≡ fault) → Adds (above ++ last ∷ []) n stands [] (Err fault) → Adds base n stands new r
+below-left base above last n stands new r fault is h adds =
+    handed-on base n stands new r fault h (subst (λ (b : List Step). Adds b n stands new (Err fault)) (sym is) (left fault adds))
+  where
+    left : (e : LineFault) → Adds (above ++ last ∷ []) n stands [] (Err e) → Adds (above ++ last ∷ []) n stands new (Err e)
+    left NotACommand a = a
+    left NoMemory a = a
+
 -- ---- lists
 
 -- the values of a list that lost its last one
@@ -88,12 +150,6 @@ pub none-left : {X Y : Type 0} (f : X → Y) (old new : List X) (n : ℕ) → ol
 none-left f old new n is none front =
     let empty : new ≡ [] = front ∙ ap (λ k. take (k - 1) old) none in
     ap (λ l. map f l) (is ∙ ap (λ l. l ++ []) empty)
-
--- a fault that is handed on
-pub handed-on : (base : List Step) (n : ℕ) (stands : Option Saying) (new : List Step) (r : Result (Unit {0}) LineFault) (fault : LineFault) → IsErrAnd r (λ e. e ≡ fault)
-    → Adds base n stands new (Err fault) → Adds base n stands new r
-handed-on base n stands new (Ok u) fault h adds = absurd h
-handed-on base n stands new (Err e) fault h adds = subst (λ f. Adds base n stands new (Err f)) (sym h) adds
 
 -- ---- what fields say, by their first word
 
