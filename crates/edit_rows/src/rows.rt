@@ -3,7 +3,7 @@
 use anyhow::{Context as _, Result, bail};
 use mk_script::{Step, parse_script};
 use mk_session::Command;
-use std::alloc::Global;
+use std::alloc::{Allocator, Global};
 use test_support::Heap;
 use test_support::text::unescape;
 
@@ -103,8 +103,16 @@ fn read_expectation<'a, 'h>(
 
 /// The command of the line of a script.
 fn read_command<'h>(heap: &'h Heap, line: &[u8]) -> Result<Command<&'h Heap>> {
-    match parse_script(heap, line)?.pop() {
-        Some(Step::Alone(numbered)) => Ok(numbered.command),
-        _ => bail!("not one command"),
+    match command_in(parse_script(heap, line)?) {
+        Some(command) => Ok(command),
+        None => bail!("not one command"),
+    }
+}
+
+/// The command that the last of some steps is.
+fn command_in<A: Allocator>(mut steps: Vec<Step<A>, A>) -> Option<Command<A>> {
+    match steps.pop() {
+        Some(Step::Alone(numbered)) => Some(numbered.command),
+        _ => None,
     }
 }

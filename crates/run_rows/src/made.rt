@@ -7,28 +7,30 @@ use mk_session::{
     Edit, Flavor, Place, Refusal, RuleSeparator, Session, Site, clone_edit, clone_place,
     is_same_edit, is_same_place,
 };
-use std::alloc::AllocError;
+use std::alloc::{AllocError, Allocator};
 use test_support::text::number;
 use test_support::{Case, Heap};
 
 /// Whether the copy of the edit that the call of a number makes is the edit of a line.
 pub fn made(case: &Case<'_>, call: &[u8], line: &[u8]) -> Result<Vec<u8>, Fault> {
-    let read = edit_of(case.heap, line)?;
-    is_made(case, number(call), &read)
+    said(case, is_made(case.heap, number(call), line)?)
 }
 
-fn is_made<'h>(case: &Case<'h>, number: u64, read: &Edit<&'h Heap>) -> Result<Vec<u8>, Fault> {
-    let edit = edit_at(case.heap, number)?;
-    is_copied(case, &edit, read)
+// These are of any allocator, which is cheaper to prove than of one.
+
+fn is_made<A: Allocator + Copy>(alloc: A, number: u64, line: &[u8]) -> Result<bool, Fault> {
+    let read = edit_of(alloc, line)?;
+    is_made_by(alloc, number, &read)
 }
 
-fn is_copied<'h>(
-    case: &Case<'h>,
-    edit: &Edit<&'h Heap>,
-    read: &Edit<&'h Heap>,
-) -> Result<Vec<u8>, Fault> {
+fn is_made_by<A: Allocator + Copy>(alloc: A, number: u64, read: &Edit<A>) -> Result<bool, Fault> {
+    let edit = edit_at(alloc, number)?;
+    is_copied(&edit, read)
+}
+
+fn is_copied<A: Allocator + Copy>(edit: &Edit<A>, read: &Edit<A>) -> Result<bool, Fault> {
     let copy = clone_edit(edit)?;
-    said(case, is_same_edit(&copy, read) && copy == *read)
+    Ok(is_same_edit(&copy, read) && copy == *read)
 }
 
 /// How the edit of a line is shown: as a derive shows it.
@@ -42,101 +44,101 @@ fn format_edit(case: &Case<'_>, edit: &Edit) -> Result<Vec<u8>, Fault> {
 }
 
 /// The edit of a number.
-fn edit_at(heap: &Heap, number: u64) -> Result<Edit<&Heap>, AllocError> {
+fn edit_at<A: Allocator + Copy>(alloc: A, number: u64) -> Result<Edit<A>, AllocError> {
     match number {
-        0 => Edit::set(heap, b"A", b"b"),
-        1 => Edit::append(heap, b"A", b"b"),
-        2 => Edit::add_word(heap, b"A", b"b"),
-        3 => Edit::drop_word(heap, b"A", b"b"),
-        4 => Edit::all_set(heap, b"A", b"b"),
-        5 => Edit::all_append(heap, b"A", b"b"),
-        6 => Edit::all_add_word(heap, b"A", b"b"),
-        7 => Edit::all_drop_word(heap, b"A", b"b"),
-        8 => Edit::unset(heap, b"A"),
-        9 => Edit::unrule(heap, b"A"),
-        10 => Edit::rename(heap, b"A", b"b"),
-        11 => Edit::depend(heap, b"A", b"b"),
-        12 => Edit::depend_order(heap, b"A", b"b"),
-        13 => Edit::undepend(heap, b"A", b"b"),
-        14 => Edit::recipe(heap, b"A", b"b"),
-        15 => Edit::recipe_insert(heap, b"A", 1, b"b"),
-        16 => Edit::recipe_set(heap, b"A", 1, b"b"),
-        17 => Edit::recipe_del(heap, b"A", 1),
-        18 => Edit::recipe_replace(heap, b"A", b"b", b"c"),
-        19 => Edit::recipe_remove(heap, b"A", b"b"),
-        20 => Ok(Edit::set(heap, b"A", b"b")?.nth(2)),
-        21 => place_at(heap, 0)?.rule(heap, b"A", RuleSeparator::Single, b"b"),
-        22 => place_at(heap, 0)?.rule(heap, b"A", RuleSeparator::Double, b"b"),
-        28 => Edit::prepend(heap, b"A", b"b"),
-        29 => Edit::replace_word(heap, b"A", b"b", b"c"),
-        30 => Edit::substitute(heap, b"A", b"b", b"c"),
-        31 => Edit::operator(heap, b"A", Flavor::Simple),
-        32 => Edit::add_before(heap, b"A", b"b", b"c"),
-        33 => Edit::add_after(heap, b"A", b"b", b"c"),
-        34 => Site::AtPlace(Place::Top).insert(heap, b"b"),
-        35 => Edit::line_replace(heap, b"A", b"b"),
-        36 => Edit::line_remove(heap, b"A"),
-        37 => Site::AtPlace(place_at(heap, 24)?).insert(heap, b"b"),
-        38 => Ok(lines_before(heap)?.insert(heap, b"b")?.nth(2)),
-        39..=46 => each_line_at(heap, number),
-        47 => Site::AtPlace(Place::Top).insert(heap, b"b\nc"),
-        48..=54 => further_at(heap, number),
-        place => place_at(heap, place)?.assign(heap, b"A", Flavor::Simple, b"b"),
+        0 => Edit::set(alloc, b"A", b"b"),
+        1 => Edit::append(alloc, b"A", b"b"),
+        2 => Edit::add_word(alloc, b"A", b"b"),
+        3 => Edit::drop_word(alloc, b"A", b"b"),
+        4 => Edit::all_set(alloc, b"A", b"b"),
+        5 => Edit::all_append(alloc, b"A", b"b"),
+        6 => Edit::all_add_word(alloc, b"A", b"b"),
+        7 => Edit::all_drop_word(alloc, b"A", b"b"),
+        8 => Edit::unset(alloc, b"A"),
+        9 => Edit::unrule(alloc, b"A"),
+        10 => Edit::rename(alloc, b"A", b"b"),
+        11 => Edit::depend(alloc, b"A", b"b"),
+        12 => Edit::depend_order(alloc, b"A", b"b"),
+        13 => Edit::undepend(alloc, b"A", b"b"),
+        14 => Edit::recipe(alloc, b"A", b"b"),
+        15 => Edit::recipe_insert(alloc, b"A", 1, b"b"),
+        16 => Edit::recipe_set(alloc, b"A", 1, b"b"),
+        17 => Edit::recipe_del(alloc, b"A", 1),
+        18 => Edit::recipe_replace(alloc, b"A", b"b", b"c"),
+        19 => Edit::recipe_remove(alloc, b"A", b"b"),
+        20 => Ok(Edit::set(alloc, b"A", b"b")?.nth(2)),
+        21 => place_at(alloc, 0)?.rule(alloc, b"A", RuleSeparator::Single, b"b"),
+        22 => place_at(alloc, 0)?.rule(alloc, b"A", RuleSeparator::Double, b"b"),
+        28 => Edit::prepend(alloc, b"A", b"b"),
+        29 => Edit::replace_word(alloc, b"A", b"b", b"c"),
+        30 => Edit::substitute(alloc, b"A", b"b", b"c"),
+        31 => Edit::operator(alloc, b"A", Flavor::Simple),
+        32 => Edit::add_before(alloc, b"A", b"b", b"c"),
+        33 => Edit::add_after(alloc, b"A", b"b", b"c"),
+        34 => Site::AtPlace(Place::Top).insert(alloc, b"b"),
+        35 => Edit::line_replace(alloc, b"A", b"b"),
+        36 => Edit::line_remove(alloc, b"A"),
+        37 => Site::AtPlace(place_at(alloc, 24)?).insert(alloc, b"b"),
+        38 => Ok(lines_before(alloc)?.insert(alloc, b"b")?.nth(2)),
+        39..=46 => each_line_at(alloc, number),
+        47 => Site::AtPlace(Place::Top).insert(alloc, b"b\nc"),
+        48..=54 => further_at(alloc, number),
+        place => place_at(alloc, place)?.assign(alloc, b"A", Flavor::Simple, b"b"),
     }
 }
 
 /// The edit of several lines of a number.
-fn each_line_at(heap: &Heap, number: u64) -> Result<Edit<&Heap>, AllocError> {
+fn each_line_at<A: Allocator + Copy>(alloc: A, number: u64) -> Result<Edit<A>, AllocError> {
     match number {
-        39 => Edit::all_prepend(heap, b"A", b"b"),
-        40 => Edit::all_replace_word(heap, b"A", b"b", b"c"),
-        41 => Edit::all_substitute(heap, b"A", b"b", b"c"),
-        42 => Edit::all_operator(heap, b"A", Flavor::Simple),
-        43 => Edit::values_substitute(heap, b"A", b"b"),
-        44 => Edit::recipe_substitute(heap, b"A", b"b", b"c"),
-        45 => Edit::recipes_substitute(heap, b"A", b"b"),
-        _ => Ok(Edit::recipe_substitute(heap, b"A", b"b", b"c")?.nth(2)),
+        39 => Edit::all_prepend(alloc, b"A", b"b"),
+        40 => Edit::all_replace_word(alloc, b"A", b"b", b"c"),
+        41 => Edit::all_substitute(alloc, b"A", b"b", b"c"),
+        42 => Edit::all_operator(alloc, b"A", Flavor::Simple),
+        43 => Edit::values_substitute(alloc, b"A", b"b"),
+        44 => Edit::recipe_substitute(alloc, b"A", b"b", b"c"),
+        45 => Edit::recipes_substitute(alloc, b"A", b"b"),
+        _ => Ok(Edit::recipe_substitute(alloc, b"A", b"b", b"c")?.nth(2)),
     }
 }
 
 /// The edit of one of the further commands of a number.
-fn further_at(heap: &Heap, number: u64) -> Result<Edit<&Heap>, AllocError> {
+fn further_at<A: Allocator + Copy>(alloc: A, number: u64) -> Result<Edit<A>, AllocError> {
     match number {
-        48 => Edit::set_if(heap, b"A", b"b", b"c"),
-        49 => Edit::all_set_if(heap, b"A", b"b", b"c"),
-        50 => Edit::comment_out(heap, b"A"),
-        51 => Edit::uncomment(heap, b"A"),
-        52 => Edit::depend_replace(heap, b"A", b"b", b"c"),
-        53 => Edit::rule_replace(heap, b"A", b"b"),
-        _ => Edit::rule_remove(heap, b"A"),
+        48 => Edit::set_if(alloc, b"A", b"b", b"c"),
+        49 => Edit::all_set_if(alloc, b"A", b"b", b"c"),
+        50 => Edit::comment_out(alloc, b"A"),
+        51 => Edit::uncomment(alloc, b"A"),
+        52 => Edit::depend_replace(alloc, b"A", b"b", b"c"),
+        53 => Edit::rule_replace(alloc, b"A", b"b"),
+        _ => Edit::rule_remove(alloc, b"A"),
     }
 }
 
 /// Before the lines that say a block.
-fn lines_before(heap: &Heap) -> Result<Site<&Heap>, AllocError> {
-    let old = Vec::from_slice(heap, b"A")?;
+fn lines_before<A: Allocator + Copy>(alloc: A) -> Result<Site<A>, AllocError> {
+    let old = Vec::from_slice(alloc, b"A")?;
     Ok(Site::BeforeLines { nth: None, old })
 }
 
 /// The copy of the place of a number, which has to be the same.
-fn place_at(heap: &Heap, number: u64) -> Result<Place<&Heap>, AllocError> {
-    same_copy(&place_of(heap, number)?)
+fn place_at<A: Allocator + Copy>(alloc: A, number: u64) -> Result<Place<A>, AllocError> {
+    same_copy(&place_of(alloc, number)?)
 }
 
-fn place_of(heap: &Heap, number: u64) -> Result<Place<&Heap>, AllocError> {
+fn place_of<A: Allocator + Copy>(alloc: A, number: u64) -> Result<Place<A>, AllocError> {
     match number {
-        23 => Place::before_var(heap, b"A"),
-        24 => Place::after_var(heap, b"A"),
-        25 => Place::before_rule(heap, b"A"),
-        26 => Ok(Place::before_rule(heap, b"A")?.nth(2)),
-        55 => Place::after_last_var(heap, b"A"),
-        56 => Place::after_rule(heap, b"A"),
+        23 => Place::before_var(alloc, b"A"),
+        24 => Place::after_var(alloc, b"A"),
+        25 => Place::before_rule(alloc, b"A"),
+        26 => Ok(Place::before_rule(alloc, b"A")?.nth(2)),
+        55 => Place::after_last_var(alloc, b"A"),
+        56 => Place::after_rule(alloc, b"A"),
         57 => Ok(Place::Top),
         _ => Ok(Place::Bottom),
     }
 }
 
-fn same_copy<'h>(place: &Place<&'h Heap>) -> Result<Place<&'h Heap>, AllocError> {
+fn same_copy<A: Allocator + Copy>(place: &Place<A>) -> Result<Place<A>, AllocError> {
     let copy = clone_place(place)?;
     if is_same_place(&copy, place) {
         Ok(copy)

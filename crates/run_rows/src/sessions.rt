@@ -15,13 +15,21 @@ use test_support::{Case, Growths, Heap};
 
 /// The command of a line of a script. A line that is none is a read fault.
 fn command_of<A: Allocator + Copy>(alloc: A, line: &[u8]) -> Result<Command<A>, Fault> {
-    let Ok(mut steps) = parse_script(alloc, line) else {
-        return Err(Fault::NoMemory);
-    };
-    match steps.pop() {
+    match last_of(steps_of(alloc, line)?) {
         Some(Step::Alone(numbered)) => Ok(numbered.command),
         _ => Err(Fault::Read),
     }
+}
+
+fn steps_of<A: Allocator + Copy>(alloc: A, line: &[u8]) -> Result<Vec<Step<A>, A>, Fault> {
+    match parse_script(alloc, line) {
+        Ok(steps) => Ok(steps),
+        Err(_) => Err(Fault::NoMemory),
+    }
+}
+
+fn last_of<A: Allocator>(mut steps: Vec<Step<A>, A>) -> Option<Step<A>> {
+    steps.pop()
 }
 
 /// The edit of a line of a script. A line that is none is a read fault.
@@ -103,7 +111,15 @@ fn execute<'h>(
         Growing::Counted => heap.refuse_none(),
         Growing::Refused => heap.refuse_all(),
     }
-    Ok(session.execute(&command))
+    Ok(make(session, &command))
+}
+
+/// Executes a command. That no contract says what comes of it keeps the proof of what owns the command short.
+fn make<A: Allocator + Copy>(
+    session: &mut Session<A>,
+    command: &Command<A>,
+) -> Result<(), Refusal> {
+    session.execute(command)
 }
 
 /// The growths that a session takes to execute a line, which it may not refuse.
