@@ -2,8 +2,8 @@
 //!
 //! This is a second handler, and not a second loop: the greeting is the first prompt, and each
 //! reply ends with the next one. Before the line of a block stands a shorter prompt. An end of the
-//! input that does not end the session ends a talk, and another one begins. Which lines of a diff show an edit is told by the diff without colours: with
-//! colours a line begins with a sequence of the terminal.
+//! input that does not end the session ends a talk, and another one begins. Which lines of a diff show
+//! an edit is told by the diff without colours: with colours a line begins with a sequence of the terminal.
 ghost use Rattle.std.specs.Prelude.{◌≡◌, ◌++◌, codes, false, ⊤, IfOk, OnOk};
 ghost use Rattle.mk_lines.specs.Device.{Writes};
 ghost use Rattle.mk_repl.specs.Talks.{Tells};
